@@ -1,0 +1,10 @@
+.PHONY: demo build test
+
+demo: build
+	crates/ecall/out/ecall run < examples/first-call.script
+
+build:
+	cd crates/ecall && rt run
+
+test:
+	rt ci
