@@ -1,0 +1,17 @@
+//! What the vehicle knows of itself, from which its sets of data are made.
+
+use link_frames::OCTETS;
+
+/// Why a call is placed, after EN 16072.
+#[derive(Clone, Copy, Debug, PartialEq, Eq)]
+pub enum Cause {
+    /// A sensor's trigger.
+    Auto,
+}
+
+/// What the vehicle's sets of data are made of.
+#[derive(Clone, Copy, Debug, PartialEq, Eq)]
+pub enum Facts {
+    /// A set that was made elsewhere, with zero octets to its end. It need not be a valid one.
+    Ready([u8; OCTETS]),
+}

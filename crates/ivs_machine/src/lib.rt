@@ -1,0 +1,8 @@
+//! The in-vehicle system: what it does at each trigger, call event and frame.
+#![tactic(auto)]
+
+mod event;
+mod facts;
+
+pub use event::VehicleEvent;
+pub use facts::{Cause, Facts};

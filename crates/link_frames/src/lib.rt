@@ -1,0 +1,11 @@
+//! Frames of the data link and the items of a trace: what the two ends say to each other, and what an observer
+//! of both of them sees.
+#![tactic(auto)]
+
+mod frame;
+mod note;
+mod number;
+
+pub use frame::{Answer, End, Frame, FrameRef, OCTETS};
+pub use note::{Items, MOST_ITEMS, Note, Timer, Why};
+pub use number::{DialAttempt, Request};

@@ -1,0 +1,95 @@
+//! The items of a trace: what an end does that an observer sees.
+
+use crate::frame::{End, Frame, OCTETS};
+use crate::number::{DialAttempt, Request};
+use arrayvec::ArrayVec;
+
+/// Why a leg of a call went down.
+#[derive(Clone, Copy, Debug, PartialEq, Eq)]
+pub enum Why {
+    Release,
+    Hangup,
+    Lost,
+}
+
+/// The timers that a trace names, after EN 16062; `Sum` is the bound on all muting of a stretch.
+#[derive(Clone, Copy, Debug, PartialEq, Eq)]
+pub enum Timer {
+    T1,
+    T2,
+    T3,
+    T4,
+    T5,
+    T6,
+    T7,
+    T8,
+    T10,
+    TD,
+    TW,
+    Sum,
+}
+
+/// One item of a trace. A call's number is 0 outside a call. In `Voice`, `up` is the direction from the vehicle to
+/// the point, and `true` is open.
+#[derive(Clone, Copy, Debug, Default, PartialEq, Eq)]
+pub enum Note {
+    Dial(DialAttempt),
+    Failed(DialAttempt),
+    GaveUp,
+    Seeking,
+    Arming,
+    Cancelled,
+    Standby,
+    Idle,
+    #[default]
+    Nothing,
+    Net(bool),
+    Up {
+        end: End,
+        call: u32,
+    },
+    Down {
+        end: End,
+        call: u32,
+        why: Why,
+    },
+    Voice {
+        end: End,
+        call: u32,
+        up: bool,
+        down: bool,
+    },
+    Send {
+        end: End,
+        call: u32,
+        frame: Frame,
+    },
+    Shown {
+        call: u32,
+        request: Request,
+        octets: [u8; OCTETS],
+    },
+    Acked {
+        call: u32,
+        request: Request,
+        octets: [u8; OCTETS],
+    },
+    Ended {
+        end: End,
+        call: u32,
+        timer: Timer,
+    },
+    Fault {
+        end: End,
+        call: u32,
+    },
+    Busy(u32),
+    Spent(u32),
+    Unshown(u32),
+}
+
+/// The most items that one step of an end gives.
+pub const MOST_ITEMS: usize = 8;
+
+/// The items of one step of an end, in order.
+pub type Items = ArrayVec<Note, MOST_ITEMS>;
