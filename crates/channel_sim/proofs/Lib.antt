@@ -1,0 +1,7 @@
+mod Lists
+mod Shown
+mod Posted
+mod VehicleFits
+mod PointFits
+pub mod FitKept
+mod FirstCall
