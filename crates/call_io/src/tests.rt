@@ -1,0 +1,119 @@
+use super::*;
+use std::io;
+use std::io::{Error, ErrorKind, Read, Write};
+use std::process::Abort;
+use std::test::Fail;
+
+/// A reader and a writer of std whose every call is an error.
+#[derive(Drop)]
+struct Broken;
+
+impl Read for Broken {
+    fn read(&mut self, _buf: &mut [u8]) -> io::Result<usize> {
+        Err(Error::from(ErrorKind::NotConnected))
+    }
+}
+
+/// A writer of std that takes nothing.
+#[derive(Drop)]
+struct Stuck;
+
+impl Write for Stuck {
+    fn write(&mut self, _buf: &[u8]) -> io::Result<usize> {
+        Ok(0)
+    }
+
+    fn flush(&mut self) -> io::Result<()> {
+        Ok(())
+    }
+}
+
+/// Reads once into a buffer of four, and asserts the answer and the bytes.
+fn expect_read<I: Source>(
+    rt: &impl Abort,
+    source: &mut I,
+    answer: Result<usize, Failed>,
+    bytes: &[u8],
+) {
+    let mut into = [0; 4];
+    let read = source.read(&mut into);
+    assert_eq!(rt; read, answer);
+    if let Ok(n) = read {
+        assert_eq!(rt; &into[..n], bytes);
+    }
+}
+
+#[test]
+fn reads_over_memory(rt: HostRuntime) -> Result<(), Fail> {
+    let bytes = vec![in rt.alloc(); 1, 2, 3, 4, 5]?;
+    let fails = vec![in rt.alloc(); 2]?;
+    let mut source = MemSource::new(bytes, 2, fails);
+    expect_read(&rt, &mut source, Ok(2), &[1, 2]);
+    expect_read(&rt, &mut source, Err(Failed), &[]);
+    expect_read(&rt, &mut source, Ok(2), &[3, 4]);
+    expect_read(&rt, &mut source, Ok(1), &[5]);
+    expect_read(&rt, &mut source, Ok(0), &[]);
+    let bytes = vec![in rt.alloc(); 1, 2, 3, 4, 5]?;
+    let mut source = CalmSource::new(bytes);
+    expect_read(&rt, &mut source, Ok(4), &[1, 2, 3, 4]);
+    expect_read(&rt, &mut source, Ok(1), &[5]);
+    expect_read(&rt, &mut source, Ok(0), &[]);
+    Ok(())
+}
+
+#[test]
+fn writes_over_memory(rt: HostRuntime) -> Result<(), Fail> {
+    let fails = vec![in rt.alloc(); 1]?;
+    let mut sink = MemSink::new(rt.alloc(), 3, fails)?;
+    assert_eq!(rt; sink.write(&[1, 2]), Err(Failed));
+    assert_eq!(rt; sink.write(&[1, 2]), Ok(2));
+    assert_eq!(rt; sink.write(&[3, 4]), Ok(1));
+    assert_eq!(rt; sink.write(&[4]), Err(Failed));
+    assert_eq!(rt; sink.write(&[]), Ok(0));
+    assert_eq!(rt; sink.bytes(), [1, 2, 3].as_slice());
+    let mut calm = CalmSink::new();
+    assert_eq!(rt; calm.write(&[1, 2, 3]), Ok(3));
+    Ok(())
+}
+
+#[test]
+fn writes_whole_pieces(rt: HostRuntime) -> Result<(), Fail> {
+    let mut sink = MemSink::new(rt.alloc(), 4, Vec::new(rt.alloc()))?;
+    assert_eq!(rt; write_all(&mut sink, &[1, 2, 3]), Ok(()));
+    assert_eq!(rt; write_all(&mut sink, &[4, 5]), Err(Failed));
+    assert_eq!(rt; sink.bytes(), [1, 2, 3, 4].as_slice());
+    Ok(())
+}
+
+#[test]
+fn works_over_std(rt: HostRuntime) -> Result<(), Fail> {
+    let bytes = [1, 2, 3, 4, 5];
+    let mut source = RealSource::new(bytes.as_slice());
+    expect_read(&rt, &mut source, Ok(4), &[1, 2, 3, 4]);
+    expect_read(&rt, &mut source, Ok(1), &[5]);
+    expect_read(&rt, &mut source, Ok(0), &[]);
+    expect_read(&rt, &mut RealSource::new(Broken), Err(Failed), &[]);
+    let mut written: Vec<u8> = Vec::new(rt.alloc());
+    {
+        let mut sink = RealSink::new(&mut written);
+        assert_eq!(rt; write_all(&mut sink, &[1, 2, 3]), Ok(()));
+    }
+    assert_eq!(rt; written.as_slice(), [1, 2, 3].as_slice());
+    let mut stuck = RealSink::new(Stuck);
+    assert_eq!(rt; stuck.write(&[]), Ok(0));
+    assert_eq!(rt; stuck.write(&[1]), Err(Failed));
+    Ok(())
+}
+
+#[test]
+fn says_what_failed(rt: HostRuntime) -> Result<(), Fail> {
+    assert_eq!(rt;
+        format!(in rt.alloc(); "{}", Failed)?.as_str(),
+        "reading or writing failed"
+    );
+    assert_eq!(rt;
+        format!(in rt.alloc(); "{}", Memory)?.as_str(),
+        "out of memory"
+    );
+    Ok(())
+}
