@@ -1,2 +1,3 @@
+pub mod IvsStands
 pub mod Vehicle
 pub mod VehicleRows

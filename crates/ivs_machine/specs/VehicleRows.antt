@@ -1,7 +1,7 @@
 -- What the in-vehicle system does at each event, one function by event and stage. After EN 16062 (initiation, data,
 -- acknowledgements) and EN 16072 (trigger, audio); this project's profile fixes the rest. Cited by the contract of
 -- `Ivs::hear`, and by the world's step.
-use Rattle.std.specs.Prelude.{ℕ, Bool, true, false, List, [], ◌∷◌, nat_lt, ◌==◌, if◌then◌else◌}
+use Rattle.std.specs.Prelude.{ℕ, Bool, true, false, [], ◌∷◌, nat_lt, ◌==◌, if◌then◌else◌}
 use Rattle.link_frames.specs.declared.frame.End.TheVariants as «end»
 use Rattle.link_frames.specs.declared.frame.Answer.TheVariants as answer
 use Rattle.link_frames.specs.declared.frame.Frame.{Frame}

@@ -15,3 +15,17 @@ pub enum Facts {
     /// A set that was made elsewhere, with zero octets to its end. It need not be a valid one.
     Ready([u8; OCTETS]),
 }
+
+impl Facts {
+    ghost use Rattle.std.specs.Prelude.{◌≡◌};
+    ghost use Rattle.ivs_machine.specs.Vehicle.{made_set};
+
+    /// The set of data that these facts make.
+    pub(crate) fn set(&self) -> [u8; OCTETS]
+        ensures { result ≡ made_set self.now }
+    {
+        match self {
+            Facts::Ready(octets) => *octets,
+        }
+    }
+}

@@ -5,7 +5,9 @@
 mod frame;
 mod note;
 mod number;
+#[cfg(test)]
+mod tests;
 
 pub use frame::{Answer, End, Frame, FrameRef, OCTETS};
-pub use note::{Items, MOST_ITEMS, Note, Timer, Why};
+pub use note::{Items, MOST_ITEMS, Note, Timer, Why, items_of};
 pub use number::{DialAttempt, Request};

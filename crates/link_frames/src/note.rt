@@ -1,5 +1,7 @@
 //! The items of a trace: what an end does that an observer sees.
 
+ghost use Rattle.std.specs.Prelude.{◌≡◌, ◌≤◌, length};
+
 use crate::frame::{End, Frame, OCTETS};
 use crate::number::{DialAttempt, Request};
 use arrayvec::ArrayVec;
@@ -93,3 +95,11 @@ pub const MOST_ITEMS: usize = 8;
 
 /// The items of one step of an end, in order.
 pub type Items = ArrayVec<Note, MOST_ITEMS>;
+
+/// A list of these items; there are at most eight.
+pub fn items_of(notes: &[Note]) -> Items
+    requires { length notes.now ≤ MOST_ITEMS }
+    ensures { result.items ≡ notes.now }
+{
+    Items::try_from(notes).unwrap()
+}

@@ -1,2 +1,3 @@
 pub mod Point
 pub mod PointRows
+pub mod SessionStands

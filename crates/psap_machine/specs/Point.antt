@@ -1,7 +1,7 @@
 -- The state of the answering point's session of one call: what it waits for, and the lists of all that it asked and
 -- showed, newest first. After EN 16062; the numbers are this project's profile. Cited by the contracts of `Session`,
 -- and by the world.
-use Rattle.std.specs.Prelude.{ℕ, Bool, List}
+use Rattle.std.specs.Prelude.{ℕ, List}
 
 -- What the point waits for, with its request.
 pub data Phase : Type 0 where

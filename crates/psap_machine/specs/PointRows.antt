@@ -1,7 +1,7 @@
 -- What the answering point does at each event of a call, one function by event and phase. After EN 16062 (request,
 -- acknowledgement, application acknowledgement); this project's profile fixes the rest. Cited by the contracts of
 -- `Session::arriving` and `Session::hear`, and by the world's step.
-use Rattle.std.specs.Prelude.{ℕ, Bool, true, false, List, [], ◌∷◌, ◌++◌, ◌==◌, if◌then◌else◌}
+use Rattle.std.specs.Prelude.{ℕ, Bool, true, false, List, [], ◌∷◌, ◌==◌, if◌then◌else◌}
 use Rattle.std.specs.List.{list_any}
 use Rattle.link_frames.specs.declared.frame.End.TheVariants as «end»
 use Rattle.link_frames.specs.declared.frame.Answer.TheVariants as answer
@@ -10,7 +10,7 @@ use Rattle.link_frames.specs.declared.frame.Frame.TheVariants as frame
 use Rattle.link_frames.specs.declared.note.Note.{Note}
 use Rattle.link_frames.specs.declared.note.Note.TheVariants as note
 use Rattle.link_frames.specs.Frame.{lent}
-use Rattle.link_frames.specs.Row.{Row, nothing, silent}
+use Rattle.link_frames.specs.Row.{Row, silent}
 use Rattle.psap_machine.specs.declared.event.PointEvent.{PointEvent}
 use Rattle.psap_machine.specs.declared.event.PointEvent.TheVariants as event
 use Rattle.psap_machine.specs.Point.{Point, Phase, Listening, Asking, Telling, Talking}

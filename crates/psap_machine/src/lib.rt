@@ -2,5 +2,9 @@
 #![tactic(auto)]
 
 mod event;
+mod point;
+#[cfg(test)]
+mod tests;
 
 pub use event::PointEvent;
+pub use point::Session;

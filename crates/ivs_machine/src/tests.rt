@@ -1,0 +1,180 @@
+use crate::{Cause, Facts, Ivs, VehicleEvent};
+use link_frames::{Answer, DialAttempt, End, Frame, Note, OCTETS, Request};
+use std::process::Abort;
+
+const SET: [u8; OCTETS] = [7; OCTETS];
+
+fn request(rt: &impl Abort, number: u8) -> Request {
+    Request::new(number).expect(rt, "1 to 255")
+}
+
+/// Checks what the vehicle does at one event.
+fn expect(rt: &impl Abort, ivs: &mut Ivs, event: &VehicleEvent<'_>, want: &[Note]) {
+    let items = ivs.hear(event);
+    assert_eq!(rt; items.as_slice(), want, "at {event:?}");
+}
+
+/// Checks what the vehicle does at one frame.
+fn expect_at(rt: &impl Abort, ivs: &mut Ivs, frame: &Frame, want: &[Note]) {
+    expect(rt, ivs, &VehicleEvent::Frame(frame.lend()), want);
+}
+
+fn expect_trigger(rt: &impl Abort, ivs: &mut Ivs, want: &[Note]) {
+    expect(rt, ivs, &VehicleEvent::Trigger(Cause::Auto), want);
+}
+
+fn expect_answered(rt: &impl Abort, ivs: &mut Ivs, call: u32, want: &[Note]) {
+    expect(rt, ivs, &VehicleEvent::Answered(call), want);
+}
+
+/// A vehicle that was just answered, in call 1.
+fn answered(rt: &impl Abort) -> Ivs {
+    let mut ivs = Ivs::new(Facts::Ready(SET));
+    expect_trigger(rt, &mut ivs, &[Note::Dial(DialAttempt::first())]);
+    let end = End::Vehicle;
+    let want = [
+        Note::Up { end, call: 1 },
+        Note::Voice {
+            end,
+            call: 1,
+            up: false,
+            down: false,
+        },
+        Note::Send {
+            end,
+            call: 1,
+            frame: Frame::Init,
+        },
+    ];
+    expect_answered(rt, &mut ivs, 1, &want);
+    ivs
+}
+
+#[test]
+fn dials_and_is_answered(rt: HostRuntime) {
+    let none: [Note; 0] = [];
+    let mut ivs = Ivs::new(Facts::Ready(SET));
+    expect_at(&rt, &mut ivs, &Frame::Start(request(&rt, 1)), &none);
+    expect_answered(&rt, &mut ivs, 1, &[Note::Nothing]);
+    assert!(rt; !ivs.dialling());
+    expect_trigger(&rt, &mut ivs, &[Note::Dial(DialAttempt::first())]);
+    assert!(rt; ivs.dialling());
+    expect_trigger(&rt, &mut ivs, &[Note::Nothing]);
+    expect_at(&rt, &mut ivs, &Frame::Start(request(&rt, 1)), &none);
+    assert_eq!(rt; ivs.call(), None);
+
+    let mut ivs = answered(&rt);
+    assert_eq!(rt; ivs.call(), Some(1));
+    assert!(rt; !ivs.dialling());
+    expect_trigger(&rt, &mut ivs, &[Note::Nothing]);
+    expect_answered(&rt, &mut ivs, 2, &[Note::Nothing]);
+    assert_eq!(rt; ivs.call(), Some(1));
+}
+
+#[test]
+fn acknowledges_and_talks(rt: HostRuntime) {
+    let mut ivs = answered(&rt);
+    let none: [Note; 0] = [];
+
+    // Before the first request nothing is acknowledged.
+    expect_at(&rt, &mut ivs, &Frame::Ack(request(&rt, 1)), &none);
+    expect_at(&rt, &mut ivs, &app(&rt, 1, Answer::Positive), &none);
+
+    // A request is obeyed once, and a later one takes its place; an older one and stale acknowledgements say nothing.
+    expect_at(
+        &rt,
+        &mut ivs,
+        &Frame::Start(request(&rt, 1)),
+        &[sent(&rt, 1)],
+    );
+    expect_at(&rt, &mut ivs, &Frame::Start(request(&rt, 1)), &none);
+    expect_at(
+        &rt,
+        &mut ivs,
+        &Frame::Start(request(&rt, 3)),
+        &[sent(&rt, 3)],
+    );
+    expect_at(&rt, &mut ivs, &Frame::Start(request(&rt, 2)), &none);
+    expect_at(&rt, &mut ivs, &Frame::Ack(request(&rt, 1)), &none);
+    expect_at(&rt, &mut ivs, &app(&rt, 2, Answer::Positive), &none);
+    expect_at(
+        &rt,
+        &mut ivs,
+        &Frame::Ack(request(&rt, 3)),
+        &[acked(&rt, 3)],
+    );
+    expect_at(&rt, &mut ivs, &Frame::Ack(request(&rt, 3)), &none);
+    expect_at(&rt, &mut ivs, &app(&rt, 1, Answer::Positive), &none);
+    expect_at(&rt, &mut ivs, &app(&rt, 3, Answer::Clear), &none);
+
+    // A newer request is taken while the vehicle waits for the application; what it sends may be acknowledged at once.
+    expect_at(
+        &rt,
+        &mut ivs,
+        &Frame::Start(request(&rt, 4)),
+        &[sent(&rt, 4)],
+    );
+    expect_at(
+        &rt,
+        &mut ivs,
+        &app(&rt, 4, Answer::Positive),
+        &[acked(&rt, 4), open()],
+    );
+
+    // A vehicle that talks takes nothing more.
+    expect_at(&rt, &mut ivs, &Frame::Start(request(&rt, 5)), &none);
+    expect_at(&rt, &mut ivs, &app(&rt, 4, Answer::Positive), &none);
+    expect_at(&rt, &mut ivs, &Frame::Nack(request(&rt, 4)), &none);
+
+    // The two acknowledgements one after the other.
+    let mut ivs = answered(&rt);
+    expect_at(
+        &rt,
+        &mut ivs,
+        &Frame::Start(request(&rt, 255)),
+        &[sent(&rt, 255)],
+    );
+    expect_at(
+        &rt,
+        &mut ivs,
+        &Frame::Ack(request(&rt, 255)),
+        &[acked(&rt, 255)],
+    );
+    expect_at(&rt, &mut ivs, &app(&rt, 255, Answer::Positive), &[open()]);
+}
+
+fn app(rt: &impl Abort, number: u8, answer: Answer) -> Frame {
+    Frame::App {
+        request: request(rt, number),
+        answer,
+    }
+}
+
+fn sent(rt: &impl Abort, number: u8) -> Note {
+    Note::Send {
+        end: End::Vehicle,
+        call: 1,
+        frame: Frame::Content {
+            request: request(rt, number),
+            attempt: 0,
+            octets: SET,
+        },
+    }
+}
+
+fn acked(rt: &impl Abort, number: u8) -> Note {
+    Note::Acked {
+        call: 1,
+        request: request(rt, number),
+        octets: SET,
+    }
+}
+
+fn open() -> Note {
+    Note::Voice {
+        end: End::Vehicle,
+        call: 1,
+        up: true,
+        down: true,
+    }
+}

@@ -1,0 +1,83 @@
+use crate::{
+    Answer, DialAttempt, End, Frame, FrameRef, MOST_ITEMS, Note, OCTETS, Request, items_of,
+};
+use std::process::Abort;
+
+const SET: [u8; OCTETS] = [7; OCTETS];
+
+#[test]
+fn numbers_keep_their_range(rt: HostRuntime) {
+    for (number, is_request, is_attempt) in [
+        (0, false, false),
+        (1, true, true),
+        (10, true, true),
+        (11, true, false),
+        (255, true, false),
+    ] {
+        let request = Request::new(number);
+        assert_eq!(rt; request.is_some(), is_request, "at {number}");
+        assert_eq!(rt;
+            request.map_or(0, |r| r.number()),
+            if is_request { number } else { 0 }
+        );
+        let attempt = DialAttempt::new(number);
+        assert_eq!(rt; attempt.is_some(), is_attempt, "at {number}");
+        assert_eq!(rt;
+            attempt.map_or(0, |a| a.number()),
+            if is_attempt { number } else { 0 }
+        );
+    }
+    assert_eq!(rt; Request::first().number(), 1);
+    assert_eq!(rt; DialAttempt::first().number(), 1);
+}
+
+fn is_lent(rt: &impl Abort, frame: &Frame, want: &FrameRef<'_>) {
+    let lent = frame.lend();
+    assert_eq!(rt; &lent, want);
+}
+
+#[test]
+fn frames_are_lent(rt: HostRuntime) {
+    let request = Request::first();
+    is_lent(&rt, &Frame::Init, &FrameRef::Init);
+    is_lent(&rt, &Frame::Start(request), &FrameRef::Start(request));
+    is_lent(&rt, &Frame::Nack(request), &FrameRef::Nack(request));
+    is_lent(&rt, &Frame::Ack(request), &FrameRef::Ack(request));
+    let answer = Answer::Clear;
+    is_lent(
+        &rt,
+        &Frame::App { request, answer },
+        &FrameRef::App { request, answer },
+    );
+    let sent = Frame::Content {
+        request,
+        attempt: 4,
+        octets: SET,
+    };
+    is_lent(
+        &rt,
+        &sent,
+        &FrameRef::Content {
+            request,
+            attempt: 4,
+            octets: &SET,
+        },
+    );
+}
+
+#[test]
+fn items_keep_their_order(rt: HostRuntime) {
+    let notes = [
+        Note::Up {
+            end: End::Point,
+            call: 1,
+        },
+        Note::Busy(2),
+        Note::default(),
+    ];
+    let items = items_of(&notes);
+    assert_eq!(rt; items.as_slice(), notes.as_slice());
+    let full = [Note::GaveUp; MOST_ITEMS];
+    let items = items_of(&full);
+    assert_eq!(rt; items.len(), 8);
+}
