@@ -1,1 +1,10 @@
+pub mod EntryLine
+pub mod Listener
+pub mod ListenerLaws
 pub mod Safety
+pub mod Lines
+pub mod Feed
+pub mod Reading
+pub mod Words
+pub mod Script
+pub mod ReasonCode

@@ -1,0 +1,107 @@
+-- A line that is being gathered, and how it ends.
+use Rattle.std.proofs.Common.{◌≡◌, ℕ, ◌+◌, ◌<◌, ◌≤◌, ◌≢◌, false, eqb, List, [], ◌∷◌, ◌++◌, length, Option, Some, None, Ok, Err, sym, ap, ◌∙◌, arith, append_assoc, length-append}
+use Rattle.std.specs.List.{AllByRecursion}
+use Rattle.std.proofs.lemmas.List.{append-nil}
+use Rattle.std.proofs.lemmas.Bool.{eq-eqb, false≢true}
+use Rattle.trace_text.specs.declared.fault.LineFault.{LineFault}
+use Rattle.trace_text.specs.declared.fault.LineFault.TheVariants as fault
+use Rattle.trace_text.specs.declared.gather.Ending.TheVariants as ending
+use Rattle.trace_text.specs.Feed.{Feed, Draws, IsInner, NextByte, GivesByte, GathersLine, GathersText}
+use Rattle.trace_text.proofs.FeedLemmas.{Draws-nothing, Draws-append}
+
+-- these bytes of a line were gathered
+pub record Gathering (old now : Feed) (left left' : Option (List ℕ)) (text : List ℕ) : Type 0 where
+  pub taken : List ℕ
+  pub draws : Draws old now left left' taken
+  pub inner : AllByRecursion IsInner text
+  pub bytes : old.pending ++ taken ≡ text ++ now.pending
+  pub given : now.given ≡ old.given + length text
+  pub short : length text ≤ 512
+
+pub Gathering-none : (feed : Feed) (left : Option (List ℕ)) → Gathering feed feed left left []
+Gathering-none feed left = record { taken = []; draws = Draws-nothing feed left; inner = tt; bytes = append-nil feed.pending; given = omega arith; short = omega arith }
+
+pub AllByRecursion-push : (text : List ℕ) (b : ℕ) → AllByRecursion IsInner text → IsInner b → AllByRecursion IsInner (text ++ b ∷ [])
+AllByRecursion-push [] b all here = (here, tt)
+AllByRecursion-push (x ∷ xs) b all here = (all.0, AllByRecursion-push xs b all.1 here)
+
+-- the bytes at hand after a further read, by what was gathered
+bytes_more : (old now : Feed) (left between : Option (List ℕ)) (text more : List ℕ) → (so : Gathering old now left between text)
+    → old.pending ++ (so.taken ++ more) ≡ text ++ (now.pending ++ more)
+bytes_more old now left between text more so =
+    sym (append_assoc old.pending so.taken more) ∙ ap (λ (r : List ℕ). r ++ more) so.bytes ∙ append_assoc text now.pending more
+
+-- one byte more of the line
+pub Gathering-more : (old now new : Feed) (left between left' : Option (List ℕ)) (text : List ℕ) (b : ℕ)
+    → Gathering old now left between text → NextByte now new between left' (Ok (Some b)) → IsInner b → length text < 512
+    → Gathering old new left left' (text ++ b ∷ [])
+Gathering-more old now new left between left' text b so next inner room = record {
+  taken = so.taken ++ next.taken;
+  draws = Draws-append old now new left between left' so.taken next.taken so.draws next.draws;
+  inner = AllByRecursion-push text b so.inner inner;
+  bytes = bytes_more old now left between text next.taken so ∙ ap (λ (r : List ℕ). text ++ r) next.gives.0 ∙ sym (append_assoc text (b ∷ []) new.pending);
+  given = let len : length (text ++ b ∷ []) ≡ length text + 1 = length-append text (b ∷ []) in omega (arith, so.given, next.gives.1);
+  short = let len : length (text ++ b ∷ []) ≡ length text + 1 = length-append text (b ∷ []) in omega arith;
+}
+
+-- the input ended
+pub GathersLine-end : (old now new : Feed) (left between left' : Option (List ℕ)) (text : List ℕ)
+    → Gathering old now left between text → NextByte now new between left' (Ok None) → GathersLine old new left left' text (Ok ending.InputEnd)
+GathersLine-end old now new left between left' text so next = record {
+  done = next.done;
+  grows = omega (arith, so.given, next.grows);
+  taken = so.taken ++ next.taken;
+  draws = Draws-append old now new left between left' so.taken next.taken so.draws next.draws;
+  inner = so.inner;
+  short = so.short;
+  gathers = (bytes_more old now left between text next.taken so ∙ ap (λ (r : List ℕ). text ++ r) next.gives.0 ∙ append-nil text, next.gives.1, next.gives.2 ∙ so.given);
+}
+
+-- a newline was taken
+pub GathersLine-newline : (old now new : Feed) (left between left' : Option (List ℕ)) (text : List ℕ) (b : ℕ)
+    → Gathering old now left between text → NextByte now new between left' (Ok (Some b)) → b ≡ 10 → GathersLine old new left left' text (Ok ending.Newline)
+GathersLine-newline old now new left between left' text b so next newline = record {
+  done = next.done;
+  grows = omega (arith, so.given, next.grows);
+  taken = so.taken ++ next.taken;
+  draws = Draws-append old now new left between left' so.taken next.taken so.draws next.draws;
+  inner = so.inner;
+  short = so.short;
+  gathers = (bytes_more old now left between text next.taken so ∙ ap (λ (r : List ℕ). text ++ r) next.gives.0 ∙ ap (λ n. text ++ n ∷ new.pending) newline, omega (arith, so.given, next.gives.1));
+}
+
+-- a byte was taken for which there is no room
+pub GathersLine-full : (old now new : Feed) (left between left' : Option (List ℕ)) (text : List ℕ) (b : ℕ)
+    → Gathering old now left between text → NextByte now new between left' (Ok (Some b)) → IsInner b → length text ≡ 512
+    → GathersLine old new left left' text (Ok ending.Full)
+GathersLine-full old now new left between left' text b so next inner full = record {
+  done = next.done;
+  grows = omega (arith, so.given, next.grows);
+  taken = so.taken ++ next.taken;
+  draws = Draws-append old now new left between left' so.taken next.taken so.draws next.draws;
+  inner = so.inner;
+  short = so.short;
+  gathers = (b, inner, full, bytes_more old now left between text next.taken so ∙ ap (λ (r : List ℕ). text ++ r) next.gives.0, omega (arith, so.given, next.gives.1));
+}
+
+-- a fault came
+pub GathersLine-fault : (old now new : Feed) (left between left' : Option (List ℕ)) (text : List ℕ) (e : LineFault)
+    → Gathering old now left between text → NextByte now new between left' (Err e) → GathersLine old new left left' text (Err e)
+GathersLine-fault old now new left between left' text e so next = record {
+  done = next.done;
+  grows = omega (arith, so.given, next.grows);
+  taken = so.taken ++ next.taken;
+  draws = Draws-append old now new left between left' so.taken next.taken so.draws next.draws;
+  inner = so.inner;
+  short = so.short;
+  gathers = fault_text e next.gives;
+}
+  where
+    fault_text : (e : LineFault) → GivesByte now new (now.pending ++ next.taken) (Err e) → GathersText old new (old.pending ++ (so.taken ++ next.taken)) text (Err e)
+    fault_text (fault.Bad bad) gives = gives
+    fault_text fault.ReadFault gives = tt
+    fault_text fault.TooLong gives = (now.pending ++ next.taken, bytes_more old now left between text next.taken so, gives.0, omega (arith, so.given, gives.1))
+
+-- a line that isn't full has room
+pub below_full : (n : ℕ) → false ≡ eqb n 512 → n ≤ 512 → n < 512
+below_full n unequal most = let different : n ≢ 512 = λ e. false≢true (unequal ∙ eq-eqb n 512 e) in omega arith

@@ -1,0 +1,8 @@
+pub mod FeedLemmas
+pub mod GatherLemmas
+pub mod LinesLemmas
+pub mod NumberLemmas
+pub mod OctetsLemmas
+pub mod ScriptLemmas
+pub mod SkimLemmas
+pub mod WordsLemmas

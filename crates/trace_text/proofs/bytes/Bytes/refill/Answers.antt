@@ -1,0 +1,15 @@
+use Rattle.std.proofs.Common.{inl, inr, arith}
+use Rattle.trace_text.proofs.FeedLemmas.{Refills-idle, Refills-read, slice_range-empty}
+use Rattle.trace_text.proofs.bytes.Bytes.refill.Goals as goal
+use Rattle.trace_text.proofs.bytes.Bytes.refill.Goals.{then-self-via-then-self, then-self-via-else-self+then-self-2}
+
+pub returns-then-self-clause-ok : goal.returns-then-self-clause-ok
+returns-then-self-clause-ok g c =
+    rw (← c.self.view_is) (Refills-idle c.self.inside.block c.self.inside.at c.self.inside.«end» c.self.inside.given c.self.inside.ended _ c.self.invariant.0 (omega arith) c.self.invariant.3
+    (elim c.then-self.branch [ then-self-via-then-self w ↦ inl w.if-self.true | then-self-via-else-self+then-self-2 w ↦ inr w.if-self-2.true ]))
+
+pub returns-in-Ok-clause-ok : goal.returns-in-Ok-clause-ok
+returns-in-Ok-clause-ok g c =
+    rw (← c.self.view_is) (Refills-read c.read.new.into c.in-Ok.count _ _ _
+    (slice_range-empty c.self.inside.block c.self.inside.at c.self.inside.«end» c.if-self.false)
+    c.if-self-2.false c.in-Ok.ensures.bound (c.in-Ok.ensures.«end» (omega arith)) c.in-Ok.ensures.bytes)

@@ -1,0 +1,116 @@
+-- What a reader of lines has, and what each of its answers says of the bytes that it took from its source. This
+-- project's profile. Cited by the contract of `Lines`.
+use Rattle.std.specs.Prelude.{◌≡◌, ℕ, ◌+◌, ◌<◌, ◌≤◌, Bool, true, false, List, [], ◌∷◌, ◌++◌, length, Option, Some, None, Result, Ok, Err}
+use Rattle.std.specs.List.{AllByRecursion}
+use Rattle.trace_text.specs.Feed.{Feed, first_feed, Draws, IsDone, IsInner}
+use Rattle.trace_text.specs.Lines.{lines_of, line_fault, is_comment, IsPassedOver, IsLine}
+use Rattle.trace_text.specs.declared.reason.Reason.{Reason}
+use Rattle.trace_text.specs.declared.reason.Reason.TheVariants as reason
+use Rattle.trace_text.specs.declared.reason.BadLine.{BadLine}
+use Rattle.trace_text.specs.declared.fault.LineFault.{LineFault}
+use Rattle.trace_text.specs.declared.fault.LineFault.TheVariants as fault
+use Rattle.trace_text.specs.declared.gather.Ending.{Ending}
+use Rattle.trace_text.specs.declared.gather.Ending.TheVariants as ending
+use Rattle.trace_text.specs.declared.kind.LineKind.{LineKind}
+use Rattle.trace_text.specs.declared.kind.LineKind.TheVariants as kind
+
+pub record Reading : Type 0 where
+  -- the bytes between the source and the lines
+  pub feed : Feed
+  -- how many lines were read, those that are passed over among them
+  pub lines : ℕ
+  -- the text of the last of them
+  pub text : List ℕ
+  -- a fault was answered
+  pub failed : Bool
+
+-- before anything was read
+abbrev pub first_reading : Reading
+first_reading = record { feed = first_feed; lines = 0; text = []; failed = false }
+
+-- behind the end of the input nothing follows
+abbrev pub MayFollow : Feed → List ℕ → Type 0
+MayFollow feed more = feed.ended ≡ true → more ≡ []
+
+-- A front of the bytes is lines that are passed over and then the last line read, whatever may follow.
+pub record FindsLine (old new : Reading) (bytes : List ℕ) : Type 0 where
+  pub front : List ℕ
+  pub passed : List (List ℕ)
+  pub whole : bytes ≡ front ++ new.feed.pending
+  pub given : new.feed.given ≡ old.feed.given + length front
+  pub each : AllByRecursion IsPassedOver passed
+  pub last : new.lines ≡ old.lines + length passed + 1
+  pub says : IsLine new.text
+  pub lines : (more : List ℕ) → MayFollow new.feed more → lines_of (front ++ more) ≡ passed ++ new.text ∷ lines_of more
+
+-- All the bytes are lines that are passed over, and nothing follows.
+pub record FindsEnd (old new : Reading) (bytes : List ℕ) : Type 0 where
+  pub passed : List (List ℕ)
+  pub given : new.feed.given ≡ old.feed.given + length bytes
+  pub each : AllByRecursion IsPassedOver passed
+  pub last : new.lines ≡ old.lines + length passed
+  pub ended : new.feed.ended ≡ true
+  pub lines : lines_of bytes ≡ passed
+
+-- A front of the bytes is lines that are passed over and then one that is refused, whatever may follow.
+pub record FindsBad (old new : Reading) (bytes : List ℕ) (bad : BadLine) : Type 0 where
+  pub front : List ℕ
+  pub passed : List (List ℕ)
+  pub whole : bytes ≡ front ++ new.feed.pending
+  pub given : new.feed.given ≡ old.feed.given + length front
+  pub each : AllByRecursion IsPassedOver passed
+  pub number : bad.line ≡ old.lines + length passed + 1
+  pub lines : (more : List ℕ) → MayFollow new.feed more →
+      (text : List ℕ) × (rest : List (List ℕ)) × (lines_of (front ++ more) ≡ passed ++ text ∷ rest) × (line_fault text ≡ Some bad.reason)
+
+-- The bytes are lines that are passed over and then a line that isn't ended, nor too long, by the 16,777,216th byte of
+-- the input; and at least one byte more.
+pub record FindsTooMany (old : Reading) (bytes : List ℕ) : Type 0 where
+  pub front : List ℕ
+  pub passed : List (List ℕ)
+  pub «open» : List ℕ
+  pub rest : List ℕ
+  pub whole : bytes ≡ front ++ («open» ++ rest)
+  pub full : old.feed.given + length front + length «open» ≡ 16777216
+  pub beyond : 0 < length rest
+  pub each : AllByRecursion IsPassedOver passed
+  pub inner : AllByRecursion IsInner «open»
+  pub short : length «open» ≤ 512
+  pub lines : (more : List ℕ) → lines_of (front ++ more) ≡ passed ++ lines_of more
+
+-- what an answer says of the bytes at hand; true is a line, false the end of the input
+abbrev pub Finds : (old new : Reading) → List ℕ → Result Bool LineFault → Type 0
+Finds old new bytes (Ok true) = FindsLine old new bytes × (new.failed ≡ false)
+Finds old new bytes (Ok false) = FindsEnd old new bytes × (new.failed ≡ false)
+Finds old new bytes (Err (fault.Bad bad)) = FindsBad old new bytes bad
+Finds old new bytes (Err fault.ReadFault) = Unit {0}
+Finds old new bytes (Err fault.TooLong) = FindsTooMany old bytes
+
+-- One more line is read: of the bytes that were pending and those that were taken for it.
+pub record ReadsLine (old new : Reading) (left left' : Option (List ℕ)) (answer : Result Bool LineFault) : Type 0 where
+  pub done : IsDone new.feed
+  pub taken : List ℕ
+  pub draws : Draws old.feed new.feed left left' taken
+  pub limit : new.feed.given ≤ 16777216
+  pub few : new.lines ≤ new.feed.given
+  pub finds : Finds old new (old.feed.pending ++ taken) answer
+
+-- what a whole line is, by its fault and by whether it is a comment
+abbrev pub kind_from : Option Reason → Bool → LineKind
+kind_from (Some why) comment = kind.Refused why
+kind_from None true = kind.PassedOver
+kind_from None false = kind.Says
+
+abbrev pub kind_of_line : List ℕ → LineKind
+kind_of_line text = kind_from (line_fault text) (is_comment text)
+
+-- what a line is whose bytes were gathered and ended so
+abbrev pub kind_of_gathered : Ending → List ℕ → LineKind
+kind_of_gathered ending.Full text = kind.Refused reason.LineLong
+kind_of_gathered ending.Newline text = kind_of_line text
+kind_of_gathered ending.InputEnd [] = kind.NoLine
+kind_of_gathered ending.InputEnd (b ∷ bytes) = kind_of_line (b ∷ bytes)
+
+-- a reader that gave no fault, by its parts
+abbrev pub reading : Feed → ℕ → List ℕ → Reading
+reading feed lines text = record { feed = feed; lines = lines; text = text; failed = false }

@@ -1,0 +1,93 @@
+//! The bytes of a source, one after another.
+
+ghost use Rattle.std.specs.Prelude.{◌≡◌, ℕ, ◌≤◌, List, Option, OnOk, OnErr, IfErr};
+ghost use Rattle.call_io.specs.Counts.{Rose};
+ghost use Rattle.trace_text.specs.declared.fault.LineFault.TheVariants as fault;
+
+use crate::fault::LineFault;
+use call_io::Source;
+use std::marker::Model;
+
+/// The most bytes that one input may have.
+pub const MOST_BYTES: u32 = 16_777_216;
+
+/// Reads a source in blocks, and gives its bytes one by one, up to the most that an input may have.
+#[derive(Drop)]
+pub struct Bytes {
+    block: [u8; 4096],
+    at: usize,
+    end: usize,
+    given: u32,
+    ended: bool,
+}
+
+impl Model for Bytes {
+    ghost use Rattle.std.specs.Prelude.{◌≡◌, ◌≤◌, true, slice_range};
+    ghost use Rattle.trace_text.specs.Feed.{Feed};
+
+    ghost Value = { Feed };
+
+    ghost view = { λ s. record { pending = slice_range s.block s.at s.end; given = s.given; ended = s.ended } };
+
+    ghost invariant = { λ s. (s.at ≤ s.end) × (s.end ≤ 4096) × (s.given ≤ 16777216) × (s.ended ≡ true → s.at ≡ s.end) };
+}
+
+impl Bytes {
+    ghost use Rattle.trace_text.specs.Feed.{first_feed, NextByte, Refills, KeepsFeed};
+
+    /// Before anything was read.
+    pub fn new() -> Bytes
+        ensures { result ≡ first_feed }
+    {
+        Bytes {
+            block: [0; 4096],
+            at: 0,
+            end: 0,
+            given: 0,
+            ended: false,
+        }
+    }
+
+    /// The next byte, or none at the end of the input. The source is read where no byte is pending.
+    pub fn next<I: Source>(&mut self, source: &mut I) -> Result<Option<u8>, LineFault>
+        ensures next { NextByte self.old self.new (I.left source.old) (I.left source.new) result }
+        ensures limit { self.new.given ≤ 16777216 }
+        ensures cause { IfErr result (λ e. e ≡ fault.ReadFault → Rose (I.faults source.old) (I.faults source.new)) }
+        ensures counted { I.faults source.old ≤ I.faults source.new }
+    {
+        self.refill(source)?;
+        if self.at == self.end {
+            return Ok(None);
+        }
+        if self.given == MOST_BYTES {
+            return Err(LineFault::TooLong);
+        }
+        let byte = self.block[self.at];
+        self.at += 1;
+        self.given += 1;
+        Ok(Some(byte))
+    }
+
+    /// Reads the source where no byte is pending, unless its end was seen.
+    fn refill<I: Source>(&mut self, source: &mut I) -> Result<(), LineFault>
+        ensures ok { OnOk result (Refills self.old self.new (I.left source.old) (I.left source.new)) }
+        ensures err { OnErr result (KeepsFeed self.old self.new (I.left source.old) (I.left source.new)) }
+        ensures fault { IfErr result (λ e. e ≡ fault.ReadFault) }
+        ensures limit { self.new.given ≤ 16777216 }
+        ensures cause { OnErr result (Rose (I.faults source.old) (I.faults source.new)) }
+        ensures counted { I.faults source.old ≤ I.faults source.new }
+    {
+        if self.at < self.end || self.ended {
+            return Ok(());
+        }
+        match source.read(&mut self.block) {
+            Ok(count) => {
+                self.at = 0;
+                self.end = count;
+                self.ended = count == 0;
+                Ok(())
+            }
+            Err(_) => Err(LineFault::ReadFault),
+        }
+    }
+}

@@ -1,0 +1,210 @@
+//! Lines and the lines of scripts, read from memory.
+
+ghost use Rattle.std.specs.Prelude.{◌≤◌};
+
+use crate::*;
+use call_io::MemSource;
+use ivs_machine::Cause;
+use std::alloc::{AllocError, Global};
+use std::process::Abort;
+use std::test::Fail;
+
+/// A source of these bytes that gives at most `most` a call, and fails at no call.
+fn source_of(alloc: Global, bytes: &[u8], most: usize) -> Result<MemSource, AllocError>
+    requires { 1 ≤ most }
+{
+    let bytes = Vec::from_slice(alloc, bytes)?;
+    Ok(MemSource::new(bytes, most, Vec::new(alloc)))
+}
+
+/// What the first line of a text says, where there is one.
+fn first_says(
+    alloc: Global,
+    text: &[u8],
+) -> Result<Option<Result<ScriptLine, BadLine>>, AllocError> {
+    let mut source = source_of(alloc, text, 4096)?;
+    let mut lines = Lines::new();
+    match lines.next(&mut source) {
+        Ok(true) => Ok(Some(read_script(&lines.line()))),
+        _ => Ok(None),
+    }
+}
+
+/// Asserts that a line is refused for this reason.
+fn expect_refused(
+    rt: &impl Abort,
+    alloc: Global,
+    text: &str,
+    reason: Reason,
+) -> Result<(), AllocError> {
+    let says = first_says(alloc, text.as_bytes())?;
+    let refused = Some(Err(BadLine { line: 1, reason }));
+    assert!(rt; says == refused, "{text}");
+    Ok(())
+}
+
+/// Asserts that a line is this event.
+fn expect_event(
+    rt: &impl Abort,
+    alloc: Global,
+    text: &str,
+    event: Event,
+) -> Result<(), AllocError> {
+    let says = first_says(alloc, text.as_bytes())?;
+    assert!(rt; says == Some(Ok(ScriptLine::Event(event))), "{text}");
+    Ok(())
+}
+
+/// Asserts that the first fault of these bytes is this one, however many bytes a read gives.
+fn expect_fault(
+    rt: &impl Abort,
+    alloc: Global,
+    bytes: &[u8],
+    fault: LineFault,
+) -> Result<(), AllocError> {
+    for most in [1, 4096] {
+        let mut source = source_of(alloc, bytes, most)?;
+        let mut lines = Lines::new();
+        let mut read = lines.next(&mut source);
+        if let Ok(true) = read {
+            read = lines.next(&mut source);
+        }
+        assert_eq!(rt; read, Err(fault));
+    }
+    Ok(())
+}
+
+/// The event of a `deliver` line.
+fn deliver(rt: &impl Abort, up: bool, call: u32, k: u32) -> Event {
+    let call = Positive::new(call).expect(rt, "a call's number");
+    let k = Positive::new(k).expect(rt, "a frame's number");
+    Event::Deliver { up, call, k }
+}
+
+#[test]
+fn gives_each_line_with_its_number(rt: HostRuntime) -> Result<(), Fail> {
+    for most in [1, 4096] {
+        let mut source = source_of(rt.alloc(), b"first\n\n# passed over\n last", most)?;
+        let mut lines = Lines::new();
+        assert_eq!(rt; lines.next(&mut source), Ok(true));
+        let line = lines.line();
+        assert_eq!(rt; line.number(), 1);
+        assert_eq!(rt; line.text(), b"first".as_slice());
+        assert_eq!(rt; lines.next(&mut source), Ok(true));
+        let line = lines.line();
+        assert_eq!(rt; line.number(), 4);
+        assert_eq!(rt; line.text(), b" last".as_slice());
+        assert_eq!(rt; lines.next(&mut source), Ok(false));
+        assert_eq!(rt; lines.next(&mut source), Ok(false));
+    }
+    Ok(())
+}
+
+#[test]
+fn refuses_long_lines_and_other_bytes(rt: HostRuntime) -> Result<(), Fail> {
+    let bad = |line, reason| LineFault::Bad(BadLine { line, reason });
+    let alloc = rt.alloc();
+    expect_fault(&rt, alloc, &[b'#'; 513], bad(1, Reason::LineLong))?;
+    expect_fault(&rt, alloc, b"\tset", bad(1, Reason::Text))?;
+    expect_fault(&rt, alloc, b"answer\n# \x7f\n", bad(2, Reason::Text))?;
+    expect_fault(&rt, alloc, b"answer\r\n", bad(1, Reason::Text))?;
+    let mut longest = source_of(alloc, &[b'x'; 512], 4096)?;
+    assert_eq!(rt; Lines::new().next(&mut longest), Ok(true));
+    Ok(())
+}
+
+#[test]
+fn tells_a_failed_read_from_too_many_bytes(rt: HostRuntime) -> Result<(), Fail> {
+    let alloc = rt.alloc();
+    let fails = vec![in alloc; 2]?;
+    let mut source = MemSource::new(Vec::from_slice(alloc, b"answer\nanswer\n")?, 7, fails);
+    let mut lines = Lines::new();
+    assert_eq!(rt; lines.next(&mut source), Ok(true));
+    assert_eq!(rt; lines.next(&mut source), Err(LineFault::ReadFault));
+    for (newlines, answer) in [
+        (16_777_216, Ok(false)),
+        (16_777_217, Err(LineFault::TooLong)),
+    ] {
+        let bytes = vec![in alloc; b'\n'; newlines]?;
+        let mut source = MemSource::new(bytes, 65_536, Vec::new(alloc));
+        assert_eq!(rt; Lines::new().next(&mut source), answer);
+    }
+    Ok(())
+}
+
+#[test]
+fn reads_what_a_line_of_a_script_says(rt: HostRuntime) -> Result<(), Fail> {
+    let alloc = rt.alloc();
+    let mut octets = [0; 140];
+    octets[0] = 0x5c;
+    octets[1] = 0xff;
+    let set = Some(Ok(ScriptLine::Fact(FactLine::Set(octets))));
+    assert!(rt; first_says(alloc, b"set 5CfF")? == set);
+    expect_event(&rt, alloc, "trigger auto", Event::Trigger(Cause::Auto))?;
+    expect_event(&rt, alloc, "answer", Event::Answer)?;
+    expect_event(&rt, alloc, "deliver up 1 2", deliver(&rt, true, 1, 2))?;
+    let last = deliver(&rt, false, 4_294_967_295, 10);
+    expect_event(&rt, alloc, "deliver down 4294967295 10", last)?;
+    Ok(())
+}
+
+#[test]
+fn refuses_a_line_for_its_first_reason(rt: HostRuntime) -> Result<(), Fail> {
+    for (text, reason) in [
+        ("hello", Reason::Word),
+        ("cancel", Reason::Word),
+        (" answer", Reason::Word),
+        ("set", Reason::Count),
+        ("set 00 00", Reason::Count),
+        ("set 00 ", Reason::Count),
+        ("set ", Reason::Hex),
+        ("set 000", Reason::Hex),
+        ("set 0g", Reason::Hex),
+        ("trigger", Reason::Count),
+        ("trigger manual now", Reason::Count),
+        ("trigger manual", Reason::Word),
+        ("answer ", Reason::Count),
+        ("deliver left 0", Reason::Count),
+        ("deliver left 0 0", Reason::Word),
+        ("deliver up 0 x", Reason::Number),
+        ("deliver up 1 01", Reason::Number),
+        ("deliver up 1 +1", Reason::Number),
+        ("deliver up  1", Reason::Number),
+        ("deliver up 4294967296 1", Reason::Number),
+    ] {
+        expect_refused(&rt, rt.alloc(), text, reason)?;
+    }
+    Ok(())
+}
+
+#[test]
+fn a_set_has_at_most_140_octets(rt: HostRuntime) -> Result<(), Fail> {
+    let alloc = rt.alloc();
+    let mut text = Vec::from_slice(alloc, b"set ")?;
+    text.extend_from_slice(&[b'7'; 280])?;
+    let set = Some(Ok(ScriptLine::Fact(FactLine::Set([0x77; 140]))));
+    assert!(rt; first_says(alloc, &text)? == set);
+    text.extend_from_slice(b"77")?;
+    let refused = Some(Err(BadLine {
+        line: 1,
+        reason: Reason::Hex,
+    }));
+    assert!(rt; first_says(alloc, &text)? == refused);
+    Ok(())
+}
+
+#[test]
+fn numbers_each_reason(rt: HostRuntime) {
+    for (reason, code) in [
+        (Reason::Word, 1),
+        (Reason::Number, 2),
+        (Reason::Count, 3),
+        (Reason::LineLong, 4),
+        (Reason::Text, 5),
+        (Reason::Hex, 6),
+        (Reason::Missing, 7),
+        (Reason::Late, 8),
+    ] {
+        assert_eq!(rt; reason.code(), code);
+    }
+}

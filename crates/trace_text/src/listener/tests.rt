@@ -1,0 +1,105 @@
+//! A run of entries through each listener, and what a failure leaves.
+ghost use Rattle.std.specs.Prelude.{◌≡◌, ◌≤◌, OnOk, OnErr, IfErr};
+ghost use Rattle.call_io.specs.Bytes.{Grew, GrewPartly};
+ghost use Rattle.trace_text.specs.EntryLine.{lines_of};
+ghost use Rattle.trace_text.specs.Listener.{HasCause};
+
+use super::*;
+use crate::{Kept, TextOut};
+use call_io::{MemSink, Sink};
+use link_frames::{End, Note};
+use std::test::Fail;
+
+/// Lets a listener hear entries until one fails.
+fn hear_all<H: Listener>(alloc: Global, entries: &[Entry], to: &mut H) -> Result<(), Deaf>
+    ensures ok { OnOk result (H.grew to.old to.new entries.now) }
+    ensures err { OnErr result (H.partly to.old to.new entries.now) }
+    ensures cause { IfErr result (λ e. HasCause e (H.faults to.old) (H.faults to.new)) }
+    ensures counted { H.faults to.old ≤ H.faults to.new }
+{
+    for entry in entries {
+        to.hear(alloc, entry)?;
+    }
+    Ok(())
+}
+
+/// Writes the lines of entries to a sink that it is lent, through the listener that borrows it.
+fn write_lines<O: Sink>(alloc: Global, entries: &[Entry], out: &mut O) -> Result<(), Deaf>
+    ensures ok { OnOk result (Grew (O.held out.old) (O.held out.new) (lines_of entries.now)) }
+    ensures partly { OnErr result (GrewPartly (O.held out.old) (O.held out.new) (lines_of entries.now)) }
+    ensures cause { IfErr result (λ e. HasCause e (O.faults out.old) (O.faults out.new)) }
+    ensures counted { O.faults out.old ≤ O.faults out.new }
+{
+    let mut to = TextOut::over(out);
+    hear_all(alloc, entries, &mut to)
+}
+
+fn three_entries() -> [Entry; 3] {
+    let at = |tick, note| Entry { tick, note };
+    [
+        at(0, Note::Arming),
+        at(49, Note::Cancelled),
+        at(
+            50,
+            Note::Up {
+                end: End::Vehicle,
+                call: 7,
+            },
+        ),
+    ]
+}
+
+/// 38 bytes: 9, 13 and 16.
+const THREE_LINES: &str = "0 arming\n49 cancelled\n50 up vehicle 7\n";
+
+#[test]
+fn text_out_writes_the_lines(rt: HostRuntime) -> Result<(), Fail> {
+    let mut sink = MemSink::new(rt.alloc(), 100, Vec::new(rt.alloc()))?;
+    write_lines(rt.alloc(), &three_entries(), &mut sink)?;
+    assert_eq!(rt; sink.bytes(), THREE_LINES.as_bytes());
+    Ok(())
+}
+
+#[test]
+fn a_failed_write_leaves_the_lines_before(rt: HostRuntime) -> Result<(), Fail> {
+    let alloc = rt.alloc();
+    let lines = THREE_LINES.as_bytes();
+    for (call, whole) in [(1, 0), (2, 9), (3, 22)] {
+        let mut sink = MemSink::new(alloc, 100, vec![in alloc; call]?)?;
+        assert_eq!(rt;
+            write_lines(alloc, &three_entries(), &mut sink),
+            Err(Deaf::Write)
+        );
+        assert_eq!(rt; sink.bytes(), &lines[..whole], "at write {call}");
+    }
+    for room in 0..38 {
+        let mut sink = MemSink::new(alloc, room, Vec::new(alloc))?;
+        assert_eq!(rt;
+            write_lines(alloc, &three_entries(), &mut sink),
+            Err(Deaf::Write)
+        );
+        assert_eq!(rt; sink.bytes(), &lines[..room], "with room for {room}");
+    }
+    Ok(())
+}
+
+#[test]
+fn kept_has_what_it_heard(rt: HostRuntime) -> Result<(), Fail> {
+    let entries = three_entries();
+    let entries = entries.as_slice();
+    let mut kept = Kept::new(rt.alloc());
+    assert!(rt; kept.entries().is_empty());
+    hear_all(rt.alloc(), entries, &mut kept)?;
+    hear_all(rt.alloc(), &entries[..1], &mut kept)?;
+    assert_eq!(rt; kept.entries().len(), 4);
+    assert_eq!(rt; &kept.entries()[..3], entries);
+    assert_eq!(rt; &kept.entries()[3..], &entries[..1]);
+    Ok(())
+}
+
+#[test]
+fn texts_of_the_errors(rt: HostRuntime) -> Result<(), Fail> {
+    assert_eq!(rt; Deaf::Write.to_string(rt.alloc())?.as_str(), "write failed");
+    assert_eq!(rt; Deaf::Memory.to_string(rt.alloc())?.as_str(), "no memory");
+    Ok(())
+}

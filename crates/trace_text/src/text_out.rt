@@ -1,0 +1,57 @@
+//! The listener that writes each entry's line.
+ghost use Rattle.std.specs.Prelude.{◌≡◌, ◌≤◌, [], ◌∷◌, OnOk, OnErr, IfErr};
+ghost use Rattle.trace_text.specs.Listener.{HasCause, sink, sink_name, TextGrew, TextGrewPartly};
+ghost use Rattle.trace_text.specs.ListenerLaws.{TextGrew-nothing, TextGrew-append, TextGrewPartly-whole, TextGrewPartly-after, TextGrewPartly-longer};
+
+use crate::entry::Entry;
+use crate::listener::{Deaf, Listener};
+use crate::write::write_entry;
+use call_io::Sink;
+use std::alloc::Global;
+
+/// Writes the line of each entry that it hears to a sink that it borrows. It keeps nothing and takes no memory.
+#[derive(Drop)]
+pub struct TextOut<'a, O> {
+    out: &'a mut O,
+}
+
+impl<'a, O> TextOut<'a, O> {
+    /// Writes to this sink.
+    pub fn over(out: &'a mut O) -> TextOut<'a, O>
+        ensures same_sink { sink_name result ≡ out.entry.ghost_name }
+        ensures value { sink result ≡ out.old }
+    {
+        TextOut { out }
+    }
+}
+
+impl<'a, O: Sink> Listener for TextOut<'a, O> {
+    ghost grew = { TextGrew O.held };
+
+    ghost partly = { TextGrewPartly O.held };
+
+    ghost faults = { λ to. O.faults (sink to) };
+
+    fn hear(&mut self, _alloc: Global, entry: &Entry) -> Result<(), Deaf>
+        ensures ok { OnOk result (TextGrew O.held self.old self.new (entry.now ∷ [])) }
+        ensures err { OnErr result (TextGrewPartly O.held self.old self.new (entry.now ∷ [])) }
+        ensures write { IfErr result (λ e. e ≡ Deaf.Write) }
+        ensures cause { IfErr result (λ e. HasCause e (O.faults (sink self.old)) (O.faults (sink self.new))) }
+        ensures counted { O.faults (sink self.old) ≤ O.faults (sink self.new) }
+    {
+        match write_entry(entry, self.out) {
+            Ok(()) => Ok(()),
+            Err(_) => Err(Deaf::Write),
+        }
+    }
+
+    ghost unchanged = { TextGrew-nothing O.held };
+
+    ghost twice = { TextGrew-append O.held };
+
+    ghost whole = { TextGrewPartly-whole O.held };
+
+    ghost then_partly = { TextGrewPartly-after O.held };
+
+    ghost longer = { TextGrewPartly-longer O.held };
+}

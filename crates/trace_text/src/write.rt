@@ -1,0 +1,332 @@
+//! The lines of a trace, written one at a time.
+ghost use Rattle.std.specs.Prelude.{◌≡◌, ◌+◌, ◌<◌, ◌≤◌, ◌∷◌, [], ◌++◌, length, codes, decimal, OnOk, OnErr};
+ghost use Rattle.arrayvec.specs.ArrayVec.{array_vec_len};
+ghost use Rattle.call_io.specs.Bytes.{Grew, GrewPartly};
+ghost use Rattle.call_io.specs.Counts.{Rose};
+ghost use Rattle.hex.specs.Hex.{encode_lower};
+ghost use Rattle.trace_text.specs.EntryLine.{end_word, why_word, timer_word, answer_word, net_word, voice_word, frame_words, note_words, spaced, line_of};
+
+use crate::entry::Entry;
+use arrayvec::ArrayVec;
+use call_io::{Failed, Sink, write_all};
+use itoa::{Buffer, Integer};
+use link_frames::{Answer, DialAttempt, End, Frame, Note, OCTETS, Request, Timer, Why};
+
+/// The most octets that the line of an entry has, its newline included: a `send` with a set, and with each of its
+/// numbers as long as it can be. A tick has at most 20 digits, a call's number 10, a request and an attempt 3.
+const LONGEST_LINE: usize = 339;
+
+/// A line that is being built. What is appended below requires that what stands so far leaves room for it, as it
+/// does behind the longest tick.
+type LineText = ArrayVec<u8, LONGEST_LINE>;
+
+/// Appends a word behind a space.
+fn push_word(line: &mut LineText, word: &str)
+    requires { array_vec_len line.old + length word.now < LONGEST_LINE }
+    ensures bytes { line.new.items ≡ line.old.items ++ 32 ∷ word.now }
+    ensures len { array_vec_len line.new ≡ array_vec_len line.old + 1 + length word.now }
+{
+    line.push(b' ');
+    line.try_extend_from_slice(word.as_bytes()).unwrap();
+}
+
+/// Appends a number behind a space.
+fn push_number<I: Integer>(line: &mut LineText, number: I)
+    requires { array_vec_len line.old + I.MAX_STR_LEN < LONGEST_LINE }
+    ensures bytes { line.new.items ≡ line.old.items ++ 32 ∷ I.text number }
+    ensures len { array_vec_len line.new ≤ array_vec_len line.old + 1 + I.MAX_STR_LEN }
+{
+    let mut digits = Buffer::new();
+    push_word(line, digits.format(number));
+}
+
+/// Appends the octets of a set behind a space, in hexadecimal.
+fn push_octets(line: &mut LineText, octets: &[u8; OCTETS])
+    requires { array_vec_len line.old + 281 ≤ LONGEST_LINE }
+    ensures bytes { line.new.items ≡ line.old.items ++ 32 ∷ encode_lower octets.now }
+    ensures len { array_vec_len line.new ≡ array_vec_len line.old + 281 }
+{
+    let mut digits = [0; 280];
+    hex::encode_to_slice(octets.as_slice(), &mut digits).unwrap();
+    line.push(b' ');
+    line.try_extend_from_slice(&digits).unwrap();
+}
+
+fn end_name(end: End) -> &'static str
+    ensures word { result.now ≡ end_word end }
+    ensures short { length result.now ≤ 7 }
+{
+    match end {
+        End::Vehicle => "vehicle",
+        End::Point => "point",
+    }
+}
+
+fn why_name(why: Why) -> &'static str
+    ensures word { result.now ≡ why_word why }
+    ensures short { length result.now ≤ 7 }
+{
+    match why {
+        Why::Release => "release",
+        Why::Hangup => "hangup",
+        Why::Lost => "lost",
+    }
+}
+
+fn timer_name(timer: Timer) -> &'static str
+    ensures word { result.now ≡ timer_word timer }
+    ensures short { length result.now ≤ 3 }
+{
+    match timer {
+        Timer::T1 => "T1",
+        Timer::T2 => "T2",
+        Timer::T3 => "T3",
+        Timer::T4 => "T4",
+        Timer::T5 => "T5",
+        Timer::T6 => "T6",
+        Timer::T7 => "T7",
+        Timer::T8 => "T8",
+        Timer::T10 => "T10",
+        Timer::TD => "TD",
+        Timer::TW => "TW",
+        Timer::Sum => "sum",
+    }
+}
+
+fn answer_name(answer: Answer) -> &'static str
+    ensures word { result.now ≡ answer_word answer }
+    ensures short { length result.now ≤ 8 }
+{
+    match answer {
+        Answer::Positive => "positive",
+        Answer::Clear => "clear",
+    }
+}
+
+fn net_name(up: bool) -> &'static str
+    ensures word { result.now ≡ net_word up }
+    ensures short { length result.now ≤ 4 }
+{
+    if up { "up" } else { "down" }
+}
+
+fn voice_name(is_open: bool) -> &'static str
+    ensures word { result.now ≡ voice_word is_open }
+    ensures short { length result.now ≤ 5 }
+{
+    if is_open { "open" } else { "muted" }
+}
+
+/// Appends an item's first word with the leg that it is about.
+fn push_leg(line: &mut LineText, word: &str, end: End, call: u32)
+    requires { array_vec_len line.old + length word.now ≤ 25 }
+    ensures bytes { line.new.items
+        ≡ line.old.items ++ spaced (word.now ∷ end_word end ∷ decimal call ∷ []) }
+    ensures len { array_vec_len line.new ≤ array_vec_len line.old + length word.now + 20 }
+{
+    push_word(line, word);
+    push_word(line, end_name(end));
+    push_number(line, call);
+}
+
+/// Appends an item's first word with a call's number.
+fn push_call(line: &mut LineText, word: &str, call: u32)
+    requires { array_vec_len line.old + length word.now ≤ 27 }
+    ensures bytes { line.new.items ≡ line.old.items ++ spaced (word.now ∷ decimal call ∷ []) }
+    ensures len { array_vec_len line.new ≤ array_vec_len line.old + length word.now + 12 }
+{
+    push_word(line, word);
+    push_number(line, call);
+}
+
+/// Appends an item's first word with a call's number, a request and the octets of a set.
+fn push_set(line: &mut LineText, word: &str, call: u32, request: Request, octets: &[u8; OCTETS])
+    requires { array_vec_len line.old + length word.now ≤ 25 }
+    ensures bytes { line.new.items
+        ≡ line.old.items ++ spaced (word.now ∷ decimal call ∷ decimal request ∷ encode_lower octets.now ∷ []) }
+    ensures len { array_vec_len line.new < LONGEST_LINE }
+{
+    push_call(line, word, call);
+    push_number(line, request.number());
+    push_octets(line, octets);
+}
+
+/// Appends the words of a frame that carries a set.
+fn push_data(line: &mut LineText, request: Request, attempt: u8, octets: &[u8; OCTETS])
+    requires { array_vec_len line.old ≤ 44 }
+    ensures bytes { line.new.items
+        ≡ line.old.items ++ spaced (codes "data" ∷ decimal request ∷ decimal attempt ∷ encode_lower octets.now ∷ []) }
+    ensures len { array_vec_len line.new < LONGEST_LINE }
+{
+    push_request(line, "data", request);
+    push_number(line, attempt);
+    push_octets(line, octets);
+}
+
+/// Appends a frame's first word with its request.
+fn push_request(line: &mut LineText, word: &str, request: Request)
+    requires { array_vec_len line.old + length word.now ≤ 50 }
+    ensures bytes { line.new.items ≡ line.old.items ++ spaced (word.now ∷ decimal request ∷ []) }
+    ensures len { array_vec_len line.new ≤ array_vec_len line.old + length word.now + 5 }
+{
+    push_word(line, word);
+    push_number(line, request.number());
+}
+
+/// Appends the words of a frame.
+fn push_frame(line: &mut LineText, frame: &Frame)
+    requires { array_vec_len line.old ≤ 44 }
+    ensures bytes { line.new.items ≡ line.old.items ++ spaced (frame_words frame.now) }
+    ensures len { array_vec_len line.new < LONGEST_LINE }
+{
+    match frame {
+        Frame::Init => push_word(line, "init"),
+        Frame::Start(request) => push_request(line, "start", *request),
+        Frame::Content {
+            request,
+            attempt,
+            octets,
+        } => push_data(line, *request, *attempt, octets),
+        Frame::Nack(request) => push_request(line, "nack", *request),
+        Frame::Ack(request) => push_request(line, "ack", *request),
+        Frame::App { request, answer } => {
+            push_request(line, "app", *request);
+            push_word(line, answer_name(*answer));
+        }
+    }
+}
+
+/// Appends an item's first word with an attempt to dial.
+fn push_attempt(line: &mut LineText, word: &str, attempt: DialAttempt)
+    requires { array_vec_len line.old + length word.now ≤ 50 }
+    ensures bytes { line.new.items ≡ line.old.items ++ spaced (word.now ∷ decimal attempt ∷ []) }
+    ensures len { array_vec_len line.new ≤ array_vec_len line.old + length word.now + 5 }
+{
+    push_word(line, word);
+    push_number(line, attempt.number());
+}
+
+/// Appends the words of an item on the network.
+fn push_net(line: &mut LineText, up: bool)
+    requires { array_vec_len line.old ≤ 20 }
+    ensures bytes { line.new.items ≡ line.old.items ++ spaced (codes "net" ∷ net_word up ∷ []) }
+    ensures len { array_vec_len line.new < LONGEST_LINE }
+{
+    push_word(line, "net");
+    push_word(line, net_name(up));
+}
+
+/// Appends the words of an item on a leg that went down.
+fn push_down(line: &mut LineText, end: End, call: u32, why: Why)
+    requires { array_vec_len line.old ≤ 20 }
+    ensures bytes { line.new.items
+        ≡ line.old.items ++ spaced (codes "down" ∷ end_word end ∷ decimal call ∷ why_word why ∷ []) }
+    ensures len { array_vec_len line.new < LONGEST_LINE }
+{
+    push_leg(line, "down", end, call);
+    push_word(line, why_name(why));
+}
+
+/// Appends the words of an item on a timer.
+fn push_ended(line: &mut LineText, end: End, call: u32, timer: Timer)
+    requires { array_vec_len line.old ≤ 20 }
+    ensures bytes { line.new.items
+        ≡ line.old.items ++ spaced (codes "ended" ∷ end_word end ∷ decimal call ∷ timer_word timer ∷ []) }
+    ensures len { array_vec_len line.new < LONGEST_LINE }
+{
+    push_leg(line, "ended", end, call);
+    push_word(line, timer_name(timer));
+}
+
+/// Appends the words of a voice item.
+fn push_voice(line: &mut LineText, end: End, call: u32, up: bool, down: bool)
+    requires { array_vec_len line.old ≤ 20 }
+    ensures bytes { line.new.items
+        ≡ line.old.items ++ spaced (codes "voice" ∷ end_word end ∷ decimal call ∷ voice_word up ∷ voice_word down ∷ []) }
+    ensures len { array_vec_len line.new < LONGEST_LINE }
+{
+    push_leg(line, "voice", end, call);
+    push_word(line, voice_name(up));
+    push_word(line, voice_name(down));
+}
+
+/// Appends the words of a send item.
+fn push_send(line: &mut LineText, end: End, call: u32, frame: &Frame)
+    requires { array_vec_len line.old ≤ 20 }
+    ensures bytes { line.new.items
+        ≡ line.old.items ++ spaced (codes "send" ∷ end_word end ∷ decimal call ∷ frame_words frame.now) }
+    ensures len { array_vec_len line.new < LONGEST_LINE }
+{
+    push_leg(line, "send", end, call);
+    push_frame(line, frame);
+}
+
+/// Appends the words of an item.
+fn push_note(line: &mut LineText, note: &Note)
+    requires { array_vec_len line.old ≤ 20 }
+    ensures bytes { line.new.items ≡ line.old.items ++ spaced (note_words note.now) }
+    ensures len { array_vec_len line.new < LONGEST_LINE }
+{
+    match note {
+        Note::Dial(attempt) => push_attempt(line, "dial", *attempt),
+        Note::Failed(attempt) => push_attempt(line, "failed", *attempt),
+        Note::GaveUp => push_word(line, "gaveup"),
+        Note::Seeking => push_word(line, "seeking"),
+        Note::Arming => push_word(line, "arming"),
+        Note::Cancelled => push_word(line, "cancelled"),
+        Note::Standby => push_word(line, "standby"),
+        Note::Idle => push_word(line, "idle"),
+        Note::Nothing => push_word(line, "nothing"),
+        Note::Net(up) => push_net(line, *up),
+        Note::Up { end, call } => push_leg(line, "up", *end, *call),
+        Note::Down { end, call, why } => push_down(line, *end, *call, *why),
+        Note::Voice {
+            end,
+            call,
+            up,
+            down,
+        } => push_voice(line, *end, *call, *up, *down),
+        Note::Send { end, call, frame } => push_send(line, *end, *call, frame),
+        Note::Shown {
+            call,
+            request,
+            octets,
+        } => push_set(line, "shown", *call, *request, octets),
+        Note::Acked {
+            call,
+            request,
+            octets,
+        } => push_set(line, "acked", *call, *request, octets),
+        Note::Ended { end, call, timer } => push_ended(line, *end, *call, *timer),
+        Note::Fault { end, call } => push_leg(line, "fault", *end, *call),
+        Note::Busy(call) => push_call(line, "busy", *call),
+        Note::Spent(call) => push_call(line, "spent", *call),
+        Note::Unshown(call) => push_call(line, "unshown", *call),
+    }
+}
+
+/// The line of an entry.
+fn entry_line(entry: &Entry) -> LineText
+    ensures { result.items ≡ line_of entry.now }
+{
+    let mut digits = Buffer::new();
+    let mut line = ArrayVec::new();
+    line.try_extend_from_slice(digits.format(entry.tick).as_bytes())
+        .unwrap();
+    push_note(&mut line, &entry.note);
+    line.push(b'\n');
+    line
+}
+
+/// Writes the line of an entry. After a failure a front of it was written.
+pub fn write_entry<O: Sink>(entry: &Entry, out: &mut O) -> Result<(), Failed>
+    ensures ok { OnOk result (Grew (O.held out.old) (O.held out.new) (line_of entry.now)) }
+    ensures partly { OnErr result (GrewPartly (O.held out.old) (O.held out.new) (line_of entry.now)) }
+    ensures cause { OnErr result (Rose (O.faults out.old) (O.faults out.new)) }
+    ensures counted { O.faults out.old ≤ O.faults out.new }
+{
+    write_all(out, &entry_line(entry))
+}
+
+#[cfg(test)]
+mod tests;

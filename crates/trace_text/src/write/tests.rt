@@ -1,0 +1,226 @@
+//! The line of each kind of item.
+
+use super::*;
+use call_io::MemSink;
+use std::alloc::{AllocError, Global};
+use std::test::Fail;
+
+/// A set of data as it was written elsewhere, without its zero octets.
+const SET: &str = "02000681d54970d65c3597ca0420c414640af05f080452e9960413e2550168";
+
+fn octets_of_set() -> Result<[u8; OCTETS], Fail> {
+    let mut octets = [0; OCTETS];
+    hex::decode_to_slice(SET, &mut octets[..31])?;
+    Ok(octets)
+}
+
+/// These words, and behind them the 280 digits of the set.
+fn text_with_set(alloc: Global, words: &str) -> Result<String, AllocError> {
+    let mut text = String::from_str(alloc, words)?;
+    text.push_str(SET)?;
+    for _ in 0..218 {
+        text.push('0')?;
+    }
+    text.push('\n')?;
+    Ok(text)
+}
+
+/// What is written for an entry.
+fn written(alloc: Global, tick: u64, note: Note) -> Result<MemSink, Fail> {
+    let mut sink = MemSink::new(alloc, 400, Vec::new(alloc))?;
+    write_entry(&Entry { tick, note }, &mut sink)?;
+    Ok(sink)
+}
+
+#[test]
+fn items_without_a_leg(rt: HostRuntime) -> Result<(), Fail> {
+    let tenth = DialAttempt::new(10).ok_or("a series has ten attempts")?;
+    let table = [
+        (Note::Dial(DialAttempt::first()), "0 dial 1\n"),
+        (Note::Failed(tenth), "0 failed 10\n"),
+        (Note::GaveUp, "0 gaveup\n"),
+        (Note::Seeking, "0 seeking\n"),
+        (Note::Arming, "0 arming\n"),
+        (Note::Cancelled, "0 cancelled\n"),
+        (Note::Standby, "0 standby\n"),
+        (Note::Idle, "0 idle\n"),
+        (Note::Nothing, "0 nothing\n"),
+        (Note::Net(true), "0 net up\n"),
+        (Note::Net(false), "0 net down\n"),
+        (Note::Busy(1), "0 busy 1\n"),
+        (Note::Spent(20), "0 spent 20\n"),
+        (Note::Unshown(4294967295), "0 unshown 4294967295\n"),
+    ];
+    for (note, text) in &table {
+        assert_eq!(rt; written(rt.alloc(), 0, *note)?.bytes(), text.as_bytes());
+    }
+    Ok(())
+}
+
+#[test]
+fn legs_and_voice(rt: HostRuntime) -> Result<(), Fail> {
+    let (vehicle, point) = (End::Vehicle, End::Point);
+    let voice = |end, call, up, down| Note::Voice {
+        end,
+        call,
+        up,
+        down,
+    };
+    let down = |end, call, why| Note::Down { end, call, why };
+    let table = [
+        (
+            Note::Up {
+                end: vehicle,
+                call: 1,
+            },
+            "12 up vehicle 1\n",
+        ),
+        (
+            Note::Up {
+                end: point,
+                call: 0,
+            },
+            "12 up point 0\n",
+        ),
+        (
+            down(vehicle, 16, Why::Release),
+            "12 down vehicle 16 release\n",
+        ),
+        (down(point, 1, Why::Hangup), "12 down point 1 hangup\n"),
+        (down(vehicle, 1, Why::Lost), "12 down vehicle 1 lost\n"),
+        (
+            voice(vehicle, 1, true, true),
+            "12 voice vehicle 1 open open\n",
+        ),
+        (
+            voice(vehicle, 1, true, false),
+            "12 voice vehicle 1 open muted\n",
+        ),
+        (
+            voice(point, 1, false, true),
+            "12 voice point 1 muted open\n",
+        ),
+        (
+            voice(point, 1, false, false),
+            "12 voice point 1 muted muted\n",
+        ),
+        (
+            Note::Fault {
+                end: point,
+                call: 3,
+            },
+            "12 fault point 3\n",
+        ),
+    ];
+    for (note, text) in &table {
+        assert_eq!(rt; written(rt.alloc(), 12, *note)?.bytes(), text.as_bytes());
+    }
+    Ok(())
+}
+
+#[test]
+fn timers(rt: HostRuntime) -> Result<(), Fail> {
+    let table = [
+        (Timer::T1, "50 ended vehicle 0 T1\n"),
+        (Timer::T2, "50 ended vehicle 0 T2\n"),
+        (Timer::T3, "50 ended vehicle 0 T3\n"),
+        (Timer::T4, "50 ended vehicle 0 T4\n"),
+        (Timer::T5, "50 ended vehicle 0 T5\n"),
+        (Timer::T6, "50 ended vehicle 0 T6\n"),
+        (Timer::T7, "50 ended vehicle 0 T7\n"),
+        (Timer::T8, "50 ended vehicle 0 T8\n"),
+        (Timer::T10, "50 ended vehicle 0 T10\n"),
+        (Timer::TD, "50 ended vehicle 0 TD\n"),
+        (Timer::TW, "50 ended vehicle 0 TW\n"),
+        (Timer::Sum, "50 ended vehicle 0 sum\n"),
+    ];
+    for (timer, text) in &table {
+        let ended = Note::Ended {
+            end: End::Vehicle,
+            call: 0,
+            timer: *timer,
+        };
+        assert_eq!(rt; written(rt.alloc(), 50, ended)?.bytes(), text.as_bytes());
+    }
+    Ok(())
+}
+
+#[test]
+fn frames(rt: HostRuntime) -> Result<(), Fail> {
+    let first = Request::first();
+    let last = Request::new(255).ok_or("there are 255 requests")?;
+    let app = |request, answer| Frame::App { request, answer };
+    let table = [
+        (Frame::Init, "9 send point 1 init\n"),
+        (Frame::Start(first), "9 send point 1 start 1\n"),
+        (Frame::Nack(last), "9 send point 1 nack 255\n"),
+        (Frame::Ack(first), "9 send point 1 ack 1\n"),
+        (
+            app(first, Answer::Positive),
+            "9 send point 1 app 1 positive\n",
+        ),
+        (app(last, Answer::Clear), "9 send point 1 app 255 clear\n"),
+    ];
+    for (frame, text) in &table {
+        let send = Note::Send {
+            end: End::Point,
+            call: 1,
+            frame: *frame,
+        };
+        assert_eq!(rt; written(rt.alloc(), 9, send)?.bytes(), text.as_bytes());
+    }
+    Ok(())
+}
+
+#[test]
+fn sets(rt: HostRuntime) -> Result<(), Fail> {
+    let (request, octets) = (Request::first(), octets_of_set()?);
+    let last = Request::new(255).ok_or("there are 255 requests")?;
+    let data = |request, attempt| Frame::Content {
+        request,
+        attempt,
+        octets,
+    };
+    let send = |call, frame| Note::Send {
+        end: End::Vehicle,
+        call,
+        frame,
+    };
+    let table = [
+        (6, send(1, data(request, 0)), "6 send vehicle 1 data 1 0 "),
+        (
+            9,
+            Note::Shown {
+                call: 1,
+                request,
+                octets,
+            },
+            "9 shown 1 1 ",
+        ),
+        (
+            12,
+            Note::Acked {
+                call: 1,
+                request,
+                octets,
+            },
+            "12 acked 1 1 ",
+        ),
+        // The longest line of all.
+        (
+            u64::MAX,
+            send(u32::MAX, data(last, 255)),
+            "18446744073709551615 send vehicle 4294967295 data 255 255 ",
+        ),
+    ];
+    for (tick, note, words) in &table {
+        let text = text_with_set(rt.alloc(), words)?;
+        assert_eq!(rt; written(rt.alloc(), *tick, *note)?.bytes(), text.as_bytes());
+    }
+    let longest = text_with_set(
+        rt.alloc(),
+        "18446744073709551615 send vehicle 4294967295 data 255 255 ",
+    )?;
+    assert_eq!(rt; longest.len(), LONGEST_LINE);
+    Ok(())
+}
