@@ -1,7 +1,12 @@
-mod Lists
-mod Shown
-mod Posted
-mod VehicleFits
-mod PointFits
-pub mod FitKept
+pub mod Calls
 mod FirstCall
+pub mod FitKept
+mod Lists
+mod PointFits
+mod Posted
+mod SessionsLemmas
+mod Shown
+mod StepLemmas
+mod TellingLemmas
+mod TrafficLemmas
+mod VehicleFits

@@ -1,2 +1,5 @@
-pub mod World
 pub mod Fit
+pub mod SessionsStand
+pub mod SimFault
+pub mod World
+pub mod WorldStands
