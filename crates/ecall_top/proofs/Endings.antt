@@ -1,0 +1,335 @@
+-- How a run ends, from where it stands and what the last line's reading and writing left.
+use Rattle.std.specs.Prelude.{◌≡◌, ℕ, ◌+◌, ◌<◌, ◌≤◌, ◌⊎◌, Bool, true, false, List, [], ◌∷◌, ◌++◌, length, Option, Some, None, Result, Ok, Err}
+use Rattle.std.specs.Io.KnownBytes.{IsAtEnd, prepend_known}
+use Rattle.std.proofs.Common.{sym, ◌∙◌, ap, refl, subst, append_assoc, inl, inr, arith, length-append}
+use Rattle.std.proofs.lemmas.List.{append-nil}
+use Rattle.std.proofs.lemmas.Bool.{false≢true}
+use Rattle.call_io.specs.Bytes.{Took, Grew, GrewPartly}
+use Rattle.call_io.proofs.BytesLemmas.{Took-append, Took-nothing, Grew-nothing, Grew-append, GrewPartly-whole, GrewPartly-after}
+use Rattle.trace_text.specs.declared.event.Event.{Event}
+use Rattle.trace_text.specs.declared.reason.Reason.{Reason}
+use Rattle.trace_text.specs.declared.reason.BadLine.{BadLine}
+use Rattle.trace_text.specs.declared.fault.LineFault.{LineFault}
+use Rattle.trace_text.specs.declared.fault.LineFault.TheVariants as fault
+use Rattle.trace_text.specs.declared.script.ScriptLine.{ScriptLine}
+use Rattle.trace_text.specs.declared.script.FactLine.{FactLine}
+use Rattle.trace_text.specs.declared.script.FactLine.TheVariants as fact
+use Rattle.trace_text.specs.declared.script.ScriptLine.TheVariants as line
+use Rattle.trace_text.specs.EntryLine.{lines_of}
+use Rattle.trace_text.specs.ListenerLaws.{lines_of-append}
+use Rattle.trace_text.specs.Feed.{Draws}
+use Rattle.trace_text.specs.Lines as bytes
+use Rattle.trace_text.specs.Reading.{Reading, MayFollow, first_reading, FindsLine, FindsEnd, FindsBad, FindsTooMany, ReadsLine}
+use Rattle.trace_text.specs.Safety.{Agreed}
+use Rattle.trace_text.specs.Script.{Said, Script, script_of, script_from, judged, said_after, nothing_said}
+use Rattle.channel_sim.proofs.FitKept.{trace_agreed}
+use Rattle.ivs_machine.specs.declared.facts.Facts.TheVariants as facts
+use Rattle.ecall_top.specs.declared.status.Status.{Status}
+use Rattle.ecall_top.specs.declared.status.Status.TheVariants as status
+use Rattle.ecall_top.specs.Outcome.{Streams, Answered, CutShort, IsSettled, IsTooLong, Outcome}
+use Rattle.ecall_top.specs.Progress.{ReadSoFar, behind, event_of, entries_of, entries_in, world_behind}
+use Rattle.ecall_top.specs.Reply.{played, script_trace, ended, run_words, run_reply, reply, refusal_line}
+use Rattle.ecall_top.specs.Standing.{Standing, IsTidy}
+use Rattle.ecall_top.proofs.ScriptRead.{AtHand, read_line, read_refused, read_bad, read_end, script_from-passed, script_from-none, no_fact_judged, IsNoFact}
+use Rattle.ecall_top.proofs.TextSoFar.{played-line, played-nothing, partly_replied}
+
+-- a run stands at its beginning
+pub stands_first : (start : Streams) (Stands : Said → List Event → Type 0) → Stands nothing_said [] → Standing start start first_reading Stands
+stands_first start Stands stands =
+    record {
+      front = [];
+      said = nothing_said;
+      events = [];
+      took = Took-nothing start.left;
+      given = refl;
+      read = record { script = λ more follows. refl };
+      wrote = Grew-nothing start.held;
+      stands = stands;
+      tidy = inr refl;
+      alive = refl;
+      done = λ e. refl;
+      «end» = λ e. absurd (false≢true e);
+    }
+
+-- each script's trace is agreed
+pub script_agreed : (script : Script) → Agreed (script_trace script)
+script_agreed script = by_ready script.ready
+  where
+    by_ready : (ready : Option (List ℕ)) → Agreed (played ready script.events)
+    by_ready None = tt
+    by_ready (Some octets) = trace_agreed (facts.Ready octets) script.events
+
+-- what is at hand behind where a run stands
+at_hand : (start now : Streams) (old new : Reading) (Stands : Said → List Event → Type 0) (left : Option (List ℕ)) (taken : List ℕ) → Standing start now old Stands → Draws old.feed new.feed now.left left taken → AtHand old new (old.feed.pending ++ taken)
+at_hand start now old new Stands left taken standing draws =
+    record {
+      follows = λ ended. rw (standing.done ended, draws.idle ended) refl;
+      stays = draws.stays;
+    }
+
+taken_whole : (start now : Streams) (old new : Reading) (Stands : Said → List Event → Type 0) (left : Option (List ℕ)) (taken : List ℕ) → (s : Standing start now old Stands) → Draws old.feed new.feed now.left left taken → Took start.left left (s.front ++ (old.feed.pending ++ taken))
+taken_whole start now old new Stands left taken s draws =
+    let P : List ℕ → Type 0 = λ z. Took start.left left z in
+    subst P (append_assoc s.front old.feed.pending taken) (Took-append start.left now.left left (s.front ++ old.feed.pending) taken s.took draws.took)
+
+-- where the source said that nothing is left, nothing is left
+at_end : (start now : Streams) (old new : Reading) (Stands : Said → List Event → Type 0) (left : Option (List ℕ)) (taken : List ℕ) → Standing start now old Stands → Draws old.feed new.feed now.left left taken → new.feed.ended ≡ true → IsAtEnd left
+at_end start now old new Stands left taken standing draws ended = by_end (draws.«end» ended)
+  where
+    same_left : (a b : Option (List ℕ)) → Took a b [] → a ≡ b
+    same_left a None h = h
+    same_left a (Some xs) h = h
+
+    by_end : (old.feed.ended ≡ true) ⊎ IsAtEnd left → IsAtEnd left
+    by_end (inr h) = h
+    by_end (inl h) =
+        let P : List ℕ → Type 0 = λ z. Took now.left left z in
+        subst IsAtEnd (same_left now.left left (subst P (draws.idle h) draws.took)) (standing.«end» h)
+
+-- the input was read to its end
+pub ends_done : (start now : Streams) (old new : Reading) (Stands : Said → List Event → Type 0) (left : Option (List ℕ)) → Standing start now old Stands → ReadsLine old new now.left left (Ok false) → Outcome run_words start (record { left = left; held = now.held }) status.Done
+ends_done start now old new Stands left s reads =
+    let hand : AtHand old new (old.feed.pending ++ reads.taken) = at_hand start now old new Stands left reads.taken s reads.draws in
+    let input : List ℕ = s.front ++ (old.feed.pending ++ reads.taken) in
+    let script : script_of input ≡ record { ready = s.said.ready; events = s.events; refused = None } =
+    read_end s.front old new s.said s.events (old.feed.pending ++ reads.taken) s.read hand reads.finds.0 in (
+      input,
+      record {
+        took = taken_whole start now old new Stands left reads.taken s reads.draws;
+        wrote =
+            let P : Script → Type 0 = λ x. Grew start.held now.held (ended (lines_of (script_trace x)) x.refused).text in
+            subst P (sym script) s.wrote;
+        status = ap (λ x. (ended (lines_of (script_trace x)) x.refused).status) script;
+        agreed = script_agreed (script_of input);
+      },
+      at_end start now old new Stands left reads.taken s reads.draws reads.finds.0.ended,
+    )
+
+-- the reply to a script that is known
+reply_wrote : (held held' : Option (List ℕ)) (input : List ℕ) (script : Script) → script_of input ≡ script → Grew held held' (ended (lines_of (script_trace script)) script.refused).text → Grew held held' (run_reply input).text
+reply_wrote held held' input script same grew =
+    let P : Script → Type 0 = λ x. Grew held held' (ended (lines_of (script_trace x)) x.refused).text in
+    subst P (sym same) grew
+
+reply_partly : (held held' : Option (List ℕ)) (input : List ℕ) (script : Script) → script_of input ≡ script → GrewPartly held held' (ended (lines_of (script_trace script)) script.refused).text → GrewPartly held held' (run_reply input).text
+reply_partly held held' input script same grew =
+    let P : Script → Type 0 = λ x. GrewPartly held held' (ended (lines_of (script_trace x)) x.refused).text in
+    subst P (sym same) grew
+
+-- A line that was read is refused: a front of the input, the bytes behind it, and the script that ends there, whatever
+-- follows the front.
+pub record Ending (start now : Streams) (old new : Reading) (Stands : Said → List Event → Type 0) (left : Option (List ℕ)) (s : Standing start now old Stands) (bad : BadLine) : Type 0 where
+  pub taken : List ℕ
+  pub draws : Draws old.feed new.feed now.left left taken
+  pub done : new.feed.ended ≡ true → new.feed.pending ≡ []
+  pub front : List ℕ
+  pub whole : s.front ++ (old.feed.pending ++ taken) ≡ front ++ new.feed.pending
+  pub script : (more : List ℕ) → MayFollow new.feed more → script_of (front ++ more) ≡ record { ready = s.said.ready; events = s.events; refused = Some bad }
+
+front_whole : (front bytes piece pending : List ℕ) → bytes ≡ piece ++ pending → front ++ bytes ≡ (front ++ piece) ++ pending
+front_whole front bytes piece pending h = ap (λ b. front ++ b) h ∙ sym (append_assoc front piece pending)
+
+-- a line that is refused for its length or its bytes
+pub ending_bad : (start now : Streams) (old new : Reading) (Stands : Said → List Event → Type 0) (left : Option (List ℕ)) (s : Standing start now old Stands) (bad : BadLine) → ReadsLine old new now.left left (Err (fault.Bad bad)) → Ending start now old new Stands left s bad
+ending_bad start now old new Stands left s bad reads =
+    record {
+      taken = reads.taken;
+      draws = reads.draws;
+      done = reads.done;
+      front = s.front ++ reads.finds.front;
+      whole = front_whole s.front (old.feed.pending ++ reads.taken) reads.finds.front new.feed.pending reads.finds.whole;
+      script =
+          read_bad s.front old new s.said s.events (old.feed.pending ++ reads.taken) bad s.read
+          (at_hand start now old new Stands left reads.taken s reads.draws) reads.finds;
+    }
+
+-- a line that is refused for what it says, or where it stands
+pub ending_line : (start now : Streams) (old new : Reading) (Stands : Said → List Event → Type 0) (left : Option (List ℕ)) (s : Standing start now old Stands) (why : Reason) → ReadsLine old new now.left left (Ok true) → judged s.said new.text ≡ Err why → Ending start now old new Stands left s (record { line = new.lines; reason = why })
+ending_line start now old new Stands left s why reads judge =
+    record {
+      taken = reads.taken;
+      draws = reads.draws;
+      done = reads.done;
+      front = s.front ++ reads.finds.0.front;
+      whole = front_whole s.front (old.feed.pending ++ reads.taken) reads.finds.0.front new.feed.pending reads.finds.0.whole;
+      script =
+          read_refused s.front old new s.said s.events (old.feed.pending ++ reads.taken) why s.read
+          (at_hand start now old new Stands left reads.taken s reads.draws) reads.finds.0 judge;
+    }
+
+-- behind the end of the input nothing is pending
+pending_follows : (start now : Streams) (old new : Reading) (Stands : Said → List Event → Type 0) (left : Option (List ℕ)) (s : Standing start now old Stands) (bad : BadLine) → (r : Ending start now old new Stands left s bad) → script_of (s.front ++ (old.feed.pending ++ r.taken)) ≡ record { ready = s.said.ready; events = s.events; refused = Some bad }
+pending_follows start now old new Stands left s bad r =
+    ap script_of r.whole ∙ r.script new.feed.pending (λ e. r.done e)
+
+-- what comes behind a refused line can't change the reply, or it ended with the input
+settled : (start now : Streams) (old new : Reading) (Stands : Said → List Event → Type 0) (left : Option (List ℕ)) (s : Standing start now old Stands) (bad : BadLine) → (r : Ending start now old new Stands left s bad) → (b : Bool) → new.feed.ended ≡ b → IsSettled run_words (s.front ++ (old.feed.pending ++ r.taken)) ⊎ IsAtEnd left
+settled start now old new Stands left s bad r true ended = inr (at_end start now old new Stands left r.taken s r.draws ended)
+settled start now old new Stands left s bad r false open_ended =
+    inl (
+      r.front,
+      new.feed.pending,
+      r.whole,
+      λ more.
+          let goes_on : MayFollow new.feed more = λ ended. absurd (false≢true (sym open_ended ∙ ended)) in
+          ap (λ x. ended (lines_of (script_trace x)) x.refused) (r.script more goes_on ∙ sym (pending_follows start now old new Stands left s bad r)),
+    )
+
+-- the refusal was written
+pub ends_refused : (start now : Streams) (old new : Reading) (Stands : Said → List Event → Type 0) (left held : Option (List ℕ)) (s : Standing start now old Stands) (bad : BadLine) → Ending start now old new Stands left s bad → Grew now.held held (refusal_line bad) → Outcome run_words start (record { left = left; held = held }) status.Refused
+ends_refused start now old new Stands left held s bad r grew =
+    let input : List ℕ = s.front ++ (old.feed.pending ++ r.taken) in
+    let script : script_of input ≡ record { ready = s.said.ready; events = s.events; refused = Some bad } = pending_follows start now old new Stands left s bad r in (
+      input,
+      record {
+        took = taken_whole start now old new Stands left r.taken s r.draws;
+        wrote = reply_wrote start.held held input _ script (Grew-append start.held now.held held _ (refusal_line bad) s.wrote grew);
+        status = ap (λ x. (ended (lines_of (script_trace x)) x.refused).status) script;
+        agreed = script_agreed (script_of input);
+      },
+      settled start now old new Stands left s bad r new.feed.ended refl,
+    )
+
+-- the refusal could not be written whole
+pub cut_refused : (start now : Streams) (old new : Reading) (Stands : Said → List Event → Type 0) (left held : Option (List ℕ)) (s : Standing start now old Stands) (bad : BadLine) → Ending start now old new Stands left s bad → GrewPartly now.held held (refusal_line bad) → Outcome run_words start (record { left = left; held = held }) status.WriteFault
+cut_refused start now old new Stands left held s bad r grew =
+    let input : List ℕ = s.front ++ (old.feed.pending ++ r.taken) in (
+      input,
+      record {
+        took = taken_whole start now old new Stands left r.taken s r.draws;
+        wrote =
+            reply_partly start.held held input _ (pending_follows start now old new Stands left s bad r)
+            (GrewPartly-after start.held now.held held _ (refusal_line bad) s.wrote grew);
+        agreed = script_agreed (script_of input);
+      },
+    )
+
+-- what was written so far, where nothing more is
+cut_here : (start now : Streams) (old new : Reading) (Stands : Said → List Event → Type 0) (left : Option (List ℕ)) (taken : List ℕ) (s : Standing start now old Stands) → Draws old.feed new.feed now.left left taken → CutShort run_words start (record { left = left; held = now.held }) (s.front ++ (old.feed.pending ++ taken))
+cut_here start now old new Stands left taken s draws =
+    let hand : AtHand old new (old.feed.pending ++ taken) = at_hand start now old new Stands left taken s draws in
+    record {
+      took = taken_whole start now old new Stands left taken s draws;
+      wrote =
+          partly_replied start.held now.held s.front (old.feed.pending ++ taken) old s.said s.events s.tidy s.read hand.follows
+          (GrewPartly-whole start.held now.held _ s.wrote);
+      agreed = script_agreed (script_of (s.front ++ (old.feed.pending ++ taken)));
+    }
+
+-- a read failed
+pub ends_unread : (start now : Streams) (old new : Reading) (Stands : Said → List Event → Type 0) (left : Option (List ℕ)) (s : Standing start now old Stands) → ReadsLine old new now.left left (Err fault.ReadFault) → Outcome run_words start (record { left = left; held = now.held }) status.ReadFault
+ends_unread start now old new Stands left s reads =
+    (s.front ++ (old.feed.pending ++ reads.taken), cut_here start now old new Stands left reads.taken s reads.draws)
+
+-- the input is too long
+pub ends_too_long : (start now : Streams) (old new : Reading) (Stands : Said → List Event → Type 0) (left : Option (List ℕ)) (s : Standing start now old Stands) → ReadsLine old new now.left left (Err fault.TooLong) → Outcome run_words start (record { left = left; held = now.held }) status.TooLong
+unfolding bytes.lines_of
+ends_too_long start now old new Stands left s reads =
+    let f : FindsTooMany old (old.feed.pending ++ reads.taken) = reads.finds in
+    let hand : AtHand old new (old.feed.pending ++ reads.taken) = at_hand start now old new Stands left reads.taken s reads.draws in (
+      s.front ++ (old.feed.pending ++ reads.taken),
+      cut_here start now old new Stands left reads.taken s reads.draws,
+      record {
+        front = s.front ++ f.front;
+        unended = f.«open»;
+        rest = f.rest;
+        whole = ap (λ b. s.front ++ b) f.whole ∙ sym (append_assoc s.front f.front (f.«open» ++ f.rest));
+        full = simp length-append (omega (arith, s.given, f.full));
+        beyond = f.beyond;
+        inner = f.inner;
+        short = f.short;
+        unrefused =
+            ap (λ x. (ended (lines_of (script_trace x)) x.refused).status)
+            (ap (λ b. script_of (s.front ++ b)) (sym (append-nil f.front))
+            ∙ (s.read.script (f.front ++ []) (λ ended. absurd (some_bytes f hand ended))
+            ∙ ap (behind s.events) (
+            ap (script_from s.said (old.lines + 1)) (f.lines [])
+            ∙ (script_from-passed s.said f.passed (old.lines + 1) [] f.each ∙ script_from-none s.said (old.lines + 1 + length f.passed)))));
+      },
+    )
+  where
+    not_nothing : (front unended rest : List ℕ) → 0 < length rest → front ++ (unended ++ rest) ≡ [] → ⊥
+    not_nothing [] [] [] h e = absurd (omega arith)
+    not_nothing [] [] (b ∷ rest) h e = cc
+    not_nothing [] (b ∷ unended) rest h e = cc
+    not_nothing (b ∷ front) unended rest h e = cc
+
+    some_bytes : (f : FindsTooMany old (old.feed.pending ++ reads.taken)) → AtHand old new (old.feed.pending ++ reads.taken) → old.feed.ended ≡ true → ⊥
+    some_bytes f hand e = not_nothing f.front f.«open» f.rest f.beyond (sym f.whole ∙ hand.follows e)
+
+-- a line that says something, where it was read
+pub record Leads (start now : Streams) (old new : Reading) (Stands : Said → List Event → Type 0) (left : Option (List ℕ)) (s : Standing start now old Stands) (says : ScriptLine) : Type 0 where
+  pub reads : ReadsLine old new now.left left (Ok true)
+  pub judge : judged s.said new.text ≡ Ok (Some says)
+
+fact_is_first : (said : Said) (events : List Event) (text : List ℕ) (f : FactLine) → IsTidy said events → judged said text ≡ Ok (Some (line.Fact f)) → events ≡ []
+fact_is_first said events text f (inr none) judge = none
+fact_is_first said events text f (inl eventful) judge =
+    absurd (subst IsNoFact judge (no_fact_judged said eventful text))
+
+tidy_behind : (said : Said) (events : List Event) (text : List ℕ) → IsTidy said events → (says : ScriptLine) → judged said text ≡ Ok (Some says) → IsTidy (said_after said says) (events ++ event_of says)
+tidy_behind said events text tidy (line.Fact (fact.Set octets)) judge = inr (append-nil events ∙ fact_is_first said events text (fact.Set octets) tidy judge)
+tidy_behind said events text tidy (line.Event e) judge = inl refl
+
+-- the text of the lines so far, with one more line
+text_behind : (said : Said) (events : List Event) (text : List ℕ) → IsTidy said events → (says : ScriptLine) → judged said text ≡ Ok (Some says) → lines_of (played (said_after said says).ready (events ++ event_of says)) ≡ lines_of (played said.ready events) ++ lines_of (entries_of said events says)
+text_behind said events text tidy (line.Event e) judge =
+    ap lines_of (played-line said events (line.Event e)) ∙ lines_of-append (played said.ready events) (entries_of said events (line.Event e))
+text_behind said events text tidy (line.Fact (fact.Set octets)) judge =
+    let none : events ≡ [] = fact_is_first said events text (fact.Set octets) tidy judge in
+    ap lines_of (ap (played (Some octets)) (append-nil events ∙ none))
+    ∙ sym (ap (λ t. t ++ lines_of (entries_of said events (line.Fact (fact.Set octets)))) (ap lines_of (ap (played said.ready) none ∙ played-nothing said.ready))
+    ∙ ap lines_of (no_entries said.ready))
+  where
+    no_entries : (ready : Option (List ℕ)) → entries_in (world_behind ready events) (line.Fact (fact.Set octets)) ≡ []
+    no_entries None = refl
+    no_entries (Some o) = refl
+
+read_behind : (start now : Streams) (old new : Reading) (Stands : Said → List Event → Type 0) (left : Option (List ℕ)) (s : Standing start now old Stands) (says : ScriptLine) → (l : Leads start now old new Stands left s says) → ReadSoFar (s.front ++ l.reads.finds.0.front) new (said_after s.said says) (s.events ++ event_of says)
+read_behind start now old new Stands left s says l =
+    read_line s.front old new s.said s.events (old.feed.pending ++ l.reads.taken) says s.read
+    (at_hand start now old new Stands left l.reads.taken s l.reads.draws) l.reads.finds.0 l.judge
+
+-- the run stands behind one more line
+pub stands_behind : (start now : Streams) (old new : Reading) (Stands Next : Said → List Event → Type 0) (left held : Option (List ℕ)) (s : Standing start now old Stands) (says : ScriptLine) → Leads start now old new Stands left s says → Grew now.held held (lines_of (entries_of s.said s.events says)) → Next (said_after s.said says) (s.events ++ event_of says) → Standing start (record { left = left; held = held }) new Next
+stands_behind start now old new Stands Next left held s says l grew stands =
+    let f : FindsLine old new (old.feed.pending ++ l.reads.taken) = l.reads.finds.0 in
+    record {
+      front = s.front ++ f.front;
+      said = said_after s.said says;
+      events = s.events ++ event_of says;
+      took =
+          let P : List ℕ → Type 0 = λ z. Took start.left left z in
+          subst P (front_whole s.front (old.feed.pending ++ l.reads.taken) f.front new.feed.pending f.whole)
+          (taken_whole start now old new Stands left l.reads.taken s l.reads.draws);
+      given = simp length-append (omega (arith, s.given, f.given));
+      read = read_behind start now old new Stands left s says l;
+      wrote =
+          let P : List ℕ → Type 0 = λ t. Grew start.held held t in
+          subst P (sym (text_behind s.said s.events new.text s.tidy says l.judge)) (Grew-append start.held now.held held _ _ s.wrote grew);
+      stands = stands;
+      tidy = tidy_behind s.said s.events new.text s.tidy says l.judge;
+      alive = l.reads.finds.1;
+      done = l.reads.done;
+      «end» = λ e. at_end start now old new Stands left l.reads.taken s l.reads.draws e;
+    }
+
+-- the entries of a line could not be told whole
+pub cut_line : (start now : Streams) (old new : Reading) (Stands : Said → List Event → Type 0) (left held : Option (List ℕ)) (s : Standing start now old Stands) (says : ScriptLine) → Leads start now old new Stands left s says → GrewPartly now.held held (lines_of (entries_of s.said s.events says)) → (input : List ℕ) × CutShort run_words start (record { left = left; held = held }) input
+cut_line start now old new Stands left held s says l grew =
+    let f : FindsLine old new (old.feed.pending ++ l.reads.taken) = l.reads.finds.0 in
+    let whole : s.front ++ (old.feed.pending ++ l.reads.taken) ≡ (s.front ++ f.front) ++ new.feed.pending =
+    front_whole s.front (old.feed.pending ++ l.reads.taken) f.front new.feed.pending f.whole in (
+      (s.front ++ f.front) ++ new.feed.pending,
+      record {
+        took =
+            let P : List ℕ → Type 0 = λ z. Took start.left left z in
+            subst P whole (taken_whole start now old new Stands left l.reads.taken s l.reads.draws);
+        wrote =
+            partly_replied start.held held (s.front ++ f.front) new.feed.pending new (said_after s.said says) (s.events ++ event_of says)
+            (tidy_behind s.said s.events new.text s.tidy says l.judge) (read_behind start now old new Stands left s says l) l.reads.done
+            (let P : List ℕ → Type 0 = λ t. GrewPartly start.held held t in
+            subst P (sym (text_behind s.said s.events new.text s.tidy says l.judge)) (GrewPartly-after start.held now.held held _ _ s.wrote grew));
+        agreed = script_agreed (script_of ((s.front ++ f.front) ++ new.feed.pending));
+      },
+    )

@@ -1,0 +1,6 @@
+mod ScriptRead
+mod TextSoFar
+mod Endings
+mod Staged
+mod Turned
+mod Worded

@@ -1,0 +1,93 @@
+-- What is written for the lines so far is a front of the text of the reply, whatever follows.
+use Rattle.std.specs.Prelude.{◌≡◌, ℕ, ◌+◌, Bool, true, false, List, [], ◌∷◌, ◌++◌, length, Option, Some, None, Result, Ok, Err}
+use Rattle.std.proofs.Common.{sym, ◌∙◌, ap, refl, subst, append_assoc, inl, inr}
+use Rattle.std.proofs.lemmas.List.{append-nil}
+use Rattle.ivs_machine.specs.declared.facts.Facts.TheVariants as facts
+use Rattle.trace_text.specs.declared.entry.Entry.{Entry}
+use Rattle.trace_text.specs.declared.event.Event.{Event}
+use Rattle.trace_text.specs.declared.reason.Reason.{Reason}
+use Rattle.trace_text.specs.declared.reason.BadLine.{BadLine}
+use Rattle.trace_text.specs.declared.script.ScriptLine.{ScriptLine}
+use Rattle.trace_text.specs.declared.script.FactLine.TheVariants as fact
+use Rattle.trace_text.specs.declared.script.ScriptLine.TheVariants as line
+use Rattle.trace_text.specs.EntryLine.{lines_of}
+use Rattle.trace_text.specs.ListenerLaws.{lines_of-append}
+use Rattle.trace_text.specs.Script.{Said, Script, script_from, judged, said_after, in_front}
+use Rattle.channel_sim.specs.World.{World, step, first_world, trace_from, world_after}
+use Rattle.ecall_top.specs.Progress.{behind, event_of, entries_of, entries_in, world_behind, ReadSoFar}
+use Rattle.trace_text.specs.Lines as bytes
+use Rattle.trace_text.specs.Reading.{Reading, MayFollow}
+use Rattle.call_io.specs.Bytes.{GrewPartly}
+use Rattle.call_io.proofs.BytesLemmas.{GrewPartly-longer}
+use Rattle.ecall_top.specs.Reply.{played, script_trace, ended, Reply, refusal_line, run_reply}
+use Rattle.ecall_top.specs.Standing.{IsTidy}
+use Rattle.ecall_top.proofs.ScriptRead.{ready_kept}
+
+-- events one behind the other are traced one behind the other
+trace_from-append : (w : World) → (es fs : List Event) → trace_from w (es ++ fs) ≡ trace_from w es ++ trace_from (world_after w es) fs
+trace_from-append w [] fs = refl
+trace_from-append w (e ∷ es) fs =
+    ap (λ t. (step w e).entries ++ t) (trace_from-append (step w e).world es fs)
+    ∙ sym (append_assoc (step w e).entries (trace_from (step w e).world es) (trace_from (world_after (step w e).world es) fs))
+
+-- the entries of one more line stand behind those before it
+pub played-line : (said : Said) (events : List Event) → (says : ScriptLine) → played said.ready (events ++ event_of says) ≡ played said.ready events ++ entries_of said events says
+played-line said events says = by_ready said.ready says
+  where
+    by_ready : (ready : Option (List ℕ)) → (says : ScriptLine) → played ready (events ++ event_of says) ≡ played ready events ++ entries_in (world_behind ready events) says
+    by_ready None says = refl
+    by_ready (Some octets) (line.Fact f) =
+        ap (trace_from (first_world (facts.Ready octets))) (append-nil events) ∙ sym (append-nil (trace_from (first_world (facts.Ready octets)) events))
+    by_ready (Some octets) (line.Event e) =
+        trace_from-append (first_world (facts.Ready octets)) events (e ∷ [])
+        ∙ ap (λ t. trace_from (first_world (facts.Ready octets)) events ++ t) (append-nil (step (world_after (first_world (facts.Ready octets)) events) e).entries)
+
+-- a text that another begins with
+record Begins (a b : List ℕ) : Type 0 where
+  rest : List ℕ
+  whole : a ++ rest ≡ b
+
+begins_append : (a b c : List ℕ) → Begins a b → Begins a (b ++ c)
+begins_append a b c h = record { rest = h.rest ++ c; whole = sym (append_assoc a h.rest c) ∙ ap (λ t. t ++ c) h.whole }
+
+begins_ended : (a text : List ℕ) → (o : Option BadLine) → Begins a text → Begins a (ended text o).text
+begins_ended a text None h = h
+begins_ended a text (Some bad) h = begins_append a text (refusal_line bad) h
+
+pub played-nothing : (ready : Option (List ℕ)) → played ready [] ≡ []
+played-nothing None = refl
+played-nothing (Some octets) = refl
+
+played-append : (ready : Option (List ℕ)) (es fs : List Event) → Begins (lines_of (played ready es)) (lines_of (played ready (es ++ fs)))
+played-append None es fs = record { rest = []; whole = refl }
+played-append (Some octets) es fs =
+    let w : World = first_world (facts.Ready octets) in
+    record {
+      rest = lines_of (trace_from (world_after w es) fs);
+      whole = sym (ap lines_of (trace_from-append w es fs) ∙ lines_of-append (trace_from w es) (trace_from (world_after w es) fs));
+    }
+
+-- the text so far is a front of the text of the reply
+text_so_far : (said : Said) (events : List Event) → IsTidy said events → (texts : List (List ℕ)) (number : ℕ) → let script : Script = behind events (script_from said number texts) in Begins (lines_of (played said.ready events)) (ended (lines_of (script_trace script)) script.refused).text
+text_so_far said events (inl eventful) texts number =
+    let rest : Script = script_from said number texts in
+    begins_ended _ _ rest.refused
+    (subst (λ (r : Option (List ℕ)). Begins (lines_of (played said.ready events)) (lines_of (played r (events ++ rest.events))))
+    (sym (ready_kept said eventful texts number)) (played-append said.ready events rest.events))
+text_so_far said events (inr none) texts number =
+    record {
+      rest = (ended (lines_of (script_trace (behind events (script_from said number texts)))) (script_from said number texts).refused).text;
+      whole = ap (λ t. lines_of t ++ (ended (lines_of (script_trace (behind events (script_from said number texts)))) (script_from said number texts).refused).text) (ap (played said.ready) none ∙ played-nothing said.ready);
+    }
+
+begins_partly : (old new : Option (List ℕ)) (a b : List ℕ) → Begins a b → GrewPartly old new a → GrewPartly old new b
+begins_partly old new a b h grew =
+    let P : List ℕ → Type 0 = λ t. GrewPartly old new t in
+    subst P h.whole (GrewPartly-longer old new a h.rest grew)
+
+-- what was partly written for the lines so far is a front of the text of the reply to any input that begins with them
+pub partly_replied : (old new : Option (List ℕ)) (front more : List ℕ) (reading : Reading) (said : Said) (events : List Event) → IsTidy said events → ReadSoFar front reading said events → MayFollow reading.feed more → GrewPartly old new (lines_of (played said.ready events)) → GrewPartly old new (run_reply (front ++ more)).text
+partly_replied old new front more reading said events tidy read follows grew =
+    let P : Script → Type 0 = λ script. GrewPartly old new (ended (lines_of (script_trace script)) script.refused).text in
+    subst P (sym (read.script more follows))
+    (begins_partly old new (lines_of (played said.ready events)) _ (text_so_far said events tidy (bytes.lines_of more) (reading.lines + 1)) grew)

@@ -1,0 +1,68 @@
+-- What playing one line of a script comes to. This project's profile. Cited by the contracts of the functions that play
+-- a script, each by the part of the line that it sees.
+use Rattle.std.specs.Prelude.{◌≡◌, ℕ, ◌<◌, ◌≤◌, ◌⊎◌, List, [], ◌++◌, Option, Some, None, Result, Ok, Err}
+use Rattle.call_io.specs.Bytes.{Grew, GrewPartly}
+use Rattle.trace_text.specs.declared.event.Event.{Event}
+use Rattle.trace_text.specs.declared.fault.LineFault.{LineFault}
+use Rattle.trace_text.specs.declared.fault.LineFault.TheVariants as fault
+use Rattle.trace_text.specs.declared.reason.Reason.{Reason}
+use Rattle.trace_text.specs.declared.script.ScriptLine.{ScriptLine}
+use Rattle.trace_text.specs.EntryLine.{lines_of}
+use Rattle.trace_text.specs.Reading.{Reading}
+use Rattle.trace_text.specs.Script.{Said, said_after}
+use Rattle.ecall_top.specs.declared.run.Turn.{Turn}
+use Rattle.ecall_top.specs.declared.run.Turn.TheVariants as turn
+use Rattle.ecall_top.specs.declared.stage.Stage.{Stage}
+use Rattle.ecall_top.specs.declared.status.Status.{Status}
+use Rattle.ecall_top.specs.declared.status.Status.TheVariants as status
+use Rattle.ecall_top.specs.Outcome.{Streams, Outcome}
+use Rattle.ecall_top.specs.Progress.{event_of, entries_of}
+use Rattle.ecall_top.specs.Reply.{refusal_line, run_words}
+use Rattle.ecall_top.specs.Stage.{StageStandsFor, calls_in}
+use Rattle.ecall_top.specs.Standing.{Standing}
+
+-- a text was written whole, and this is the answer to that, or a part of it and writing failed
+abbrev pub Writes : (held held' : Option (List ℕ)) → List ℕ → (whole answer : Status) → Type 0
+Writes held held' text whole answer =
+    ((answer ≡ whole) × Grew held held' text) ⊎ ((answer ≡ status.WriteFault) × GrewPartly held held' text)
+
+-- what an answer says where a line couldn't be read: it is refused, or nothing more is written
+abbrev pub FailsWith : LineFault → (held held' : Option (List ℕ)) → (answer : Status) → Type 0
+FailsWith (fault.Bad bad) held held' answer = Writes held held' (refusal_line bad) status.Refused answer
+FailsWith fault.ReadFault held held' answer = (answer ≡ status.ReadFault) × (held' ≡ held)
+FailsWith fault.TooLong held held' answer = (answer ≡ status.TooLong) × (held' ≡ held)
+
+-- What a line says in its place, and what was told of it.
+pub record Told (place : Result (Option ScriptLine) Reason) (said : Said) (events : List Event) (Wrote : List ℕ → Type 0) : Type 0 where
+  pub says : ScriptLine
+  pub placed : place ≡ Ok (Some says)
+  pub wrote : Wrote (lines_of (entries_of said events says))
+
+-- Why a line is refused in its place, and what was written of it.
+pub record Refused (place : Result (Option ScriptLine) Reason) (number : ℕ) (Wrote : List ℕ → Type 0) : Type 0 where
+  pub why : Reason
+  pub placed : place ≡ Err why
+  pub wrote : Wrote (refusal_line (record { line = number; reason = why }))
+
+-- A line was played, and the stage stands for what was said behind it.
+pub record GoesOn (place : Result (Option ScriptLine) Reason) (said : Said) (events : List Event) (Wrote : List ℕ → Type 0) (calls : ℕ) (next : Stage) : Type 0 where
+  pub says : ScriptLine
+  pub placed : place ≡ Ok (Some says)
+  pub wrote : Wrote (lines_of (entries_of said events says))
+  pub stands : StageStandsFor next (said_after said says) (events ++ event_of says)
+  pub few : calls_in next ≤ calls
+
+-- what a line that was read comes to, by what it says in its place
+abbrev pub Plays : Result (Option ScriptLine) Reason → (number : ℕ) → Said → List Event → (calls : ℕ) → (held held' : Option (List ℕ)) → Turn → Type 0
+Plays place number said events calls held held' (turn.Next next) = GoesOn place said events (Grew held held') calls next
+Plays place number said events calls held held' (turn.End status.Refused) = Refused place number (Grew held held')
+Plays place number said events calls held held' (turn.End status.WriteFault) =
+    Refused place number (GrewPartly held held') ⊎ Told place said events (GrewPartly held held')
+Plays place number said events calls held held' (turn.End status.Memory) = Told place said events (GrewPartly held held')
+Plays place number said events calls held held' (turn.End _) = ⊥
+
+-- what a turn comes to: the run stands behind one more line, or it ended with this outcome
+abbrev pub Turns : (start now : Streams) → (old new : Reading) → Turn → Type 0
+Turns start now old new (turn.Next next) =
+    Standing start now new (StageStandsFor next) × (calls_in next ≤ new.lines) × (old.lines < new.lines) × (new.lines ≤ 16777216)
+Turns start now old new (turn.End answer) = Outcome run_words start now answer

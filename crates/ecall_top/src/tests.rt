@@ -1,0 +1,225 @@
+//! What no clause says: that the words of the definitions mean what the protocol's description says, on traces worked
+//! out by hand, and that a run does not give up while memory is at hand.
+
+ghost use Rattle.std.specs.Prelude.{◌<◌};
+
+use crate::{Status, ecall};
+use call_io::{MemSink, MemSource};
+use std::alloc::{AllocError, Global};
+use std::test::Fail;
+
+/// A set of data, and the digits of its 140 octets, for which `H` stands in the expected lines.
+const SET: &str = "set 02000681d54970d65c3597ca0420c414640af05f080452e9960413e2550168\n";
+
+const DIGITS: &str = "02000681d54970d65c3597ca0420c414640af05f080452e9960413e2550168";
+
+const ZEROS: &str =
+    "00000000000000000000000000000000000000000000000000000000000000000000000000000000000000000000000000000000000000000000000000000000000000000000000000000000000000000000000000000000000000000000000000000000000000000000000000";
+
+/// The first call: one set goes from the vehicle to the point, is shown and acknowledged.
+const CALL: &str =
+    "trigger auto\nanswer\ndeliver up 1 1\ndeliver down 1 1\ndeliver up 1 2\ndeliver down 1 2\ndeliver down 1 3\n";
+
+const CALL_TRACE: &str =
+    "0 dial 1\n0 up vehicle 1\n0 voice vehicle 1 muted muted\n0 send vehicle 1 init\n0 up point 1\n0 voice point 1 muted muted\n0 send point 1 start 1\n0 send vehicle 1 data 1 0 H\n0 shown 1 1 H\n0 send point 1 ack 1\n0 send point 1 app 1 positive\n0 acked 1 1 H\n0 voice vehicle 1 open open\n";
+
+/// What the trace has when the call is up.
+const UP: &str =
+    "0 dial 1\n0 up vehicle 1\n0 voice vehicle 1 muted muted\n0 send vehicle 1 init\n0 up point 1\n0 voice point 1 muted muted\n";
+
+/// Text with the digits of the set in place of each `H`.
+fn expand(alloc: Global, text: &str) -> Result<String, AllocError> {
+    let mut all = String::new(alloc);
+    for c in text.chars() {
+        if c == 'H' {
+            all.push_str(DIGITS)?;
+            all.push_str(ZEROS)?;
+        } else {
+            all.push(c)?;
+        }
+    }
+    Ok(all)
+}
+
+/// A source of these pieces of text, at most so many bytes a call.
+fn source(
+    alloc: Global,
+    pieces: &[&str],
+    most: usize,
+    fails: Vec<u64>,
+) -> Result<MemSource, AllocError>
+    requires { 0 < most }
+{
+    let mut bytes = Vec::new(alloc);
+    for piece in pieces {
+        bytes.extend_from_slice(piece.as_bytes())?;
+    }
+    Ok(MemSource::new(bytes, most, fails))
+}
+
+/// Carries out these words, one by one behind single spaces.
+fn call(
+    alloc: Global,
+    words: &str,
+    input: &mut MemSource,
+    output: &mut MemSink,
+) -> Result<Status, AllocError> {
+    let mut list = Vec::new(alloc);
+    for word in words.split(' ') {
+        list.push(String::from_str(alloc, word)?)?;
+    }
+    Ok(ecall(alloc, &list, input, output))
+}
+
+/// A sink with room for any run here.
+fn sink(alloc: Global, fails: Vec<u64>) -> Result<MemSink, Fail> {
+    Ok(MemSink::new(alloc, 20_000, fails)?)
+}
+
+#[test]
+fn plays_scripts(rt: HostRuntime) -> Result<(), Fail> {
+    let alloc = rt.alloc();
+    // Each script stands behind a `set` line.
+    let table = [
+        (CALL, Status::Done, CALL_TRACE, ""),
+        // Frames before any call, to a call that doesn't exist, and that were never sent.
+        (
+            "deliver up 1 1\nanswer\ntrigger auto\ntrigger auto\nanswer\ndeliver down 2 1\ndeliver down 1 1\ndeliver up 2 1\ndeliver up 1 2\n",
+            Status::Done,
+            "0 nothing\n0 nothing\n0 dial 1\n0 nothing\n0 up vehicle 1\n0 voice vehicle 1 muted muted\n0 send vehicle 1 init\n0 up point 1\n0 voice point 1 muted muted\n",
+            "0 nothing\n0 nothing\n0 nothing\n0 nothing\n",
+        ),
+        // Frames twice, late, and out of order: the application acknowledgement overtakes the other.
+        (
+            "trigger auto\nanswer\ndeliver up 1 1\ndeliver up 1 1\ndeliver down 1 1\ndeliver down 1 1\ndeliver up 1 2\ndeliver up 1 2\ndeliver down 1 3\ndeliver down 1 2\ndeliver down 1 4\n",
+            Status::Done,
+            UP,
+            "0 send point 1 start 1\n0 send vehicle 1 data 1 0 H\n0 shown 1 1 H\n0 send point 1 ack 1\n0 send point 1 app 1 positive\n0 send point 1 ack 1\n0 acked 1 1 H\n0 voice vehicle 1 open open\n",
+        ),
+        // A fact line behind an event line, and an unknown word, behind comments and empty lines.
+        (
+            "trigger auto\n\n# late\nset 00\n",
+            Status::Refused,
+            "0 dial 1\n",
+            "refused 5 8\n",
+        ),
+        (
+            "# a comment\n\nhello\n",
+            Status::Refused,
+            "",
+            "refused 4 1\n",
+        ),
+    ];
+    for (script, status, first, then) in &table {
+        let mut input = source(alloc, &[SET, script], 4096, Vec::new(alloc))?;
+        let mut output = sink(alloc, Vec::new(alloc))?;
+        let answer = call(alloc, "run", &mut input, &mut output)?;
+        assert_eq!(rt; answer, *status, "{script}");
+        let mut want = expand(alloc, first)?;
+        want.push_str(expand(alloc, then)?.as_str())?;
+        assert_eq!(rt; output.bytes(), want.as_bytes(), "{script}");
+    }
+    Ok(())
+}
+
+#[test]
+fn refuses_and_ends(rt: HostRuntime) -> Result<(), Fail> {
+    let alloc = rt.alloc();
+    let usage = "usage: ecall run|register|decode|encode|frames|replay|trial N|make N|conform\n";
+    let table = [
+        ("run", "hello", Status::Refused, "refused 1 1\n"),
+        ("run", "trigger auto", Status::Refused, "refused 1 7\n"),
+        ("run", "", Status::Done, ""),
+        ("run", "\n\n# nothing\n", Status::Done, ""),
+        ("run fast", "", Status::Usage, usage),
+        ("decode", "", Status::Usage, usage),
+        ("--help", "", Status::Usage, usage),
+        ("", "", Status::Usage, usage),
+    ];
+    for (words, script, status, text) in &table {
+        let mut input = source(alloc, &[script], 4096, Vec::new(alloc))?;
+        let mut output = sink(alloc, Vec::new(alloc))?;
+        let answer = call(alloc, words, &mut input, &mut output)?;
+        assert_eq!(rt; answer, *status, "{words}: {script}");
+        assert_eq!(rt; output.bytes(), text.as_bytes(), "{words}: {script}");
+    }
+    Ok(())
+}
+
+#[test]
+fn reads_a_byte_at_a_time(rt: HostRuntime) -> Result<(), Fail> {
+    let alloc = rt.alloc();
+    let want = expand(alloc, CALL_TRACE)?;
+    let mut input = source(alloc, &[SET, CALL], 1, Vec::new(alloc))?;
+    let mut output = sink(alloc, Vec::new(alloc))?;
+    assert_eq!(rt; call(alloc, "run", &mut input, &mut output)?, Status::Done);
+    assert_eq!(rt; output.bytes(), want.as_bytes());
+    Ok(())
+}
+
+#[test]
+fn stops_at_each_failed_write(rt: HostRuntime) -> Result<(), Fail> {
+    let alloc = rt.alloc();
+    let want = expand(alloc, CALL_TRACE)?;
+    for fail in 1u64..=13 {
+        let mut input = source(alloc, &[SET, CALL], 4096, Vec::new(alloc))?;
+        let mut fails = Vec::new(alloc);
+        fails.push(fail)?;
+        let mut output = sink(alloc, fails)?;
+        let answer = call(alloc, "run", &mut input, &mut output)?;
+        assert_eq!(rt; answer, Status::WriteFault, "write {fail}");
+        assert!(rt; want.as_bytes().starts_with(output.bytes()), "write {fail}");
+        // Each line is one write, so the lines before the failed one stand.
+        let lines = output.bytes().iter().filter(|b| **b == b'\n').count();
+        assert_eq!(rt; lines as u64 + 1, fail);
+    }
+    Ok(())
+}
+
+#[test]
+fn stops_at_each_failed_read(rt: HostRuntime) -> Result<(), Fail> {
+    let alloc = rt.alloc();
+    let want = expand(alloc, CALL_TRACE)?;
+    // One read for each byte of the script, and one that finds its end.
+    let reads = (SET.len() + CALL.len() + 1) as u64;
+    for fail in 1..=reads {
+        let mut fails = Vec::new(alloc);
+        fails.push(fail)?;
+        let mut input = source(alloc, &[SET, CALL], 1, fails)?;
+        let mut output = sink(alloc, Vec::new(alloc))?;
+        let answer = call(alloc, "run", &mut input, &mut output)?;
+        assert_eq!(rt; answer, Status::ReadFault, "read {fail}");
+        assert!(rt; want.as_bytes().starts_with(output.bytes()), "read {fail}");
+    }
+    Ok(())
+}
+
+#[test]
+fn takes_no_more_than_its_bytes(rt: HostRuntime) -> Result<(), Fail> {
+    let alloc = rt.alloc();
+    for (more, status) in [(0, Status::Done), (1, Status::TooLong)] {
+        let newlines = vec![in alloc; b'\n'; 16_777_216 + more]?;
+        let mut input = MemSource::new(newlines, 65_536, Vec::new(alloc));
+        let mut output = sink(alloc, Vec::new(alloc))?;
+        assert_eq!(rt; call(alloc, "run", &mut input, &mut output)?, status);
+        assert!(rt; output.bytes().is_empty());
+    }
+    Ok(())
+}
+
+#[test]
+fn numbers_its_statuses(rt: HostRuntime) {
+    let all = [
+        Status::Done,
+        Status::Usage,
+        Status::Refused,
+        Status::Broken,
+        Status::ReadFault,
+        Status::WriteFault,
+        Status::Memory,
+        Status::TooLong,
+    ];
+    for (i, status) in all.iter().enumerate() {
+        assert_eq!(rt; status.code() as usize, i);
+    }
+}
