@@ -4,7 +4,7 @@ demo: build
 	crates/ecall/out/ecall run < examples/first-call.script
 
 build:
-	cd crates/ecall && rt run
+	cd crates/ecall && rt run -- run < /dev/null
 
 test:
 	rt ci

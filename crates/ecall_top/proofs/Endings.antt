@@ -1,6 +1,6 @@
 -- How a run ends, from where it stands and what the last line's reading and writing left.
-use Rattle.std.specs.Prelude.{◌≡◌, ℕ, ◌+◌, ◌<◌, ◌≤◌, ◌⊎◌, Bool, true, false, List, [], ◌∷◌, ◌++◌, length, Option, Some, None, Result, Ok, Err}
-use Rattle.std.specs.Io.KnownBytes.{IsAtEnd, prepend_known}
+use Rattle.std.specs.Prelude.{◌≡◌, ℕ, ◌+◌, ◌<◌, ◌⊎◌, Bool, true, false, List, [], ◌∷◌, ◌++◌, length, Option, Some, None, Ok, Err}
+use Rattle.std.specs.Io.KnownBytes.{IsAtEnd}
 use Rattle.std.proofs.Common.{sym, ◌∙◌, ap, refl, subst, append_assoc, inl, inr, arith, length-append}
 use Rattle.std.proofs.lemmas.List.{append-nil}
 use Rattle.std.proofs.lemmas.Bool.{false≢true}
@@ -9,7 +9,6 @@ use Rattle.call_io.proofs.BytesLemmas.{Took-append, Took-nothing, Grew-nothing, 
 use Rattle.trace_text.specs.declared.event.Event.{Event}
 use Rattle.trace_text.specs.declared.reason.Reason.{Reason}
 use Rattle.trace_text.specs.declared.reason.BadLine.{BadLine}
-use Rattle.trace_text.specs.declared.fault.LineFault.{LineFault}
 use Rattle.trace_text.specs.declared.fault.LineFault.TheVariants as fault
 use Rattle.trace_text.specs.declared.script.ScriptLine.{ScriptLine}
 use Rattle.trace_text.specs.declared.script.FactLine.{FactLine}
@@ -19,16 +18,15 @@ use Rattle.trace_text.specs.EntryLine.{lines_of}
 use Rattle.trace_text.specs.ListenerLaws.{lines_of-append}
 use Rattle.trace_text.specs.Feed.{Draws}
 use Rattle.trace_text.specs.Lines as bytes
-use Rattle.trace_text.specs.Reading.{Reading, MayFollow, first_reading, FindsLine, FindsEnd, FindsBad, FindsTooMany, ReadsLine}
+use Rattle.trace_text.specs.Reading.{Reading, MayFollow, first_reading, FindsLine, FindsTooMany, ReadsLine}
 use Rattle.trace_text.specs.Safety.{Agreed}
 use Rattle.trace_text.specs.Script.{Said, Script, script_of, script_from, judged, said_after, nothing_said}
 use Rattle.channel_sim.proofs.FitKept.{trace_agreed}
 use Rattle.ivs_machine.specs.declared.facts.Facts.TheVariants as facts
-use Rattle.ecall_top.specs.declared.status.Status.{Status}
 use Rattle.ecall_top.specs.declared.status.Status.TheVariants as status
-use Rattle.ecall_top.specs.Outcome.{Streams, Answered, CutShort, IsSettled, IsTooLong, Outcome}
+use Rattle.ecall_top.specs.Outcome.{Streams, CutShort, IsSettled, Outcome}
 use Rattle.ecall_top.specs.Progress.{ReadSoFar, behind, event_of, entries_of, entries_in, world_behind}
-use Rattle.ecall_top.specs.Reply.{played, script_trace, ended, run_words, run_reply, reply, refusal_line}
+use Rattle.ecall_top.specs.Reply.{played, script_trace, ended, run_words, run_reply, refusal_line}
 use Rattle.ecall_top.specs.Standing.{Standing, IsTidy}
 use Rattle.ecall_top.proofs.ScriptRead.{AtHand, read_line, read_refused, read_bad, read_end, script_from-passed, script_from-none, no_fact_judged, IsNoFact}
 use Rattle.ecall_top.proofs.TextSoFar.{played-line, played-nothing, partly_replied}

@@ -1,18 +1,15 @@
 -- The script of a whole text is what its lines say, read one after another.
 use Rattle.std.specs.Prelude.{◌≡◌, ℕ, ◌+◌, Bool, true, false, cond, List, [], ◌∷◌, ◌++◌, length, Option, Some, None, Result, Ok, Err}
 use Rattle.std.specs.List.{AllByRecursion}
-use Rattle.std.proofs.Common.{sym, ◌∙◌, ap, refl, arith, subst, append_assoc, suc, ◌-◌}
+use Rattle.std.proofs.Common.{sym, ◌∙◌, ap, refl, arith, subst, append_assoc}
 use Rattle.std.proofs.lemmas.List.{append-nil}
 use Rattle.trace_text.specs.declared.event.Event.{Event}
 use Rattle.trace_text.specs.declared.reason.Reason.{Reason}
 use Rattle.trace_text.specs.declared.reason.BadLine.{BadLine}
 use Rattle.trace_text.specs.declared.script.ScriptLine.{ScriptLine}
-use Rattle.trace_text.specs.declared.script.FactLine.{FactLine}
 use Rattle.trace_text.specs.declared.reason.Reason.TheVariants as reason
-use Rattle.trace_text.specs.declared.script.FactLine.TheVariants as fact
 use Rattle.trace_text.specs.declared.script.ScriptLine.TheVariants as line
-use Rattle.trace_text.specs.Feed.{Feed}
-use Rattle.trace_text.specs.Lines.{Numbered, lines_of, line_fault, is_comment, IsPassedOver, IsLine}
+use Rattle.trace_text.specs.Lines.{lines_of, line_fault, is_comment, IsPassedOver, IsLine}
 use Rattle.trace_text.specs.Reading.{Reading, MayFollow, FindsLine, FindsEnd, FindsBad}
 use Rattle.trace_text.specs.Script.{Said, Script, script_of, script_from, script_line, judged, placed, placed_line, said_after, in_front}
 use Rattle.ecall_top.specs.Progress.{behind, ReadSoFar, event_of}

@@ -1,5 +1,5 @@
 -- What an event does to a stage follows from what it does in the world.
-use Rattle.std.specs.Prelude.{◌≡◌, ℕ, ◌+◌, ◌≤◌, true, false, List, [], ◌∷◌, ◌++◌, Option, Some, None, Result, Ok, Err}
+use Rattle.std.specs.Prelude.{◌≡◌, ℕ, ◌≤◌, true, List, [], ◌∷◌, ◌++◌, Option, Some, None, Result, Ok, Err}
 use Rattle.std.proofs.Common.{sym, ap, refl, subst, arith, ◌∙◌}
 use Rattle.ivs_machine.specs.declared.facts.Facts.TheVariants as facts
 use Rattle.trace_text.specs.declared.entry.Entry.{Entry}
@@ -8,7 +8,7 @@ use Rattle.trace_text.specs.declared.reason.Reason.{Reason}
 use Rattle.trace_text.specs.declared.reason.Reason.TheVariants as reason
 use Rattle.trace_text.specs.declared.script.ScriptLine.{ScriptLine}
 use Rattle.trace_text.specs.declared.script.ScriptLine.TheVariants as line
-use Rattle.trace_text.specs.Script.{Said, placed, said_after}
+use Rattle.trace_text.specs.Script.{Said, placed}
 use Rattle.channel_sim.specs.declared.world.World.{World}
 use Rattle.channel_sim.specs.World as model
 use Rattle.channel_sim.specs.World.{first_world, world_after, step}
@@ -17,7 +17,7 @@ use Rattle.ecall_top.specs.declared.stage.Stage.{Stage}
 use Rattle.ecall_top.specs.declared.stage.Stage.TheVariants as stage
 use Rattle.ecall_top.specs.declared.stage.Halt.{Halt}
 use Rattle.ecall_top.specs.declared.stage.Halt.TheVariants as halt
-use Rattle.ecall_top.specs.Progress.{event_of, entries_of, entries_in, world_behind}
+use Rattle.ecall_top.specs.Progress.{entries_in, world_behind}
 use Rattle.ecall_top.specs.Stage.{StageStandsFor, Obeys, PlaysEvent, calls_in}
 
 -- the world behind one more event

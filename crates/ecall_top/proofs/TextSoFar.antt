@@ -1,25 +1,22 @@
 -- What is written for the lines so far is a front of the text of the reply, whatever follows.
-use Rattle.std.specs.Prelude.{◌≡◌, ℕ, ◌+◌, Bool, true, false, List, [], ◌∷◌, ◌++◌, length, Option, Some, None, Result, Ok, Err}
+use Rattle.std.specs.Prelude.{◌≡◌, ℕ, ◌+◌, List, [], ◌∷◌, ◌++◌, Option, Some, None}
 use Rattle.std.proofs.Common.{sym, ◌∙◌, ap, refl, subst, append_assoc, inl, inr}
 use Rattle.std.proofs.lemmas.List.{append-nil}
 use Rattle.ivs_machine.specs.declared.facts.Facts.TheVariants as facts
-use Rattle.trace_text.specs.declared.entry.Entry.{Entry}
 use Rattle.trace_text.specs.declared.event.Event.{Event}
-use Rattle.trace_text.specs.declared.reason.Reason.{Reason}
 use Rattle.trace_text.specs.declared.reason.BadLine.{BadLine}
 use Rattle.trace_text.specs.declared.script.ScriptLine.{ScriptLine}
-use Rattle.trace_text.specs.declared.script.FactLine.TheVariants as fact
 use Rattle.trace_text.specs.declared.script.ScriptLine.TheVariants as line
 use Rattle.trace_text.specs.EntryLine.{lines_of}
 use Rattle.trace_text.specs.ListenerLaws.{lines_of-append}
-use Rattle.trace_text.specs.Script.{Said, Script, script_from, judged, said_after, in_front}
+use Rattle.trace_text.specs.Script.{Said, Script, script_from}
 use Rattle.channel_sim.specs.World.{World, step, first_world, trace_from, world_after}
 use Rattle.ecall_top.specs.Progress.{behind, event_of, entries_of, entries_in, world_behind, ReadSoFar}
 use Rattle.trace_text.specs.Lines as bytes
 use Rattle.trace_text.specs.Reading.{Reading, MayFollow}
 use Rattle.call_io.specs.Bytes.{GrewPartly}
 use Rattle.call_io.proofs.BytesLemmas.{GrewPartly-longer}
-use Rattle.ecall_top.specs.Reply.{played, script_trace, ended, Reply, refusal_line, run_reply}
+use Rattle.ecall_top.specs.Reply.{played, script_trace, ended, refusal_line, run_reply}
 use Rattle.ecall_top.specs.Standing.{IsTidy}
 use Rattle.ecall_top.proofs.ScriptRead.{ready_kept}
 

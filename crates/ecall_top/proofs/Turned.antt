@@ -1,14 +1,12 @@
 -- What a turn of a run comes to, by how the line was read and played.
-use Rattle.std.specs.Prelude.{◌≡◌, ℕ, ◌+◌, ◌<◌, ◌≤◌, ◌⊎◌, true, false, List, [], ◌++◌, length, Option, Some, None, Result, Ok, Err}
+use Rattle.std.specs.Prelude.{◌≡◌, ℕ, ◌+◌, ◌≤◌, true, List, Option, Result, Ok, Err}
 use Rattle.std.proofs.Common.{sym, ap, refl, subst, arith, ◌∙◌, inl, inr}
-use Rattle.call_io.specs.Bytes.{Grew, GrewPartly}
 use Rattle.trace_text.specs.declared.event.Event.{Event}
 use Rattle.trace_text.specs.declared.reason.Reason.{Reason}
 use Rattle.trace_text.specs.declared.reason.BadLine.{BadLine}
 use Rattle.trace_text.specs.declared.fault.LineFault.{LineFault}
 use Rattle.trace_text.specs.declared.fault.LineFault.TheVariants as fault
 use Rattle.trace_text.specs.declared.script.ScriptLine.{ScriptLine}
-use Rattle.trace_text.specs.EntryLine.{lines_of}
 use Rattle.trace_text.specs.Lines.{Numbered}
 use Rattle.trace_text.specs.Reading.{Reading, ReadsLine}
 use Rattle.trace_text.specs.Script.{Said, judged, placed, placed_line, script_line, script_answer}
@@ -25,9 +23,9 @@ use Rattle.ecall_top.specs.declared.stage.Halt.TheVariants as halt
 use Rattle.trace_text.specs.declared.text_out.TextOut.{TextOut}
 use Rattle.trace_text.specs.Listener.{TextGrew, TextGrewPartly, sink_name}
 use Rattle.ecall_top.specs.Standing.{Standing}
-use Rattle.ecall_top.specs.Turns.{Writes, FailsWith, Told, Refused, GoesOn, Plays, Turns}
+use Rattle.ecall_top.specs.Turns.{Writes, FailsWith, Plays, Turns}
 use Rattle.ecall_top.proofs.ScriptRead.{judged-line}
-use Rattle.ecall_top.proofs.Endings.{Leads, Ending, ending_bad, ending_line, ends_refused, cut_refused, ends_unread, ends_too_long, stands_behind, cut_line}
+use Rattle.ecall_top.proofs.Endings.{ending_bad, ending_line, ends_refused, cut_refused, ends_unread, ends_too_long, stands_behind, cut_line}
 
 -- what is read in a line is what it says
 answer_ok : (line : Numbered) (says : ScriptLine) → (r : Result ScriptLine Reason) → Ok says ≡ script_answer line r → r ≡ Ok says

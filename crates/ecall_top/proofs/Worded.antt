@@ -1,13 +1,13 @@
 -- What an answer says, by the words.
-use Rattle.std.specs.Prelude.{◌≡◌, ℕ, Bool, true, false, List, [], ◌∷◌, Option, codes, cond}
-use Rattle.std.proofs.Common.{sym, ap, subst, inl, inr, ◌∙◌}
+use Rattle.std.specs.Prelude.{◌≡◌, ℕ, false, List, [], Option, cond}
+use Rattle.std.proofs.Common.{sym, ap, subst, inl, inr}
 use Rattle.call_io.specs.Bytes.{Grew, GrewPartly}
 use Rattle.call_io.proofs.BytesLemmas.{Took-nothing}
 use Rattle.trace_text.specs.Script.{script_of}
 use Rattle.ecall_top.specs.declared.status.Status.{Status}
 use Rattle.ecall_top.specs.declared.status.Status.TheVariants as status
-use Rattle.ecall_top.specs.Outcome.{Streams, Answered, CutShort, Outcome}
-use Rattle.ecall_top.specs.Reply.{Reply, reply, run_reply, run_words, is_run, usage_line}
+use Rattle.ecall_top.specs.Outcome.{Outcome}
+use Rattle.ecall_top.specs.Reply.{Reply, reply, run_reply, is_run, usage_line}
 use Rattle.ecall_top.specs.Turns.{Writes}
 use Rattle.ecall_top.proofs.Endings.{script_agreed}
 

@@ -1,6 +1,6 @@
 -- What `ecall` replies to words and a whole input: the text that it writes and the status that it answers. This
 -- project's profile. Cited by the contract of `ecall`.
-use Rattle.std.specs.Prelude.{ℕ, Bool, true, false, List, [], ◌∷◌, ◌++◌, Option, Some, None, codes, decimal, if◌then◌else◌}
+use Rattle.std.specs.Prelude.{ℕ, Bool, false, List, [], ◌∷◌, ◌++◌, Option, Some, None, codes, decimal, if◌then◌else◌}
 use Rattle.std.specs.Str.{bytes_eq}
 use Rattle.ivs_machine.specs.declared.facts.Facts.TheVariants as facts
 use Rattle.trace_text.specs.declared.entry.Entry.{Entry}

@@ -1,6 +1,6 @@
 -- What a script that is being played has come to, and what one more line makes of it. This project's profile. Cited by
 -- the contracts of `Stage` and of the functions that play a script.
-use Rattle.std.specs.Prelude.{◌≡◌, ℕ, ◌+◌, ◌≤◌, true, false, List, [], ◌++◌, Option, Some, None, Result, Ok, Err}
+use Rattle.std.specs.Prelude.{◌≡◌, ℕ, ◌+◌, ◌≤◌, true, false, List, [], ◌++◌, Some, Result, Ok, Err}
 use Rattle.ivs_machine.specs.declared.facts.Facts.TheVariants as facts
 use Rattle.trace_text.specs.declared.entry.Entry.{Entry}
 use Rattle.trace_text.specs.declared.event.Event.{Event}

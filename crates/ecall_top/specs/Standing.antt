@@ -1,6 +1,6 @@
 -- Where a run stands between two lines of its script: what it took and wrote since it began, what the lines said, and
 -- what stands for that. This project's profile. Cited by the contracts of the functions that play a script.
-use Rattle.std.specs.Prelude.{◌≡◌, ℕ, ◌⊎◌, true, false, List, [], ◌++◌, length, Option, Some}
+use Rattle.std.specs.Prelude.{◌≡◌, ℕ, ◌⊎◌, true, false, List, [], ◌++◌, length}
 use Rattle.std.specs.Io.KnownBytes.{IsAtEnd}
 use Rattle.call_io.specs.Bytes.{Took, Grew}
 use Rattle.trace_text.specs.declared.event.Event.{Event}

@@ -1,6 +1,6 @@
 -- What playing one line of a script comes to. This project's profile. Cited by the contracts of the functions that play
 -- a script, each by the part of the line that it sees.
-use Rattle.std.specs.Prelude.{◌≡◌, ℕ, ◌<◌, ◌≤◌, ◌⊎◌, List, [], ◌++◌, Option, Some, None, Result, Ok, Err}
+use Rattle.std.specs.Prelude.{◌≡◌, ℕ, ◌<◌, ◌≤◌, ◌⊎◌, List, ◌++◌, Option, Some, Result, Ok, Err}
 use Rattle.call_io.specs.Bytes.{Grew, GrewPartly}
 use Rattle.trace_text.specs.declared.event.Event.{Event}
 use Rattle.trace_text.specs.declared.fault.LineFault.{LineFault}
