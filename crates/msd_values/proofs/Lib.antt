@@ -1,0 +1,4 @@
+pub mod Chains
+pub mod CivilFacts
+pub mod PassedFacts
+pub mod VinFacts

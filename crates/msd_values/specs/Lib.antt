@@ -1,0 +1,10 @@
+pub mod Additions
+pub mod Alphabet
+pub mod Civil
+pub mod Clock
+pub mod Description
+pub mod Position
+pub mod Remarks
+pub mod Texts
+pub mod Vin
+pub mod Waiting

@@ -1,0 +1,91 @@
+//! The lines of the additional data and of the remarks.
+ghost use Rattle.std.specs.Prelude.{◌+◌, ◌≤◌, ◌∷◌, [], ◌++◌, length, codes};
+ghost use Rattle.arrayvec.specs.ArrayVec.{array_vec_len};
+ghost use Rattle.per_bits.specs.Bits.{octets_of};
+ghost use Rattle.msd_values.specs.Description.{line, remarks_line};
+ghost use Rattle.msd_values.specs.Texts.{or_none, content_text, extra_text, word_if, remarks_text};
+ghost use Rattle.msd_values.specs.Waiting.{Appends};
+
+use crate::msd::{Extra, Msd};
+use crate::octets::put_hex;
+use crate::page::{PAGE, Page, put};
+use crate::remarks::{Remarks, find_remarks};
+use per_bits::Octs;
+
+// Puts the data, or a hyphen where there are none.
+fn put_content(page: &mut Page, content: &Octs<'_>)
+    requires { array_vec_len page.old + 254 ≤ PAGE }
+    ensures items { Appends page.old.items page.new.items (content_text (octets_of content.now.bits)) }
+    ensures len { array_vec_len page.new ≤ array_vec_len page.old + 254 }
+{
+    if content.count() == 0 {
+        put(page, b"-");
+    } else {
+        put_hex(page, content);
+    }
+}
+
+// Puts the object identifier and the data.
+fn put_extra_text(page: &mut Page, extra: &Extra<'_>)
+    requires { array_vec_len page.old + 509 ≤ PAGE }
+    ensures items { Appends page.old.items page.new.items (extra_text extra.now) }
+    ensures len { array_vec_len page.new ≤ array_vec_len page.old + 509 }
+{
+    put_hex(page, &extra.oid.octs());
+    put(page, b" ");
+    put_content(page, &extra.content);
+}
+
+/// Puts the line of the additional data.
+pub fn put_extra(page: &mut Page, extra: &Option<Extra<'_>>)
+    requires { array_vec_len page.old ≤ 640 }
+    ensures items { Appends page.old.items page.new.items (line (codes "extra") (or_none extra_text extra.now)) }
+    ensures len { array_vec_len page.new ≤ array_vec_len page.old + 516 }
+{
+    put(page, b"extra ");
+    match extra {
+        Some(extra) => put_extra_text(page, extra),
+        None => put(page, b"none"),
+    }
+    put(page, b"\n");
+}
+
+// Puts a space and the word, if it applies.
+fn put_word_if(page: &mut Page, applies: bool, word: &[u8])
+    requires word { length word.now ≤ 9 }
+    requires room { array_vec_len page.old + 10 ≤ PAGE }
+    ensures items { Appends page.old.items page.new.items (word_if applies word.now) }
+    ensures len { array_vec_len page.new ≤ array_vec_len page.old + 10 }
+{
+    if applies {
+        put(page, b" ");
+        put(page, word);
+    }
+}
+
+// Puts the remarks in a line.
+fn put_remarks(page: &mut Page, remarks: Remarks)
+    requires { array_vec_len page.old + 64 ≤ PAGE }
+    ensures items { Appends page.old.items page.new.items (codes "remarks" ++ remarks_text remarks ++ 10 ∷ []) }
+    ensures len { array_vec_len page.new ≤ array_vec_len page.old + 64 }
+{
+    put(page, b"remarks");
+    if remarks.latitude || remarks.longitude || remarks.heading {
+        put_word_if(page, remarks.latitude, b"latitude");
+        put_word_if(page, remarks.longitude, b"longitude");
+        put_word_if(page, remarks.heading, b"heading");
+    } else {
+        put(page, b" none");
+    }
+    put(page, b"\n");
+}
+
+/// Puts the line of the remarks.
+#[tactic(auto, unfolding(crate::specs::Description::remarks_line))]
+pub fn put_remarks_line(page: &mut Page, msd: &Msd<'_>)
+    requires { array_vec_len page.old + 64 ≤ PAGE }
+    ensures items { Appends page.old.items page.new.items (remarks_line msd.now) }
+    ensures len { array_vec_len page.new ≤ array_vec_len page.old + 64 }
+{
+    put_remarks(page, find_remarks(msd));
+}

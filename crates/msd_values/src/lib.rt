@@ -1,0 +1,23 @@
+//! The values of a minimum set of data after EN 15722, in this project's format 2, and their
+//! description for people.
+#![tactic(auto)]
+
+mod additions;
+mod date;
+mod description;
+mod extra;
+mod kind;
+mod lines;
+mod msd;
+mod octets;
+mod page;
+mod remarks;
+#[cfg(test)]
+mod tests;
+mod vin;
+
+pub use description::describe;
+pub use kind::{AddedKind, RootKind, VehicleKind};
+pub use msd::{Delta, Extra, Marks, Msd};
+pub use remarks::{Remarks, find_remarks};
+pub use vin::{BadVin, Vin};

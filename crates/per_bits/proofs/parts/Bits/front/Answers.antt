@@ -1,0 +1,9 @@
+use Rattle.std.proofs.Common.{◌≤◌, length, arith}
+use Rattle.per_bits.proofs.Places.{in_place, length_field}
+use Rattle.per_bits.proofs.parts.Bits.front.Goals as goal
+
+pub returns-clause-in_place : goal.returns-clause-in_place
+returns-clause-in_place c =
+    let fits : c.args.n ≤ length c.args.self.now.bits = c.requires in
+    let within = rw (← c.self.view_is, length_field c.self.inside.octets.now c.self.inside.start c.self.inside.len c.self.invariant.0) at fits in
+    in_place c.self.inside.octets.now c.self.inside.start c.args.n (omega arith) c.self.invariant.1

@@ -1,0 +1,57 @@
+//! Numbers that stand in octets at any bit.
+ghost use Rattle.std.specs.Prelude.{◌≡◌, ◌+◌, ◌-◌, ◌*◌, ◌/◌, ◌%◌, ◌^◌, ◌≤◌, ◌<◌, length, take, drop, Some, slice_get, IsTrue, ◌↔◌};
+ghost use Rattle.per_bits.specs.Bits.{digits, value_of, octet_bits};
+
+// The number that `n` bits of an octet read, those behind its first `skip` ones.
+#[inline]
+fn field(octet: u8, skip: u32, n: u32) -> u64
+    requires { skip + n ≤ 8 }
+    ensures value { result ≡ value_of (take n (drop skip (digits 8 octet))) }
+    ensures below { result < 2 ^ n }
+{
+    (octet as u64 >> (8 - skip - n)) & ((1 << n) - 1)
+}
+
+// Whether the bit at a place is 1.
+#[inline]
+pub(crate) fn bit_at(octets: &[u8], place: u32) -> bool
+    requires { place < 8 * length octets.now }
+    ensures { slice_get (octet_bits octets.now) place ≡ Some result }
+{
+    field(octets[(place / 8) as usize], place % 8, 1) == 1
+}
+
+// The number that `width` bits from the place `start` on read, an octet at a time.
+#[inline]
+pub(crate) fn number_at(octets: &[u8], start: u32, width: u32) -> u64
+    requires narrow { width ≤ 64 }
+    requires within { start + width ≤ 8 * length octets.now }
+    requires few { length octets.now ≤ 65535 }
+    ensures value { result ≡ value_of (take width (drop start (octet_bits octets.now))) }
+    ensures below { result < 2 ^ width }
+{
+    let end = start + width;
+    let mut at = start;
+    let mut value = 0u64;
+    while at < end {
+        let skip = at % 8;
+        let n = (8 - skip).min(end - at);
+        value = (value << n) | field(octets[(at / 8) as usize], skip, n);
+        at += n;
+    }
+    value
+}
+
+// Whether the bits from the place `start` on are those of the octets `other`.
+pub(crate) fn octets_stand_at(octets: &[u8], start: u32, other: &[u8]) -> bool
+    requires within { start + 8 * length other.now ≤ 8 * length octets.now }
+    requires few { length octets.now ≤ 65535 }
+    ensures { IsTrue result ↔ (take (8 * length other.now) (drop start (octet_bits octets.now)) ≡ octet_bits other.now) }
+{
+    for (i, octet) in other.iter().enumerate() {
+        if number_at(octets, start + 8 * i as u32, 8) != *octet as u64 {
+            return false;
+        }
+    }
+    true
+}

@@ -1,0 +1,15 @@
+pub mod Plans
+pub mod Octets
+pub mod Leaves
+pub mod Strings
+pub mod TypePlans
+pub mod Lives
+pub mod Readings
+pub mod Decided
+pub mod Canonicals
+pub mod Widths
+pub mod Elementwise
+pub mod Stringwise
+pub mod Sectionwise
+pub mod PartLaws
+pub mod Written

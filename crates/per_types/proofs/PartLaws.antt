@@ -1,0 +1,91 @@
+-- The parts that the readings of strings and sections hand out stand where they were spelled.
+use Rattle.std.proofs.Common.{◌≡◌, ℕ, ◌+◌, ◌-◌, ◌*◌, ◌≤◌, Bool, List, ◌++◌, length, take, Result, Ok, Err, refl, sym, ap, subst, ◌∙◌, arith}
+use Rattle.std.proofs.lemmas.List.{length-append, length-take}
+use Rattle.per_bits.specs.Bits.{Part, value_of, octets_of, behind, front}
+use Rattle.per_bits.specs.Parts.{Member, Section}
+use Rattle.per_types.specs.Kinds as kind
+use Rattle.per_types.specs.Kinds.{Kind, width}
+use Rattle.per_types.specs.Stops.{Read, element_at}
+use Rattle.per_types.specs.Reading.{◌>>=◌, length_at, octets_at, string_at, oid_length_at, oid_at, object_at, members_at, section_at}
+use Rattle.per_types.proofs.Plans.{value, next_ok, element_taken, behind-behind}
+use Rattle.per_types.proofs.Sectionwise.{members_section_of}
+
+value_is : {X : Type 0} (v w : X) (p q : Part) → value v p ≡ value w q → (v ≡ w) × (p ≡ q)
+value_is v w p q e = let h : (v, p) ≡ (w, q) = cc in (ap (λ (x : _ × Part). x.0) h, ap (λ (x : _ × Part). x.1) h)
+
+-- o has the bits behind a length of eight bits, and q stands behind them
+pub record IsBehindLength (p o q : Part) : Type 0 where
+  pub part : o ≡ front (behind p 8) (length o.bits)
+  pub rest : q ≡ behind p (8 + length o.bits)
+
+-- a length and the octets behind it
+behind_length : (k : ℕ → Kind) (l : Kind) (p o q : Part) (a b : List Bool × Part) → width l ≡ 8 → ((n : ℕ) → width (k n) ≡ 8 * n) → element_at l p ≡ Ok a → element_at (k (value_of a.0)) a.1 ≡ Ok b
+    → front a.1 (8 * value_of a.0) ≡ o → b.1 ≡ q → IsBehindLength p o q
+behind_length k l p o q a b wide many first second part rest =
+    let t = element_taken l p a first in
+    let u = element_taken (k (value_of a.0)) a.1 b second in
+    let eight : length a.0 ≡ 8 = t.accepted.width ∙ wide in
+    let at : a.1 ≡ behind p 8 = t.left ∙ ap (behind p) eight in
+    let long : length b.0 ≡ 8 * value_of a.0 = u.accepted.width ∙ many (value_of a.0) in
+    let there : length a.1.bits ≡ length b.0 + length b.1.bits = ap length u.parts ∙ length-append b.0 b.1.bits in
+    let sized : length o.bits ≡ 8 * value_of a.0 = ap (λ (x : Part). length x.bits) (sym part) ∙ length-take (8 * value_of a.0) a.1.bits ∙ omega (arith, there, long) in
+    record {
+      part = sym part ∙ ap (λ (x : Part). front x (8 * value_of a.0)) at ∙ ap (front (behind p 8)) (sym sized);
+      rest = sym rest ∙ u.left ∙ ap (λ (x : Part). behind x (length b.0)) at ∙ behind-behind p 8 (length b.0) ∙ ap (λ (n : ℕ). behind p (8 + n)) (long ∙ sym sized);
+    }
+
+length_width : width kind.string_length ≡ 8
+unfolding width
+length_width = refl
+
+oid_length_width : width kind.oid_length ≡ 8
+unfolding width
+oid_length_width = refl
+
+octets_width : (n : ℕ) → width (kind.string_octets n) ≡ 8 * n
+unfolding width
+octets_width n = refl
+
+oid_octets_width : (n : ℕ) → width (kind.oid_octets n) ≡ 8 * n
+unfolding width
+oid_octets_width n = refl
+
+pub string_in_place : (p o q : Part) → octets_at p ≡ Ok (o, q) → (string_at p ≡ Ok (octets_of o.bits, q)) × (o ≡ front (behind p 8) (length o.bits)) × (q ≡ behind p (8 + length o.bits))
+unfolding string_at octets_at length_at
+string_in_place p o q h =
+    let outer = next_ok (element_at kind.string_length p >>= λ b. Ok (value_of b.0, b.1)) (λ n. element_at (kind.string_octets n.0) n.1 >>= λ b. Ok (front n.1 (8 * n.0), b.1)) (o, q) h in
+    let a = next_ok (element_at kind.string_length p) (λ b. Ok (value_of b.0, b.1)) outer.0 outer.1 in
+    let is = value_is (value_of a.0.0) outer.0.0 a.0.1 outer.0.1 a.2 in
+    let inner = next_ok (element_at (kind.string_octets outer.0.0) outer.0.1) (λ b. Ok (front outer.0.1 (8 * outer.0.0), b.1)) (o, q) outer.2 in
+    let end = value_is (front outer.0.1 (8 * outer.0.0)) o inner.0.1 q inner.2 in
+    let second : element_at (kind.string_octets (value_of a.0.0)) a.0.1 ≡ Ok inner.0 = ap (λ (n : ℕ). element_at (kind.string_octets n) a.0.1) is.0 ∙ ap (element_at (kind.string_octets outer.0.0)) is.1 ∙ inner.1 in
+    let part : front a.0.1 (8 * value_of a.0.0) ≡ o = ap (λ (n : ℕ). front a.0.1 (8 * n)) is.0 ∙ ap (λ (x : Part). front x (8 * outer.0.0)) is.1 ∙ end.0 in
+    let b = behind_length kind.string_octets kind.string_length p o q a.0 inner.0 length_width octets_width a.1 second part end.1 in
+    (rw h refl, b.part, b.rest)
+
+pub object_in_place : (p o q : Part) → oid_at p ≡ Ok (o, q) → (object_at p ≡ Ok (octets_of o.bits, q)) × (o ≡ front (behind p 8) (length o.bits)) × (q ≡ behind p (8 + length o.bits))
+unfolding object_at oid_at oid_length_at
+object_in_place p o q h =
+    let outer = next_ok (element_at kind.oid_length p >>= λ b. Ok (value_of b.0, b.1)) (λ n. element_at (kind.oid_octets n.0) n.1 >>= λ b. Ok (front n.1 (8 * n.0), b.1)) (o, q) h in
+    let a = next_ok (element_at kind.oid_length p) (λ b. Ok (value_of b.0, b.1)) outer.0 outer.1 in
+    let is = value_is (value_of a.0.0) outer.0.0 a.0.1 outer.0.1 a.2 in
+    let inner = next_ok (element_at (kind.oid_octets outer.0.0) outer.0.1) (λ b. Ok (front outer.0.1 (8 * outer.0.0), b.1)) (o, q) outer.2 in
+    let end = value_is (front outer.0.1 (8 * outer.0.0)) o inner.0.1 q inner.2 in
+    let second : element_at (kind.oid_octets (value_of a.0.0)) a.0.1 ≡ Ok inner.0 = ap (λ (n : ℕ). element_at (kind.oid_octets n) a.0.1) is.0 ∙ ap (element_at (kind.oid_octets outer.0.0)) is.1 ∙ inner.1 in
+    let part : front a.0.1 (8 * value_of a.0.0) ≡ o = ap (λ (n : ℕ). front a.0.1 (8 * n)) is.0 ∙ ap (λ (x : Part). front x (8 * outer.0.0)) is.1 ∙ end.0 in
+    let b = behind_length kind.oid_octets kind.oid_length p o q a.0 inner.0 oid_length_width oid_octets_width a.1 second part end.1 in
+    (rw h refl, b.part, b.rest)
+
+pub section_in_place : (p o q : Part) → section_at p ≡ Ok (o, q) → (members : List Member) × (members_at p ≡ Ok (members, q)) × Section members o.bits × (o ≡ front p (length o.bits)) × (q ≡ behind p (length o.bits))
+unfolding section_at
+section_in_place p o q h =
+    let m = next_ok (members_at p) (λ ms. Ok (front p (length p.bits - length ms.1.bits), ms.1)) (o, q) h in
+    let end = value_is (front p (length p.bits - length m.0.1.bits)) o m.0.1 q m.2 in
+    let read : members_at p ≡ Ok (m.0.0, q) = m.1 ∙ ap (value m.0.0) end.1 in
+    let both = members_section_of p q m.0.0 read in
+    let s = both.0 in
+    let count : length p.bits - length m.0.1.bits ≡ s.count = ap (λ (x : Part). length p.bits - length x.bits) end.1 ∙ omega (arith, s.rest) in
+    let part : o ≡ front p s.count = sym end.0 ∙ ap (front p) count in
+    let sized : length o.bits ≡ s.count = ap (λ (x : Part). length x.bits) part ∙ length-take s.count p.bits ∙ omega (arith, s.enough) in
+    let bits : take s.count p.bits ≡ o.bits = ap (λ (x : Part). x.bits) (sym part) in
+    (m.0.0, read, subst (Section m.0.0) bits both.1, part ∙ ap (front p) (sym sized), s.left ∙ ap (behind p) (sym sized))

@@ -1,0 +1,16 @@
+use Rattle.std.proofs.lemmas.Result.{err_from_is_err_and}
+use Rattle.per_types.proofs.Elementwise.{small_short, small_large, small_ok}
+use Rattle.per_types.proofs.readers.numbers.read_small.Goals as goal
+
+pub returns-in_err-n-clause-exact : goal.returns-in_err-n-clause-exact
+returns-in_err-n-clause-exact c =
+    let p = err_from_is_err_and c.from_residual.result c.from_residual.ensures.1 in
+    rw (p.1, p.2) (small_short c.args.c.now _ c.in_err-n.ensures.short)
+
+pub returns-then-n-ge64-clause-exact : goal.returns-then-n-ge64-clause-exact
+returns-then-n-ge64-clause-exact c =
+    rw c.refusal.ensures (small_large c.args.c.now c.in_ok-n.n (record { enough = c.in_ok-n.ensures.ok.0; reads = c.in_ok-n.ensures.ok.1 }) c.if-n-ge64.true)
+
+pub returns-clause-exact : goal.returns-clause-exact
+returns-clause-exact c =
+    rw c.skip.ensures (small_ok c.args.c.now c.in_ok-n.n (record { enough = c.in_ok-n.ensures.ok.0; reads = c.in_ok-n.ensures.ok.1 }) c.if-n-ge64.false)

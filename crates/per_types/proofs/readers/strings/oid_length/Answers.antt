@@ -1,0 +1,17 @@
+use Rattle.std.proofs.lemmas.Result.{err_from_is_err_and}
+use Rattle.per_types.proofs.Stringwise.{oid_length_short, oid_length_large, oid_length_zero, oid_length_ok}
+use Rattle.per_types.proofs.readers.strings.oid_length.Goals as goal
+
+pub returns-in_err-n-clause-exact : goal.returns-in_err-n-clause-exact
+returns-in_err-n-clause-exact c =
+    let p = err_from_is_err_and c.from_residual.result c.from_residual.ensures.1 in
+    rw (p.1, p.2) (oid_length_short c.args.c.now _ c.in_err-n.ensures.short)
+
+pub returns-then-n-ge128-clause-exact : goal.returns-then-n-ge128-clause-exact
+returns-then-n-ge128-clause-exact c = rw c.refusal.ensures (oid_length_large c.args.c.now c.in_ok-n.n (record { enough = c.in_ok-n.ensures.ok.0; reads = c.in_ok-n.ensures.ok.1 }) c.if-n-ge128.true)
+
+pub returns-then-n-eq0-clause-exact : goal.returns-then-n-eq0-clause-exact
+returns-then-n-eq0-clause-exact c = rw c.refusal-then-n-eq0.ensures (oid_length_zero c.args.c.now c.in_ok-n.n (record { enough = c.in_ok-n.ensures.ok.0; reads = c.in_ok-n.ensures.ok.1 }) c.if-n-eq0.true)
+
+pub returns-clause-exact : goal.returns-clause-exact
+returns-clause-exact c = rw c.skip.ensures (oid_length_ok c.args.c.now c.in_ok-n.n (record { enough = c.in_ok-n.ensures.ok.0; reads = c.in_ok-n.ensures.ok.1 }) c.if-n-ge128.false c.if-n-eq0.false)

@@ -1,0 +1,6 @@
+pub mod Kinds
+pub mod Types
+pub mod Spelling
+pub mod Stops
+pub mod Reading
+pub mod Writing
