@@ -1,0 +1,202 @@
+-- Where the parts lie that readers hand out, and what they spell.
+use Rattle.std.proofs.Common.{◌≡◌, ℕ, ◌+◌, ◌-◌, ◌*◌, ◌≤◌, Bool, true, false, List, [], ◌∷◌, ◌++◌, length, take, drop, Some, None, Ok, Err, refl, sym, ap, subst, ◌∙◌, arith, append-nil}
+use Rattle.std.proofs.lemmas.List.{length-append, length-take, take_at, drop_at}
+use Rattle.per_bits.specs.Bits.{Part, IsInPlace, behind, front, octets_of, value_of}
+use Rattle.per_bits.specs.Parts.{Member}
+use Rattle.per_bits.specs.declared.refusals.Refusal.{Refusal}
+use Rattle.per_types.specs.Kinds as kind
+use Rattle.per_types.specs.Kinds.{Kind, Element, bits_of, width}
+use Rattle.per_types.specs.Types.{bytes, octet_string, relative_oid}
+use Rattle.per_types.specs.Spelling.{SectionElements}
+use Rattle.per_types.specs.Stops.{Read, element_at, Takes}
+use Rattle.per_types.specs.Reading.{◌>>=◌, octets_at, oid_at, length_at, oid_length_at, members_at, section_at, more_at, string_at, object_at, tree_at}
+use Rattle.per_types.proofs.Plans.{next_ok, element_taken}
+use Rattle.per_types.proofs.Decided.{only_members}
+use Rattle.msd_codec.specs.Trees.{members_of}
+use Rattle.msd_codec.specs.Places.{LieBetween, MovesOn}
+use Rattle.msd_codec.proofs.Steps.{ok_same, behind_moves, moves_on, tree_moves}
+
+-- o lies between the places of p and q
+pub record Lies (p o q : Part) : Type 0 where
+  pub all : o.all ≡ p.all
+  pub from : p.start ≤ o.start
+  pub to : o.start + length o.bits ≤ q.start
+
+pub lie_between : (p o q : Part) → IsInPlace o → Lies p o q → LieBetween p.all p.start (o ∷ []) q.start
+lie_between p o q place lies = (lies.all, place.bits ∙ ap (λ (l : List Bool). take (length o.bits) (drop o.start l)) lies.all, lies.from, lies.to)
+
+pub join : (all : List Bool) (a b c : ℕ) (ps qs : List Part) → LieBetween all a ps b → LieBetween all b qs c → LieBetween all a (ps ++ qs) c
+join all a b c [] [] h k = omega (arith, h, k)
+join all a b c [] (q ∷ qs) h k = (k.0, k.1, omega (arith, h, k.2), k.3)
+join all a b c (p ∷ ps) qs h k = (h.0, h.1, h.2, join all (p.start + length p.bits) b c ps qs h.3 k)
+
+pub later : (all : List Bool) (a b c : ℕ) (qs : List Part) → a ≤ b → LieBetween all b qs c → LieBetween all a qs c
+later all a b c [] h k = omega (arith, h, k)
+later all a b c (q ∷ qs) h k = (k.0, k.1, omega (arith, h, k.2), k.3)
+
+pub earlier : (all : List Bool) (a b c : ℕ) (ps : List Part) → b ≤ c → LieBetween all a ps b → LieBetween all a ps c
+earlier all a b c [] h k = omega (arith, h, k)
+earlier all a b c (p ∷ ps) h k = (k.0, k.1, k.2, earlier all (p.start + length p.bits) b c ps h k.3)
+
+-- ---- sections
+
+record IsSection (p a q : Part) : Type 0 where
+  members : List Member
+  es : List Element
+  spelled : SectionElements members es
+  reads : members_at p ≡ Ok (members, q)
+  part : a ≡ front p (length (bits_of es))
+  bits : p.bits ≡ bits_of es ++ q.bits
+  left : q ≡ behind p (length (bits_of es))
+
+is_section : (p a q : Part) → section_at p ≡ Ok (a, q) → IsSection p a q
+unfolding section_at
+is_section p a q e =
+    let found = next_ok (members_at p) (λ ms. Ok (front p (length p.bits - length ms.1.bits), ms.1)) (a, q) e in
+    let same = ok_same (front p (length p.bits - length found.0.1.bits), found.0.1) (a, q) found.2 in
+    let takes = (only_members p (Ok found.0)).0 (sym found.1) in
+    let long : length p.bits - length found.0.1.bits ≡ length (bits_of takes.0) = omega (arith, ap length takes.2, length-append (bits_of takes.0) found.0.1.bits) in
+    record {
+      members = found.0.0;
+      es = takes.0;
+      spelled = takes.1;
+      reads = found.1 ∙ ap (λ (x : Part). Ok (found.0.0, x)) same.1;
+      part = sym same.0 ∙ ap (front p) long;
+      bits = takes.2 ∙ ap (λ (x : Part). bits_of takes.0 ++ x.bits) same.1;
+      left = sym same.1 ∙ takes.3;
+    }
+
+part_bits : (p a q : Part) (s : IsSection p a q) → a.bits ≡ bits_of s.es
+part_bits p a q s = ap (λ (x : Part). x.bits) s.part ∙ ap (take (length (bits_of s.es))) s.bits ∙ take_at (bits_of s.es) q.bits (length (bits_of s.es)) refl
+
+members_are : (p a q : Part) (s : IsSection p a q) → members_of a ≡ s.members
+unfolding members_of
+members_are p a q s =
+    let b = part_bits p a q s in
+    let rest : drop (length (bits_of s.es)) a.bits ≡ [] = ap (drop (length (bits_of s.es))) (b ∙ sym (append-nil (bits_of s.es))) ∙ drop_at (bits_of s.es) [] (length (bits_of s.es)) refl in
+    let takes : Takes SectionElements a s.members (behind a (length (bits_of s.es))) = (s.es, s.spelled, b ∙ sym (append-nil (bits_of s.es)) ∙ ap (λ (l : List Bool). bits_of s.es ++ l) (sym rest), refl) in
+    let read : members_at a ≡ Ok (s.members, behind a (length (bits_of s.es))) = sym ((only_members a (Ok (s.members, behind a (length (bits_of s.es))))).1 takes) in
+    ap (λ (r : Read (List Member)). elim r as (λ _. List Member) [ Ok x ↦ x.0 | Err e ↦ [] ]) read
+
+pub section_members : (p a q : Part) → section_at p ≡ Ok (a, q) → members_at p ≡ Ok (members_of a, q)
+section_members p a q e =
+    let s = is_section p a q e in
+    s.reads ∙ ap (λ (m : List Member). Ok (m, q)) (sym (members_are p a q s))
+
+pub section_lies : (p a q : Part) → section_at p ≡ Ok (a, q) → Lies p a q
+section_lies p a q e =
+    let s = is_section p a q e in
+    let there : a.start ≡ p.start = ap (λ (x : Part). x.start) s.part in
+    let end : q.start ≡ p.start + length (bits_of s.es) = ap (λ (x : Part). x.start) s.left in
+    record { all = ap (λ (x : Part). x.all) s.part; from = omega arith; to = omega (arith, ap length (part_bits p a q s)) }
+
+pub section_moves : (p a q : Part) → section_at p ≡ Ok (a, q) → MovesOn p q
+section_moves p a q e = behind_moves p q _ (is_section p a q e).left
+
+section_none : (p : Part) (e : Refusal × Part) → section_at p ≡ Err e → members_at p ≡ Err e
+unfolding section_at
+section_none p e h =
+    elim (members_at p) as (λ (r : Read (List Member)). (r >>= λ ms. Ok (front p (length p.bits - length ms.1.bits), ms.1)) ≡ Err e → r ≡ Err e) [
+      | Ok x ↦ λ g. absurd (cc g)
+      | Err d ↦ λ g. ap (λ (y : Refusal × Part). Err y) (let s : d ≡ e = cc g in s)
+    ] h
+
+pub more_none : (extended : Bool) (p : Part) → extended ≡ false → more_at extended p ≡ Ok (None, p)
+unfolding more_at
+more_none extended p e = rw e refl
+
+pub more_some : (extended : Bool) (p a q : Part) → extended ≡ true → section_at p ≡ Ok (a, q) → more_at extended p ≡ Ok (Some (members_of a), q)
+unfolding more_at
+more_some extended p a q e h = rw (e, section_members p a q h) refl
+
+pub more_failed : (extended : Bool) (p : Part) (e : Refusal × Part) → extended ≡ true → section_at p ≡ Err e → more_at extended p ≡ Err e
+unfolding more_at
+more_failed extended p e t h = rw (t, section_none p e h) refl
+
+-- ---- octets
+
+element_moves : (k : Kind) (p q : Part) (b : List Bool) → element_at k p ≡ Ok (b, q) → MovesOn p q
+element_moves k p q b e = behind_moves p q _ (element_taken k p (b, q) e).left
+
+front_lies : (k : Kind) (n : ℕ) (p m q : Part) (b : List Bool) → width k ≡ n → MovesOn p m → element_at k m ≡ Ok (b, q) → Lies p (front m n) q
+front_lies k n p m q b wide moved e =
+    let taken = element_taken k m (b, q) e in
+    let end : q.start ≡ m.start + length b = ap (λ (x : Part). x.start) taken.left in
+    record { all = moved.all; from = moved.on; to = omega (arith, length-take n m.bits, taken.accepted.width, wide, end) }
+
+lies_same : (p o q a b : Part) → o ≡ a → q ≡ b → Lies p o q → Lies p a b
+lies_same p o q a b s t h = subst (λ (x : Part). Lies p a x) t (subst (λ (x : Part). Lies p x q) s h)
+
+pub octets_lie : (p o q : Part) → octets_at p ≡ Ok (o, q) → Lies p o q
+unfolding octets_at length_at width
+octets_lie p o q e =
+    let count = next_ok (length_at p) (λ n. element_at (kind.string_octets n.0) n.1 >>= λ b. Ok (front n.1 (8 * n.0), b.1)) (o, q) e in
+    let n = next_ok (element_at kind.string_length p) (λ b. Ok (value_of b.0, b.1)) count.0 count.1 in
+    let first = ok_same (value_of n.0.0, n.0.1) count.0 n.2 in
+    let octets = next_ok (element_at (kind.string_octets count.0.0) count.0.1) (λ b. Ok (front count.0.1 (8 * count.0.0), b.1)) (o, q) count.2 in
+    let same = ok_same (front count.0.1 (8 * count.0.0), octets.0.1) (o, q) octets.2 in
+    let moved = subst (λ (x : Part). MovesOn p x) first.1 (element_moves kind.string_length p n.0.1 n.0.0 n.1) in
+    lies_same p _ _ o q same.0 same.1 (front_lies (kind.string_octets count.0.0) (8 * count.0.0) p count.0.1 octets.0.1 octets.0.0 refl moved octets.1)
+
+pub oid_lies : (p o q : Part) → oid_at p ≡ Ok (o, q) → Lies p o q
+unfolding oid_at oid_length_at width
+oid_lies p o q e =
+    let count = next_ok (oid_length_at p) (λ n. element_at (kind.oid_octets n.0) n.1 >>= λ b. Ok (front n.1 (8 * n.0), b.1)) (o, q) e in
+    let n = next_ok (element_at kind.oid_length p) (λ b. Ok (value_of b.0, b.1)) count.0 count.1 in
+    let first = ok_same (value_of n.0.0, n.0.1) count.0 n.2 in
+    let octets = next_ok (element_at (kind.oid_octets count.0.0) count.0.1) (λ b. Ok (front count.0.1 (8 * count.0.0), b.1)) (o, q) count.2 in
+    let same = ok_same (front count.0.1 (8 * count.0.0), octets.0.1) (o, q) octets.2 in
+    let moved = subst (λ (x : Part). MovesOn p x) first.1 (element_moves kind.oid_length p n.0.1 n.0.0 n.1) in
+    lies_same p _ _ o q same.0 same.1 (front_lies (kind.oid_octets count.0.0) (8 * count.0.0) p count.0.1 octets.0.1 octets.0.0 refl moved octets.1)
+
+pub lies_moves : (p o q : Part) → q.all ≡ p.all → Lies p o q → MovesOn p q
+lies_moves p o q same h = record { all = same; on = omega (arith, h.from, h.to) }
+
+pub octets_tree : (p o q : Part) → octets_at p ≡ Ok (o, q) → tree_at octet_string p ≡ Ok (bytes (octets_of o.bits), q)
+unfolding tree_at string_at
+octets_tree p o q e = rw e refl
+
+pub octets_err : (p : Part) (e : Refusal × Part) → octets_at p ≡ Err e → tree_at octet_string p ≡ Err e
+unfolding tree_at string_at
+octets_err p e h = rw h refl
+
+pub oid_tree : (p o q : Part) → oid_at p ≡ Ok (o, q) → tree_at relative_oid p ≡ Ok (bytes (octets_of o.bits), q)
+unfolding tree_at object_at
+oid_tree p o q e = rw e refl
+
+pub oid_err : (p : Part) (e : Refusal × Part) → oid_at p ≡ Err e → tree_at relative_oid p ≡ Err e
+unfolding tree_at object_at
+oid_err p e h = rw h refl
+
+-- ---- parts one behind the other
+
+-- parts between a and b, and parts between d and q, lie between p and q
+pub within : (p a b d q : Part) (ps qs : List Part) → MovesOn p a → MovesOn a b → LieBetween a.all a.start ps b.start → MovesOn b d → LieBetween d.all d.start qs q.start → LieBetween p.all p.start (ps ++ qs) q.start
+within p a b d q ps qs pa ab first bd second =
+    let one : LieBetween p.all a.start ps b.start = subst (λ (all : List Bool). LieBetween all a.start ps b.start) pa.all first in
+    let two : LieBetween p.all d.start qs q.start = subst (λ (all : List Bool). LieBetween all d.start qs q.start) (bd.all ∙ ab.all ∙ pa.all) second in
+    join p.all p.start b.start q.start ps qs (later p.all p.start a.start b.start ps pa.on one) (later p.all b.start d.start q.start qs bd.on two)
+
+pub start_later : (p a q : Part) (ps : List Part) → MovesOn p a → LieBetween a.all a.start ps q.start → LieBetween p.all p.start ps q.start
+start_later p a q ps pa first = later p.all p.start a.start q.start ps pa.on (subst (λ (all : List Bool). LieBetween all a.start ps q.start) pa.all first)
+
+oid_moves : (p o q : Part) → oid_at p ≡ Ok (o, q) → MovesOn p q
+oid_moves p o q e = tree_moves relative_oid tt p q _ (oid_tree p o q e)
+
+octets_moves : (p o q : Part) → octets_at p ≡ Ok (o, q) → MovesOn p q
+octets_moves p o q e = tree_moves octet_string tt p q _ (octets_tree p o q e)
+
+pub two_parts : (p m q a b : Part) → IsInPlace a → IsInPlace b → oid_at p ≡ Ok (a, m) → octets_at m ≡ Ok (b, q) → LieBetween p.all p.start (a ∷ b ∷ []) q.start
+two_parts p m q a b place_a place_b e h =
+    let moved = oid_moves p a m e in
+    let second : LieBetween p.all m.start (b ∷ []) q.start = subst (λ (all : List Bool). LieBetween all m.start (b ∷ []) q.start) moved.all (lie_between m b q place_b (octets_lie m b q h)) in
+    join p.all p.start m.start q.start (a ∷ []) (b ∷ []) (lie_between p a m place_a (oid_lies p a m e)) second
+
+pub two_move : (p m q a b : Part) → oid_at p ≡ Ok (a, m) → octets_at m ≡ Ok (b, q) → MovesOn p q
+two_move p m q a b e h = moves_on p m q (oid_moves p a m e) (octets_moves m b q h)
+
+-- the structure's parts, those of additional data, and a section, one behind the other
+pub three : (p a b d q : Part) (ps qs rs : List Part) → MovesOn p a → MovesOn a b → LieBetween a.all a.start ps b.start → MovesOn b d → LieBetween b.all b.start qs d.start → LieBetween d.all d.start rs q.start → LieBetween p.all p.start (ps ++ qs ++ rs) q.start
+three p a b d q ps qs rs pa ab first bd second third =
+    let front : LieBetween p.all p.start (ps ++ qs) d.start = within p a b b d ps qs pa ab first (record { all = refl; on = omega arith }) second in
+    join p.all p.start d.start q.start (ps ++ qs) rs front (subst (λ (all : List Bool). LieBetween all d.start rs q.start) (bd.all ∙ ab.all ∙ pa.all) third)

@@ -1,0 +1,28 @@
+use Rattle.msd_codec.specs.Module.{ecall_message}
+use Rattle.per_types.proofs.Decided.{no_prefix, one_value}
+use Rattle.msd_codec.proofs.SetLaws as laws
+use Rattle.msd_codec.proofs.laws.spelling_laws.Goals as goal
+
+pub returns-clause-no_prefix : goal.returns-clause-no_prefix
+returns-clause-no_prefix c = no_prefix ecall_message
+
+pub returns-clause-one_value : goal.returns-clause-one_value
+returns-clause-one_value c = one_value ecall_message
+
+pub returns-clause-shown : goal.returns-clause-shown
+returns-clause-shown c = laws.canonical_shows
+
+pub returns-clause-canonical : goal.returns-clause-canonical
+returns-clause-canonical c = laws.canonical_one
+
+pub returns-clause-again : goal.returns-clause-again
+returns-clause-again c = laws.canonical_again
+
+pub returns-clause-decided : goal.returns-clause-decided
+returns-clause-decided c = laws.decided
+
+pub returns-clause-apart : goal.returns-clause-apart
+returns-clause-apart c = λ octets v refusal small. laws.apart octets v refusal
+
+pub returns-clause-read : goal.returns-clause-read
+returns-clause-read c = λ octets answer small. (laws.answer_is octets answer small, laws.answer_read octets answer)

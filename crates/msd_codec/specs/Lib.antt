@@ -1,0 +1,5 @@
+pub mod Module
+pub mod Trees
+pub mod Sets
+pub mod Places
+pub mod Reading

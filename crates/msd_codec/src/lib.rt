@@ -1,0 +1,12 @@
+//! The set of data of format 2, read and written: octets by this project's profile of ITU-T X.691,
+//! unaligned variant, values after EN 15722.
+#![tactic(auto)]
+
+mod laws;
+mod reading;
+
+pub use laws::spelling_laws;
+pub use reading::decode;
+
+#[cfg(test)]
+mod tests;
