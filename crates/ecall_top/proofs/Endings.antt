@@ -1,11 +1,11 @@
 -- How a run ends, from where it stands and what the last line's reading and writing left.
-use Rattle.std.specs.Prelude.{◌≡◌, ℕ, ◌+◌, ◌<◌, ◌⊎◌, Bool, true, false, List, [], ◌∷◌, ◌++◌, length, Option, Some, None, Ok, Err}
+use Rattle.std.specs.Prelude.{◌≡◌, ℕ, ◌+◌, ◌⊎◌, Bool, true, false, List, [], ◌++◌, length, Option, Some, None, Ok, Err}
 use Rattle.std.specs.Io.KnownBytes.{IsAtEnd}
 use Rattle.std.proofs.Common.{sym, ◌∙◌, ap, refl, subst, append_assoc, inl, inr, arith, length-append}
 use Rattle.std.proofs.lemmas.List.{append-nil}
 use Rattle.std.proofs.lemmas.Bool.{false≢true}
 use Rattle.call_io.specs.Bytes.{Took, Grew, GrewPartly}
-use Rattle.call_io.proofs.BytesLemmas.{Took-append, Took-nothing, Grew-nothing, Grew-append, GrewPartly-whole, GrewPartly-after}
+use Rattle.call_io.proofs.BytesLemmas.{Grew-nothing, Grew-append, GrewPartly-whole, GrewPartly-after}
 use Rattle.trace_text.specs.declared.event.Event.{Event}
 use Rattle.trace_text.specs.declared.reason.Reason.{Reason}
 use Rattle.trace_text.specs.declared.reason.BadLine.{BadLine}
@@ -23,12 +23,15 @@ use Rattle.trace_text.specs.Safety.{Agreed}
 use Rattle.trace_text.specs.Script.{Said, Script, script_of, script_from, judged, said_after, nothing_said}
 use Rattle.channel_sim.proofs.FitKept.{trace_agreed}
 use Rattle.ivs_machine.specs.declared.facts.Facts.TheVariants as facts
+use Rattle.ecall_top.specs.declared.command.Command.TheVariants as command
 use Rattle.ecall_top.specs.declared.status.Status.TheVariants as status
 use Rattle.ecall_top.specs.Outcome.{Streams, CutShort, IsSettled, Outcome}
 use Rattle.ecall_top.specs.Progress.{ReadSoFar, behind, event_of, entries_of, entries_in, world_behind}
-use Rattle.ecall_top.specs.Reply.{played, script_trace, ended, run_words, run_reply, refusal_line}
+use Rattle.ecall_top.specs.Reply.{played, script_trace, ended, run_reply}
+use Rattle.ecall_top.specs.Refusals.{refusal_line}
 use Rattle.ecall_top.specs.Standing.{Standing, IsTidy}
-use Rattle.ecall_top.proofs.ScriptRead.{AtHand, read_line, read_refused, read_bad, read_end, script_from-passed, script_from-none, no_fact_judged, IsNoFact}
+use Rattle.ecall_top.proofs.ScriptRead.{read_line, read_refused, read_bad, read_end, script_from-passed, script_from-none, no_fact_judged, IsNoFact}
+use Rattle.ecall_top.proofs.Takings.{AtHand, taken_first, at_hand, too_many_follow, taken_whole, at_end, front_whole, taken_behind}
 use Rattle.ecall_top.proofs.TextSoFar.{played-line, played-nothing, partly_replied}
 
 -- a run stands at its beginning
@@ -36,17 +39,13 @@ pub stands_first : (start : Streams) (Stands : Said → List Event → Type 0) �
 stands_first start Stands stands =
     record {
       front = [];
+      taken = taken_first start;
       said = nothing_said;
       events = [];
-      took = Took-nothing start.left;
-      given = refl;
       read = record { script = λ more follows. refl };
       wrote = Grew-nothing start.held;
       stands = stands;
       tidy = inr refl;
-      alive = refl;
-      done = λ e. refl;
-      «end» = λ e. absurd (false≢true e);
     }
 
 -- each script's trace is agreed
@@ -57,50 +56,29 @@ script_agreed script = by_ready script.ready
     by_ready None = tt
     by_ready (Some octets) = trace_agreed (facts.Ready octets) script.events
 
--- what is at hand behind where a run stands
-at_hand : (start now : Streams) (old new : Reading) (Stands : Said → List Event → Type 0) (left : Option (List ℕ)) (taken : List ℕ) → Standing start now old Stands → Draws old.feed new.feed now.left left taken → AtHand old new (old.feed.pending ++ taken)
-at_hand start now old new Stands left taken standing draws =
-    record {
-      follows = λ ended. rw (standing.done ended, draws.idle ended) refl;
-      stays = draws.stays;
-    }
-
-taken_whole : (start now : Streams) (old new : Reading) (Stands : Said → List Event → Type 0) (left : Option (List ℕ)) (taken : List ℕ) → (s : Standing start now old Stands) → Draws old.feed new.feed now.left left taken → Took start.left left (s.front ++ (old.feed.pending ++ taken))
-taken_whole start now old new Stands left taken s draws =
-    let P : List ℕ → Type 0 = λ z. Took start.left left z in
-    subst P (append_assoc s.front old.feed.pending taken) (Took-append start.left now.left left (s.front ++ old.feed.pending) taken s.took draws.took)
-
--- where the source said that nothing is left, nothing is left
-at_end : (start now : Streams) (old new : Reading) (Stands : Said → List Event → Type 0) (left : Option (List ℕ)) (taken : List ℕ) → Standing start now old Stands → Draws old.feed new.feed now.left left taken → new.feed.ended ≡ true → IsAtEnd left
-at_end start now old new Stands left taken standing draws ended = by_end (draws.«end» ended)
-  where
-    same_left : (a b : Option (List ℕ)) → Took a b [] → a ≡ b
-    same_left a None h = h
-    same_left a (Some xs) h = h
-
-    by_end : (old.feed.ended ≡ true) ⊎ IsAtEnd left → IsAtEnd left
-    by_end (inr h) = h
-    by_end (inl h) =
-        let P : List ℕ → Type 0 = λ z. Took now.left left z in
-        subst IsAtEnd (same_left now.left left (subst P (draws.idle h) draws.took)) (standing.«end» h)
+-- a run was cut short, with a front of its reply written
+run_cut : (start : Streams) (left held : Option (List ℕ)) (input : List ℕ) → Took start.left left input → GrewPartly start.held held (run_reply input).text → CutShort (Some command.Run) start (record { left = left; held = held }) input
+run_cut start left held input took wrote =
+    record { took = took; answered = input; covers = refl; reply = run_reply input; replies = refl; wrote = wrote }
 
 -- the input was read to its end
-pub ends_done : (start now : Streams) (old new : Reading) (Stands : Said → List Event → Type 0) (left : Option (List ℕ)) → Standing start now old Stands → ReadsLine old new now.left left (Ok false) → Outcome run_words start (record { left = left; held = now.held }) status.Done
+pub ends_done : (start now : Streams) (old new : Reading) (Stands : Said → List Event → Type 0) (left : Option (List ℕ)) → Standing start now old Stands → ReadsLine old new now.left left (Ok false) → Outcome (Some command.Run) start (record { left = left; held = now.held }) status.Done
 ends_done start now old new Stands left s reads =
-    let hand : AtHand old new (old.feed.pending ++ reads.taken) = at_hand start now old new Stands left reads.taken s reads.draws in
+    let hand : AtHand old new (old.feed.pending ++ reads.taken) = at_hand start now old new left s.front reads.taken s.taken reads.draws in
     let input : List ℕ = s.front ++ (old.feed.pending ++ reads.taken) in
     let script : script_of input ≡ record { ready = s.said.ready; events = s.events; refused = None } =
     read_end s.front old new s.said s.events (old.feed.pending ++ reads.taken) s.read hand reads.finds.0 in (
       input,
+      run_reply input,
       record {
-        took = taken_whole start now old new Stands left reads.taken s reads.draws;
+        took = taken_whole start now old new left s.front reads.taken s.taken reads.draws;
+        replies = refl;
         wrote =
             let P : Script → Type 0 = λ x. Grew start.held now.held (ended (lines_of (script_trace x)) x.refused).text in
             subst P (sym script) s.wrote;
-        status = ap (λ x. (ended (lines_of (script_trace x)) x.refused).status) script;
-        agreed = script_agreed (script_of input);
       },
-      at_end start now old new Stands left reads.taken s reads.draws reads.finds.0.ended,
+      ap (λ x. (ended (lines_of (script_trace x)) x.refused).status) script,
+      at_end start now old new left s.front reads.taken s.taken reads.draws reads.finds.0.ended,
     )
 
 -- the reply to a script that is known
@@ -124,9 +102,6 @@ pub record Ending (start now : Streams) (old new : Reading) (Stands : Said → L
   pub whole : s.front ++ (old.feed.pending ++ taken) ≡ front ++ new.feed.pending
   pub script : (more : List ℕ) → MayFollow new.feed more → script_of (front ++ more) ≡ record { ready = s.said.ready; events = s.events; refused = Some bad }
 
-front_whole : (front bytes piece pending : List ℕ) → bytes ≡ piece ++ pending → front ++ bytes ≡ (front ++ piece) ++ pending
-front_whole front bytes piece pending h = ap (λ b. front ++ b) h ∙ sym (append_assoc front piece pending)
-
 -- a line that is refused for its length or its bytes
 pub ending_bad : (start now : Streams) (old new : Reading) (Stands : Said → List Event → Type 0) (left : Option (List ℕ)) (s : Standing start now old Stands) (bad : BadLine) → ReadsLine old new now.left left (Err (fault.Bad bad)) → Ending start now old new Stands left s bad
 ending_bad start now old new Stands left s bad reads =
@@ -138,7 +113,7 @@ ending_bad start now old new Stands left s bad reads =
       whole = front_whole s.front (old.feed.pending ++ reads.taken) reads.finds.front new.feed.pending reads.finds.whole;
       script =
           read_bad s.front old new s.said s.events (old.feed.pending ++ reads.taken) bad s.read
-          (at_hand start now old new Stands left reads.taken s reads.draws) reads.finds;
+          (at_hand start now old new left s.front reads.taken s.taken reads.draws) reads.finds;
     }
 
 -- a line that is refused for what it says, or where it stands
@@ -152,7 +127,7 @@ ending_line start now old new Stands left s why reads judge =
       whole = front_whole s.front (old.feed.pending ++ reads.taken) reads.finds.0.front new.feed.pending reads.finds.0.whole;
       script =
           read_refused s.front old new s.said s.events (old.feed.pending ++ reads.taken) why s.read
-          (at_hand start now old new Stands left reads.taken s reads.draws) reads.finds.0 judge;
+          (at_hand start now old new left s.front reads.taken s.taken reads.draws) reads.finds.0 judge;
     }
 
 -- behind the end of the input nothing is pending
@@ -161,8 +136,8 @@ pending_follows start now old new Stands left s bad r =
     ap script_of r.whole ∙ r.script new.feed.pending (λ e. r.done e)
 
 -- what comes behind a refused line can't change the reply, or it ended with the input
-settled : (start now : Streams) (old new : Reading) (Stands : Said → List Event → Type 0) (left : Option (List ℕ)) (s : Standing start now old Stands) (bad : BadLine) → (r : Ending start now old new Stands left s bad) → (b : Bool) → new.feed.ended ≡ b → IsSettled run_words (s.front ++ (old.feed.pending ++ r.taken)) ⊎ IsAtEnd left
-settled start now old new Stands left s bad r true ended = inr (at_end start now old new Stands left r.taken s r.draws ended)
+settled : (start now : Streams) (old new : Reading) (Stands : Said → List Event → Type 0) (left : Option (List ℕ)) (s : Standing start now old Stands) (bad : BadLine) → (r : Ending start now old new Stands left s bad) → (b : Bool) → new.feed.ended ≡ b → IsSettled (Some command.Run) (s.front ++ (old.feed.pending ++ r.taken)) (run_reply (s.front ++ (old.feed.pending ++ r.taken))) ⊎ IsAtEnd left
+settled start now old new Stands left s bad r true ended = inr (at_end start now old new left s.front r.taken s.taken r.draws ended)
 settled start now old new Stands left s bad r false open_ended =
     inl (
       r.front,
@@ -170,61 +145,54 @@ settled start now old new Stands left s bad r false open_ended =
       r.whole,
       λ more.
           let goes_on : MayFollow new.feed more = λ ended. absurd (false≢true (sym open_ended ∙ ended)) in
-          ap (λ x. ended (lines_of (script_trace x)) x.refused) (r.script more goes_on ∙ sym (pending_follows start now old new Stands left s bad r)),
+          ap (λ x. ended (lines_of (script_trace x)) x.refused) (pending_follows start now old new Stands left s bad r ∙ sym (r.script more goes_on)),
     )
 
 -- the refusal was written
-pub ends_refused : (start now : Streams) (old new : Reading) (Stands : Said → List Event → Type 0) (left held : Option (List ℕ)) (s : Standing start now old Stands) (bad : BadLine) → Ending start now old new Stands left s bad → Grew now.held held (refusal_line bad) → Outcome run_words start (record { left = left; held = held }) status.Refused
+pub ends_refused : (start now : Streams) (old new : Reading) (Stands : Said → List Event → Type 0) (left held : Option (List ℕ)) (s : Standing start now old Stands) (bad : BadLine) → Ending start now old new Stands left s bad → Grew now.held held (refusal_line bad) → Outcome (Some command.Run) start (record { left = left; held = held }) status.Refused
 ends_refused start now old new Stands left held s bad r grew =
     let input : List ℕ = s.front ++ (old.feed.pending ++ r.taken) in
     let script : script_of input ≡ record { ready = s.said.ready; events = s.events; refused = Some bad } = pending_follows start now old new Stands left s bad r in (
       input,
+      run_reply input,
       record {
-        took = taken_whole start now old new Stands left r.taken s r.draws;
+        took = taken_whole start now old new left s.front r.taken s.taken r.draws;
+        replies = refl;
         wrote = reply_wrote start.held held input _ script (Grew-append start.held now.held held _ (refusal_line bad) s.wrote grew);
-        status = ap (λ x. (ended (lines_of (script_trace x)) x.refused).status) script;
-        agreed = script_agreed (script_of input);
       },
+      ap (λ x. (ended (lines_of (script_trace x)) x.refused).status) script,
       settled start now old new Stands left s bad r new.feed.ended refl,
     )
 
 -- the refusal could not be written whole
-pub cut_refused : (start now : Streams) (old new : Reading) (Stands : Said → List Event → Type 0) (left held : Option (List ℕ)) (s : Standing start now old Stands) (bad : BadLine) → Ending start now old new Stands left s bad → GrewPartly now.held held (refusal_line bad) → Outcome run_words start (record { left = left; held = held }) status.WriteFault
+pub cut_refused : (start now : Streams) (old new : Reading) (Stands : Said → List Event → Type 0) (left held : Option (List ℕ)) (s : Standing start now old Stands) (bad : BadLine) → Ending start now old new Stands left s bad → GrewPartly now.held held (refusal_line bad) → Outcome (Some command.Run) start (record { left = left; held = held }) status.WriteFault
 cut_refused start now old new Stands left held s bad r grew =
     let input : List ℕ = s.front ++ (old.feed.pending ++ r.taken) in (
       input,
-      record {
-        took = taken_whole start now old new Stands left r.taken s r.draws;
-        wrote =
-            reply_partly start.held held input _ (pending_follows start now old new Stands left s bad r)
-            (GrewPartly-after start.held now.held held _ (refusal_line bad) s.wrote grew);
-        agreed = script_agreed (script_of input);
-      },
+      run_cut start left held input (taken_whole start now old new left s.front r.taken s.taken r.draws)
+          (reply_partly start.held held input _ (pending_follows start now old new Stands left s bad r)
+          (GrewPartly-after start.held now.held held _ (refusal_line bad) s.wrote grew)),
     )
 
 -- what was written so far, where nothing more is
-cut_here : (start now : Streams) (old new : Reading) (Stands : Said → List Event → Type 0) (left : Option (List ℕ)) (taken : List ℕ) (s : Standing start now old Stands) → Draws old.feed new.feed now.left left taken → CutShort run_words start (record { left = left; held = now.held }) (s.front ++ (old.feed.pending ++ taken))
+cut_here : (start now : Streams) (old new : Reading) (Stands : Said → List Event → Type 0) (left : Option (List ℕ)) (taken : List ℕ) (s : Standing start now old Stands) → Draws old.feed new.feed now.left left taken → CutShort (Some command.Run) start (record { left = left; held = now.held }) (s.front ++ (old.feed.pending ++ taken))
 cut_here start now old new Stands left taken s draws =
-    let hand : AtHand old new (old.feed.pending ++ taken) = at_hand start now old new Stands left taken s draws in
-    record {
-      took = taken_whole start now old new Stands left taken s draws;
-      wrote =
-          partly_replied start.held now.held s.front (old.feed.pending ++ taken) old s.said s.events s.tidy s.read hand.follows
-          (GrewPartly-whole start.held now.held _ s.wrote);
-      agreed = script_agreed (script_of (s.front ++ (old.feed.pending ++ taken)));
-    }
+    let hand : AtHand old new (old.feed.pending ++ taken) = at_hand start now old new left s.front taken s.taken draws in
+    run_cut start left now.held (s.front ++ (old.feed.pending ++ taken)) (taken_whole start now old new left s.front taken s.taken draws)
+    (partly_replied start.held now.held s.front (old.feed.pending ++ taken) old s.said s.events s.tidy s.read hand.follows
+    (GrewPartly-whole start.held now.held _ s.wrote))
 
 -- a read failed
-pub ends_unread : (start now : Streams) (old new : Reading) (Stands : Said → List Event → Type 0) (left : Option (List ℕ)) (s : Standing start now old Stands) → ReadsLine old new now.left left (Err fault.ReadFault) → Outcome run_words start (record { left = left; held = now.held }) status.ReadFault
+pub ends_unread : (start now : Streams) (old new : Reading) (Stands : Said → List Event → Type 0) (left : Option (List ℕ)) (s : Standing start now old Stands) → ReadsLine old new now.left left (Err fault.ReadFault) → Outcome (Some command.Run) start (record { left = left; held = now.held }) status.ReadFault
 ends_unread start now old new Stands left s reads =
     (s.front ++ (old.feed.pending ++ reads.taken), cut_here start now old new Stands left reads.taken s reads.draws)
 
 -- the input is too long
-pub ends_too_long : (start now : Streams) (old new : Reading) (Stands : Said → List Event → Type 0) (left : Option (List ℕ)) (s : Standing start now old Stands) → ReadsLine old new now.left left (Err fault.TooLong) → Outcome run_words start (record { left = left; held = now.held }) status.TooLong
+pub ends_too_long : (start now : Streams) (old new : Reading) (Stands : Said → List Event → Type 0) (left : Option (List ℕ)) (s : Standing start now old Stands) → ReadsLine old new now.left left (Err fault.TooLong) → Outcome (Some command.Run) start (record { left = left; held = now.held }) status.TooLong
 unfolding bytes.lines_of
 ends_too_long start now old new Stands left s reads =
     let f : FindsTooMany old (old.feed.pending ++ reads.taken) = reads.finds in
-    let hand : AtHand old new (old.feed.pending ++ reads.taken) = at_hand start now old new Stands left reads.taken s reads.draws in (
+    let hand : AtHand old new (old.feed.pending ++ reads.taken) = at_hand start now old new left s.front reads.taken s.taken reads.draws in (
       s.front ++ (old.feed.pending ++ reads.taken),
       cut_here start now old new Stands left reads.taken s reads.draws,
       record {
@@ -232,28 +200,22 @@ ends_too_long start now old new Stands left s reads =
         unended = f.«open»;
         rest = f.rest;
         whole = ap (λ b. s.front ++ b) f.whole ∙ sym (append_assoc s.front f.front (f.«open» ++ f.rest));
-        full = simp length-append (omega (arith, s.given, f.full));
+        full = simp length-append (omega (arith, s.taken.given, f.full));
         beyond = f.beyond;
         inner = f.inner;
         short = f.short;
-        unrefused =
-            ap (λ x. (ended (lines_of (script_trace x)) x.refused).status)
-            (ap (λ b. script_of (s.front ++ b)) (sym (append-nil f.front))
-            ∙ (s.read.script (f.front ++ []) (λ ended. absurd (some_bytes f hand ended))
-            ∙ ap (behind s.events) (
-            ap (script_from s.said (old.lines + 1)) (f.lines [])
-            ∙ (script_from-passed s.said f.passed (old.lines + 1) [] f.each ∙ script_from-none s.said (old.lines + 1 + length f.passed)))));
+        unrefused = (
+          run_reply (s.front ++ f.front),
+          refl,
+          ap (λ x. (ended (lines_of (script_trace x)) x.refused).status)
+              (ap (λ b. script_of (s.front ++ b)) (sym (append-nil f.front))
+              ∙ (s.read.script (f.front ++ []) (too_many_follow old new (old.feed.pending ++ reads.taken) hand f)
+              ∙ ap (behind s.events) (
+              ap (script_from s.said (old.lines + 1)) (f.lines [])
+              ∙ (script_from-passed s.said f.passed (old.lines + 1) [] f.each ∙ script_from-none s.said (old.lines + 1 + length f.passed))))),
+        );
       },
     )
-  where
-    not_nothing : (front unended rest : List ℕ) → 0 < length rest → front ++ (unended ++ rest) ≡ [] → ⊥
-    not_nothing [] [] [] h e = absurd (omega arith)
-    not_nothing [] [] (b ∷ rest) h e = cc
-    not_nothing [] (b ∷ unended) rest h e = cc
-    not_nothing (b ∷ front) unended rest h e = cc
-
-    some_bytes : (f : FindsTooMany old (old.feed.pending ++ reads.taken)) → AtHand old new (old.feed.pending ++ reads.taken) → old.feed.ended ≡ true → ⊥
-    some_bytes f hand e = not_nothing f.front f.«open» f.rest f.beyond (sym f.whole ∙ hand.follows e)
 
 -- a line that says something, where it was read
 pub record Leads (start now : Streams) (old new : Reading) (Stands : Said → List Event → Type 0) (left : Option (List ℕ)) (s : Standing start now old Stands) (says : ScriptLine) : Type 0 where
@@ -286,48 +248,33 @@ text_behind said events text tidy (line.Fact (fact.Set octets)) judge =
 read_behind : (start now : Streams) (old new : Reading) (Stands : Said → List Event → Type 0) (left : Option (List ℕ)) (s : Standing start now old Stands) (says : ScriptLine) → (l : Leads start now old new Stands left s says) → ReadSoFar (s.front ++ l.reads.finds.0.front) new (said_after s.said says) (s.events ++ event_of says)
 read_behind start now old new Stands left s says l =
     read_line s.front old new s.said s.events (old.feed.pending ++ l.reads.taken) says s.read
-    (at_hand start now old new Stands left l.reads.taken s l.reads.draws) l.reads.finds.0 l.judge
+    (at_hand start now old new left s.front l.reads.taken s.taken l.reads.draws) l.reads.finds.0 l.judge
 
 -- the run stands behind one more line
 pub stands_behind : (start now : Streams) (old new : Reading) (Stands Next : Said → List Event → Type 0) (left held : Option (List ℕ)) (s : Standing start now old Stands) (says : ScriptLine) → Leads start now old new Stands left s says → Grew now.held held (lines_of (entries_of s.said s.events says)) → Next (said_after s.said says) (s.events ++ event_of says) → Standing start (record { left = left; held = held }) new Next
 stands_behind start now old new Stands Next left held s says l grew stands =
-    let f : FindsLine old new (old.feed.pending ++ l.reads.taken) = l.reads.finds.0 in
     record {
-      front = s.front ++ f.front;
+      front = s.front ++ l.reads.finds.0.front;
+      taken = taken_behind start now old new left held s.front s.taken l.reads;
       said = said_after s.said says;
       events = s.events ++ event_of says;
-      took =
-          let P : List ℕ → Type 0 = λ z. Took start.left left z in
-          subst P (front_whole s.front (old.feed.pending ++ l.reads.taken) f.front new.feed.pending f.whole)
-          (taken_whole start now old new Stands left l.reads.taken s l.reads.draws);
-      given = simp length-append (omega (arith, s.given, f.given));
       read = read_behind start now old new Stands left s says l;
       wrote =
           let P : List ℕ → Type 0 = λ t. Grew start.held held t in
           subst P (sym (text_behind s.said s.events new.text s.tidy says l.judge)) (Grew-append start.held now.held held _ _ s.wrote grew);
       stands = stands;
       tidy = tidy_behind s.said s.events new.text s.tidy says l.judge;
-      alive = l.reads.finds.1;
-      done = l.reads.done;
-      «end» = λ e. at_end start now old new Stands left l.reads.taken s l.reads.draws e;
     }
 
 -- the entries of a line could not be told whole
-pub cut_line : (start now : Streams) (old new : Reading) (Stands : Said → List Event → Type 0) (left held : Option (List ℕ)) (s : Standing start now old Stands) (says : ScriptLine) → Leads start now old new Stands left s says → GrewPartly now.held held (lines_of (entries_of s.said s.events says)) → (input : List ℕ) × CutShort run_words start (record { left = left; held = held }) input
+pub cut_line : (start now : Streams) (old new : Reading) (Stands : Said → List Event → Type 0) (left held : Option (List ℕ)) (s : Standing start now old Stands) (says : ScriptLine) → Leads start now old new Stands left s says → GrewPartly now.held held (lines_of (entries_of s.said s.events says)) → (input : List ℕ) × CutShort (Some command.Run) start (record { left = left; held = held }) input
 cut_line start now old new Stands left held s says l grew =
-    let f : FindsLine old new (old.feed.pending ++ l.reads.taken) = l.reads.finds.0 in
-    let whole : s.front ++ (old.feed.pending ++ l.reads.taken) ≡ (s.front ++ f.front) ++ new.feed.pending =
-    front_whole s.front (old.feed.pending ++ l.reads.taken) f.front new.feed.pending f.whole in (
+    let f : FindsLine old new (old.feed.pending ++ l.reads.taken) = l.reads.finds.0 in (
       (s.front ++ f.front) ++ new.feed.pending,
-      record {
-        took =
-            let P : List ℕ → Type 0 = λ z. Took start.left left z in
-            subst P whole (taken_whole start now old new Stands left l.reads.taken s l.reads.draws);
-        wrote =
-            partly_replied start.held held (s.front ++ f.front) new.feed.pending new (said_after s.said says) (s.events ++ event_of says)
-            (tidy_behind s.said s.events new.text s.tidy says l.judge) (read_behind start now old new Stands left s says l) l.reads.done
-            (let P : List ℕ → Type 0 = λ t. GrewPartly start.held held t in
-            subst P (sym (text_behind s.said s.events new.text s.tidy says l.judge)) (GrewPartly-after start.held now.held held _ _ s.wrote grew));
-        agreed = script_agreed (script_of ((s.front ++ f.front) ++ new.feed.pending));
-      },
+      run_cut start left held ((s.front ++ f.front) ++ new.feed.pending)
+          (taken_behind start now old new left held s.front s.taken l.reads).took
+          (partly_replied start.held held (s.front ++ f.front) new.feed.pending new (said_after s.said says) (s.events ++ event_of says)
+          (tidy_behind s.said s.events new.text s.tidy says l.judge) (read_behind start now old new Stands left s says l) l.reads.done
+          (let P : List ℕ → Type 0 = λ t. GrewPartly start.held held t in
+          subst P (sym (text_behind s.said s.events new.text s.tidy says l.judge)) (GrewPartly-after start.held now.held held _ _ s.wrote grew))),
     )

@@ -1,3 +1,6 @@
+mod Takings
+mod SetsGiven
+mod SetsRead
 mod ScriptRead
 mod TextSoFar
 mod Endings

@@ -13,6 +13,7 @@ use Rattle.trace_text.specs.Lines.{lines_of, line_fault, is_comment, IsPassedOve
 use Rattle.trace_text.specs.Reading.{Reading, MayFollow, FindsLine, FindsEnd, FindsBad}
 use Rattle.trace_text.specs.Script.{Said, Script, script_of, script_from, script_line, judged, placed, placed_line, said_after, in_front}
 use Rattle.ecall_top.specs.Progress.{behind, ReadSoFar, event_of}
+use Rattle.ecall_top.proofs.Takings.{AtHand, front_follows}
 
 pub judged-passed : (said : Said) (text : List ℕ) → IsPassedOver text → judged said text ≡ Ok None
 judged-passed said text h = rw (judged, h.0, h.1) refl
@@ -51,20 +52,6 @@ behind-in_front : (events : List Event) (says : ScriptLine) (script : Script) �
 behind-in_front events (line.Fact f) script = ap (λ es. behind es script) (sym (append-nil events))
 behind-in_front events (line.Event e) script =
     ap (λ es. record script { events = es }) (sym (append_assoc events (e ∷ []) script.events))
-
--- Where nothing may follow what is at hand, it is nothing itself.
-pub record AtHand (old new : Reading) (bytes : List ℕ) : Type 0 where
-  pub follows : MayFollow old.feed bytes
-  pub stays : old.feed.ended ≡ true → new.feed.ended ≡ true
-
-front_follows : (old new : Reading) (bytes front more : List ℕ) → AtHand old new bytes → bytes ≡ front ++ new.feed.pending → MayFollow new.feed more → MayFollow old.feed (front ++ more)
-front_follows old new bytes front more hand whole follows ended =
-    let none : bytes ≡ [] = hand.follows ended in
-    rw (front_nil front new.feed.pending (sym whole ∙ none)) (follows (hand.stays ended))
-  where
-    front_nil : (front rest : List ℕ) → front ++ rest ≡ [] → front ≡ []
-    front_nil [] rest h = refl
-    front_nil (b ∷ front) rest h = absurd (cc)
 
 -- behind a line that is found, the script goes on with that line
 line_found : (front : List ℕ) (old new : Reading) (said : Said) (events : List Event) (bytes : List ℕ) → ReadSoFar front old said events → AtHand old new bytes → (finds : FindsLine old new bytes) → (more : List ℕ) → MayFollow new.feed more → script_of ((front ++ finds.front) ++ more) ≡ behind events (script_from said new.lines (new.text ∷ lines_of more))

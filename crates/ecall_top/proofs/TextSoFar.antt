@@ -16,7 +16,8 @@ use Rattle.trace_text.specs.Lines as bytes
 use Rattle.trace_text.specs.Reading.{Reading, MayFollow}
 use Rattle.call_io.specs.Bytes.{GrewPartly}
 use Rattle.call_io.proofs.BytesLemmas.{GrewPartly-longer}
-use Rattle.ecall_top.specs.Reply.{played, script_trace, ended, refusal_line, run_reply}
+use Rattle.ecall_top.specs.Reply.{played, script_trace, ended, run_reply}
+use Rattle.ecall_top.specs.Refusals.{refusal_line}
 use Rattle.ecall_top.specs.Standing.{IsTidy}
 use Rattle.ecall_top.proofs.ScriptRead.{ready_kept}
 

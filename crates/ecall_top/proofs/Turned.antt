@@ -1,5 +1,5 @@
 -- What a turn of a run comes to, by how the line was read and played.
-use Rattle.std.specs.Prelude.{◌≡◌, ℕ, ◌+◌, ◌≤◌, true, List, Option, Result, Ok, Err}
+use Rattle.std.specs.Prelude.{◌≡◌, ℕ, ◌+◌, ◌≤◌, true, List, Option, Some, Result, Ok, Err}
 use Rattle.std.proofs.Common.{sym, ap, refl, subst, arith, ◌∙◌, inl, inr}
 use Rattle.trace_text.specs.declared.event.Event.{Event}
 use Rattle.trace_text.specs.declared.reason.Reason.{Reason}
@@ -16,14 +16,16 @@ use Rattle.ecall_top.specs.declared.stage.Stage.{Stage}
 use Rattle.ecall_top.specs.declared.status.Status.{Status}
 use Rattle.ecall_top.specs.declared.status.Status.TheVariants as status
 use Rattle.ecall_top.specs.Outcome.{Streams, Outcome}
-use Rattle.ecall_top.specs.Reply.{refusal_line, run_words}
+use Rattle.ecall_top.specs.Refusals.{refusal_line}
 use Rattle.ecall_top.specs.Stage.{StageStandsFor, Obeys, calls_in}
 use Rattle.ecall_top.specs.declared.stage.Halt.{Halt}
 use Rattle.ecall_top.specs.declared.stage.Halt.TheVariants as halt
 use Rattle.trace_text.specs.declared.text_out.TextOut.{TextOut}
 use Rattle.trace_text.specs.Listener.{TextGrew, TextGrewPartly, sink_name}
 use Rattle.ecall_top.specs.Standing.{Standing}
-use Rattle.ecall_top.specs.Turns.{Writes, FailsWith, Plays, Turns}
+use Rattle.ecall_top.specs.declared.command.Command.TheVariants as command
+use Rattle.ecall_top.specs.Ends.{Writes, FailsWith}
+use Rattle.ecall_top.specs.Turns.{Plays, Turns}
 use Rattle.ecall_top.proofs.ScriptRead.{judged-line}
 use Rattle.ecall_top.proofs.Endings.{ending_bad, ending_line, ends_refused, cut_refused, ends_unread, ends_too_long, stands_behind, cut_line}
 
@@ -93,12 +95,12 @@ turns_played start now old new stage line left held line_is reads few t plays s 
     by_turn (turn.End _) h = absurd h
 
 -- a line that was refused for its length or its bytes
-pub turns_bad : (start now : Streams) (old new : Reading) (stage : Stage) (left held : Option (List ℕ)) (bad : BadLine) → ReadsLine old new now.left left (Err (fault.Bad bad)) → (answer : Status) → Writes now.held held (refusal_line bad) status.Refused answer → Standing start now old (StageStandsFor stage) → Outcome run_words start (record { left = left; held = held }) answer
+pub turns_bad : (start now : Streams) (old new : Reading) (stage : Stage) (left held : Option (List ℕ)) (bad : BadLine) → ReadsLine old new now.left left (Err (fault.Bad bad)) → (answer : Status) → Writes now.held held (refusal_line bad) status.Refused answer → Standing start now old (StageStandsFor stage) → Outcome (Some command.Run) start (record { left = left; held = held }) answer
 turns_bad start now old new stage left held bad reads answer (inl h) s =
-    subst (λ (a : Status). Outcome run_words start (record { left = left; held = held }) a) (sym h.0)
+    subst (λ (a : Status). Outcome (Some command.Run) start (record { left = left; held = held }) a) (sym h.0)
     (ends_refused start now old new (StageStandsFor stage) left held s bad (ending_bad start now old new (StageStandsFor stage) left s bad reads) h.1)
 turns_bad start now old new stage left held bad reads answer (inr h) s =
-    subst (λ (a : Status). Outcome run_words start (record { left = left; held = held }) a) (sym h.0)
+    subst (λ (a : Status). Outcome (Some command.Run) start (record { left = left; held = held }) a) (sym h.0)
     (cut_refused start now old new (StageStandsFor stage) left held s bad (ending_bad start now old new (StageStandsFor stage) left s bad reads) h.1)
 
 -- a listener that writes lines still writes to the same sink, whatever came of them
@@ -108,13 +110,13 @@ told_same_sink held old new stage said events says (Err (halt.Refused why)) h = 
 told_same_sink held old new stage said events says (Err (halt.Sim fault)) h = h.1.0
 
 -- a line that couldn't be read ends the run
-pub turns_failed : (start now : Streams) (old new : Reading) (stage : Stage) (left held : Option (List ℕ)) → (f : LineFault) → ReadsLine old new now.left left (Err f) → (answer : Status) → FailsWith f now.held held answer → Standing start now old (StageStandsFor stage) → Outcome run_words start (record { left = left; held = held }) answer
+pub turns_failed : (start now : Streams) (old new : Reading) (stage : Stage) (left held : Option (List ℕ)) → (f : LineFault) → ReadsLine old new now.left left (Err f) → (answer : Status) → FailsWith f now.held held answer → Standing start now old (StageStandsFor stage) → Outcome (Some command.Run) start (record { left = left; held = held }) answer
 turns_failed start now old new stage left held (fault.Bad bad) reads answer writes s = turns_bad start now old new stage left held bad reads answer writes s
 turns_failed start now old new stage left held fault.ReadFault reads answer fails s =
-    subst (λ (h : Option (List ℕ)). Outcome run_words start (record { left = left; held = h }) answer) (sym fails.1)
-    (subst (λ (a : Status). Outcome run_words start (record { left = left; held = now.held }) a) (sym fails.0)
+    subst (λ (h : Option (List ℕ)). Outcome (Some command.Run) start (record { left = left; held = h }) answer) (sym fails.1)
+    (subst (λ (a : Status). Outcome (Some command.Run) start (record { left = left; held = now.held }) a) (sym fails.0)
     (ends_unread start now old new (StageStandsFor stage) left s reads))
 turns_failed start now old new stage left held fault.TooLong reads answer fails s =
-    subst (λ (h : Option (List ℕ)). Outcome run_words start (record { left = left; held = h }) answer) (sym fails.1)
-    (subst (λ (a : Status). Outcome run_words start (record { left = left; held = now.held }) a) (sym fails.0)
+    subst (λ (h : Option (List ℕ)). Outcome (Some command.Run) start (record { left = left; held = h }) answer) (sym fails.1)
+    (subst (λ (a : Status). Outcome (Some command.Run) start (record { left = left; held = now.held }) a) (sym fails.0)
     (ends_too_long start now old new (StageStandsFor stage) left s reads))

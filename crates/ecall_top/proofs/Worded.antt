@@ -1,35 +1,36 @@
--- What an answer says, by the words.
-use Rattle.std.specs.Prelude.{◌≡◌, ℕ, false, List, [], Option, cond}
-use Rattle.std.proofs.Common.{sym, ap, subst, inl, inr}
-use Rattle.call_io.specs.Bytes.{Grew, GrewPartly}
+-- What an answer says where the words name no command.
+use Rattle.std.specs.Prelude.{◌≡◌, ℕ, List, [], Option, None}
+use Rattle.std.proofs.Common.{sym, refl, subst, inl, inr}
 use Rattle.call_io.proofs.BytesLemmas.{Took-nothing}
-use Rattle.trace_text.specs.Script.{script_of}
+use Rattle.ecall_top.specs.declared.command.Command.{Command}
 use Rattle.ecall_top.specs.declared.status.Status.{Status}
 use Rattle.ecall_top.specs.declared.status.Status.TheVariants as status
+use Rattle.ecall_top.specs.Ends.{Writes}
 use Rattle.ecall_top.specs.Outcome.{Outcome}
-use Rattle.ecall_top.specs.Reply.{Reply, reply, run_reply, is_run, usage_line}
-use Rattle.ecall_top.specs.Turns.{Writes}
-use Rattle.ecall_top.proofs.Endings.{script_agreed}
+use Rattle.ecall_top.specs.Reply.{usage_line}
 
-reply_usage : (words : List (List ℕ)) → is_run words ≡ false → (input : List ℕ) → reply words input ≡ record { text = usage_line; status = status.Usage }
-reply_usage words h input =
-    ap (λ b. cond b (run_reply input) (record { text = usage_line; status = status.Usage })) h
-
-pub used : (words : List (List ℕ)) → is_run words ≡ false → (left held held' : Option (List ℕ)) (answer : Status) → Writes held held' usage_line status.Usage answer → Outcome words (record { left = left; held = held }) (record { left = left; held = held' }) answer
-used words h left held held' answer (inl writes) =
-    subst (λ (a : Status). Outcome words (record { left = left; held = held }) (record { left = left; held = held' }) a) (sym writes.0)
-    (record {
-      took = Took-nothing left;
-      wrote = subst (λ (r : Reply). Grew held held' r.text) (sym (reply_usage words h [])) writes.1;
-      status = ap (λ r. r.status) (reply_usage words h []);
-      agreed = script_agreed (script_of []);
-    })
-used words h left held held' answer (inr writes) =
-    subst (λ (a : Status). Outcome words (record { left = left; held = held }) (record { left = left; held = held' }) a) (sym writes.0) (
+-- the usage line was written, or a part of it
+pub used : (left held held' : Option (List ℕ)) (answer : Status) → Writes held held' usage_line status.Usage answer → Outcome None (record { left = left; held = held }) (record { left = left; held = held' }) answer
+used left held held' answer (inl writes) =
+    subst (λ (a : Status). Outcome None (record { left = left; held = held }) (record { left = left; held = held' }) a) (sym writes.0) (
+      record { text = usage_line; status = status.Usage },
+      record { took = Took-nothing left; replies = refl; wrote = writes.1 },
+      refl,
+    )
+used left held held' answer (inr writes) =
+    subst (λ (a : Status). Outcome None (record { left = left; held = held }) (record { left = left; held = held' }) a) (sym writes.0) (
       [],
       record {
         took = Took-nothing left;
-        wrote = subst (λ (r : Reply). GrewPartly held held' r.text) (sym (reply_usage words h [])) writes.1;
-        agreed = script_agreed (script_of []);
+        answered = [];
+        covers = ([], refl);
+        reply = record { text = usage_line; status = status.Usage };
+        replies = refl;
+        wrote = writes.1;
       },
     )
+
+-- an answer to a command is one to words that name it
+pub named : (asked asked' : Option Command) (left left' held held' : Option (List ℕ)) (answer : Status) → asked ≡ asked' → Outcome asked' (record { left = left; held = held }) (record { left = left'; held = held' }) answer → Outcome asked (record { left = left; held = held }) (record { left = left'; held = held' }) answer
+named asked asked' left left' held held' answer same outcome =
+    subst (λ (a : Option Command). Outcome a (record { left = left; held = held }) (record { left = left'; held = held' }) answer) (sym same) outcome

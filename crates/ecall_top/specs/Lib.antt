@@ -1,7 +1,13 @@
+pub mod Commands
+pub mod Decoding
+pub mod Ends
 pub mod Outcome
 pub mod Progress
+pub mod Refusals
 pub mod Reply
+pub mod SetTurns
 pub mod Stage
 pub mod Standing
 pub mod Status
+pub mod Taken
 pub mod Turns

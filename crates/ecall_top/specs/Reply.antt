@@ -1,37 +1,20 @@
--- What `ecall` replies to words and a whole input: the text that it writes and the status that it answers. This
--- project's profile. Cited by the contract of `ecall`.
-use Rattle.std.specs.Prelude.{ℕ, Bool, false, List, [], ◌∷◌, ◌++◌, Option, Some, None, codes, decimal, if◌then◌else◌}
-use Rattle.std.specs.Str.{bytes_eq}
+-- What `ecall` replies to words and a whole input. This project's profile. Cited by the contract of `ecall`.
+use Rattle.std.specs.Prelude.{◌≡◌, ℕ, List, [], ◌∷◌, ◌++◌, Option, Some, None, codes}
 use Rattle.ivs_machine.specs.declared.facts.Facts.TheVariants as facts
 use Rattle.trace_text.specs.declared.entry.Entry.{Entry}
 use Rattle.trace_text.specs.declared.event.Event.{Event}
 use Rattle.trace_text.specs.declared.reason.BadLine.{BadLine}
-use Rattle.trace_text.specs.EntryLine.{spaced, lines_of}
-use Rattle.trace_text.specs.ReasonCode.{reason_code}
+use Rattle.trace_text.specs.EntryLine.{lines_of}
 use Rattle.trace_text.specs.Script.{Script, script_of}
 use Rattle.channel_sim.specs.World.{trace}
-use Rattle.ecall_top.specs.declared.status.Status.{Status}
+use Rattle.ecall_top.specs.declared.command.Command.{Command}
+use Rattle.ecall_top.specs.declared.command.Command.TheVariants as command
 use Rattle.ecall_top.specs.declared.status.Status.TheVariants as status
-
-pub record Reply : Type 0 where
-  pub text : List ℕ
-  pub status : Status
-
--- the words of the command `run`
-abbrev pub run_words : List (List ℕ)
-run_words = codes "run" ∷ []
-
--- whether these are the words of `run`
-abbrev pub is_run : List (List ℕ) → Bool
-is_run (word ∷ []) = bytes_eq word (codes "run")
-is_run _ = false
+use Rattle.ecall_top.specs.Decoding.{IsDecoded}
+use Rattle.ecall_top.specs.Refusals.{Reply, refusal_line}
 
 abbrev pub usage_line : List ℕ
 usage_line = codes "usage: ecall run|register|decode|encode|frames|replay|trial N|make N|conform" ++ 10 ∷ []
-
--- the line that refuses a line
-abbrev pub refusal_line : BadLine → List ℕ
-refusal_line bad = codes "refused" ++ spaced (decimal bad.line ∷ decimal (reason_code bad.reason) ∷ []) ++ 10 ∷ []
 
 -- the trace of these events, where the vehicle's facts are known; without facts there is no event
 abbrev pub played : Option (List ℕ) → List Event → List Entry
@@ -51,6 +34,8 @@ ended text (Some bad) = record { text = text ++ refusal_line bad; status = statu
 abbrev pub run_reply : List ℕ → Reply
 run_reply input = ended (lines_of (script_trace (script_of input))) (script_of input).refused
 
--- the reply to words and an input
-abbrev pub reply : List (List ℕ) → List ℕ → Reply
-reply words input = if is_run words then run_reply input else record { text = usage_line; status = status.Usage }
+-- the reply to a command and an input, or to words that name none
+abbrev pub Replies : Option Command → List ℕ → Reply → Type 0
+Replies None input r = r ≡ record { text = usage_line; status = status.Usage }
+Replies (Some command.Run) input r = r ≡ run_reply input
+Replies (Some command.Decode) input r = IsDecoded input r

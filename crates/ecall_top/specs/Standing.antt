@@ -1,8 +1,7 @@
 -- Where a run stands between two lines of its script: what it took and wrote since it began, what the lines said, and
 -- what stands for that. This project's profile. Cited by the contracts of the functions that play a script.
-use Rattle.std.specs.Prelude.{◌≡◌, ℕ, ◌⊎◌, true, false, List, [], ◌++◌, length}
-use Rattle.std.specs.Io.KnownBytes.{IsAtEnd}
-use Rattle.call_io.specs.Bytes.{Took, Grew}
+use Rattle.std.specs.Prelude.{◌≡◌, ℕ, ◌⊎◌, true, List, []}
+use Rattle.call_io.specs.Bytes.{Grew}
 use Rattle.trace_text.specs.declared.event.Event.{Event}
 use Rattle.trace_text.specs.EntryLine.{lines_of}
 use Rattle.trace_text.specs.Reading.{Reading}
@@ -10,6 +9,7 @@ use Rattle.trace_text.specs.Script.{Said}
 use Rattle.ecall_top.specs.Outcome.{Streams}
 use Rattle.ecall_top.specs.Progress.{ReadSoFar}
 use Rattle.ecall_top.specs.Reply.{played}
+use Rattle.ecall_top.specs.Taken.{TakenSoFar}
 
 -- events come behind the first event line alone
 abbrev pub IsTidy : Said → List Event → Type 0
@@ -17,14 +17,10 @@ IsTidy said events = (said.eventful ≡ true) ⊎ (events ≡ [])
 
 pub record Standing (start now : Streams) (reading : Reading) (Stands : Said → List Event → Type 0) : Type 0 where
   pub front : List ℕ
+  pub taken : TakenSoFar start now reading front
   pub said : Said
   pub events : List Event
-  pub took : Took start.left now.left (front ++ reading.feed.pending)
-  pub given : reading.feed.given ≡ length front
   pub read : ReadSoFar front reading said events
   pub wrote : Grew start.held now.held (lines_of (played said.ready events))
   pub stands : Stands said events
   pub tidy : IsTidy said events
-  pub alive : reading.failed ≡ false
-  pub done : reading.feed.ended ≡ true → reading.feed.pending ≡ []
-  pub «end» : reading.feed.ended ≡ true → IsAtEnd now.left

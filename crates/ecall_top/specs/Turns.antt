@@ -3,8 +3,6 @@
 use Rattle.std.specs.Prelude.{◌≡◌, ℕ, ◌<◌, ◌≤◌, ◌⊎◌, List, ◌++◌, Option, Some, Result, Ok, Err}
 use Rattle.call_io.specs.Bytes.{Grew, GrewPartly}
 use Rattle.trace_text.specs.declared.event.Event.{Event}
-use Rattle.trace_text.specs.declared.fault.LineFault.{LineFault}
-use Rattle.trace_text.specs.declared.fault.LineFault.TheVariants as fault
 use Rattle.trace_text.specs.declared.reason.Reason.{Reason}
 use Rattle.trace_text.specs.declared.script.ScriptLine.{ScriptLine}
 use Rattle.trace_text.specs.EntryLine.{lines_of}
@@ -13,24 +11,13 @@ use Rattle.trace_text.specs.Script.{Said, said_after}
 use Rattle.ecall_top.specs.declared.run.Turn.{Turn}
 use Rattle.ecall_top.specs.declared.run.Turn.TheVariants as turn
 use Rattle.ecall_top.specs.declared.stage.Stage.{Stage}
-use Rattle.ecall_top.specs.declared.status.Status.{Status}
 use Rattle.ecall_top.specs.declared.status.Status.TheVariants as status
 use Rattle.ecall_top.specs.Outcome.{Streams, Outcome}
 use Rattle.ecall_top.specs.Progress.{event_of, entries_of}
-use Rattle.ecall_top.specs.Reply.{refusal_line, run_words}
+use Rattle.ecall_top.specs.Refusals.{refusal_line}
+use Rattle.ecall_top.specs.declared.command.Command.TheVariants as command
 use Rattle.ecall_top.specs.Stage.{StageStandsFor, calls_in}
 use Rattle.ecall_top.specs.Standing.{Standing}
-
--- a text was written whole, and this is the answer to that, or a part of it and writing failed
-abbrev pub Writes : (held held' : Option (List ℕ)) → List ℕ → (whole answer : Status) → Type 0
-Writes held held' text whole answer =
-    ((answer ≡ whole) × Grew held held' text) ⊎ ((answer ≡ status.WriteFault) × GrewPartly held held' text)
-
--- what an answer says where a line couldn't be read: it is refused, or nothing more is written
-abbrev pub FailsWith : LineFault → (held held' : Option (List ℕ)) → (answer : Status) → Type 0
-FailsWith (fault.Bad bad) held held' answer = Writes held held' (refusal_line bad) status.Refused answer
-FailsWith fault.ReadFault held held' answer = (answer ≡ status.ReadFault) × (held' ≡ held)
-FailsWith fault.TooLong held held' answer = (answer ≡ status.TooLong) × (held' ≡ held)
 
 -- What a line says in its place, and what was told of it.
 pub record Told (place : Result (Option ScriptLine) Reason) (said : Said) (events : List Event) (Wrote : List ℕ → Type 0) : Type 0 where
@@ -65,4 +52,4 @@ Plays place number said events calls held held' (turn.End _) = ⊥
 abbrev pub Turns : (start now : Streams) → (old new : Reading) → Turn → Type 0
 Turns start now old new (turn.Next next) =
     Standing start now new (StageStandsFor next) × (calls_in next ≤ new.lines) × (old.lines < new.lines) × (new.lines ≤ 16777216)
-Turns start now old new (turn.End answer) = Outcome run_words start now answer
+Turns start now old new (turn.End answer) = Outcome (Some command.Run) start now answer

@@ -1,25 +1,25 @@
 //! The command `run`: a script in, its trace out.
 
-ghost use Rattle.std.specs.Prelude.{◌≡◌, ◌+◌, ◌<◌, ◌≤◌, false, List, Err};
+ghost use Rattle.std.specs.Prelude.{◌≡◌, ◌+◌, ◌<◌, ◌≤◌, false, List, Some, Err};
 ghost use Rattle.call_io.specs.Bytes.{Grew, GrewPartly};
 ghost use Rattle.call_io.specs.Counts.{Rose};
 ghost use Rattle.trace_text.specs.declared.event.Event.{Event};
 ghost use Rattle.trace_text.specs.Script.{Said};
 ghost use Rattle.trace_text.specs.Script.{script_line, placed, placed_line};
 ghost use Rattle.ecall_top.specs.Outcome.{Outcome, Streams};
-ghost use Rattle.ecall_top.specs.Reply.{run_words, refusal_line};
+ghost use Rattle.ecall_top.specs.declared.command.Command.TheVariants as command;
 ghost use Rattle.ecall_top.specs.Stage.{StageStandsFor, Obeys, calls_in};
 ghost use Rattle.trace_text.specs.EntryLine.{lines_of};
 ghost use Rattle.ecall_top.specs.Standing.{Standing};
-ghost use Rattle.ecall_top.specs.Turns.{Turns, Plays, Writes, FailsWith};
+ghost use Rattle.ecall_top.specs.Turns.{Turns, Plays};
 
-use crate::refusal::write_refusal;
+use crate::refusal::{fail, refuse, refuse_line};
 use crate::stage::{Halt, Stage};
 use crate::status::Status;
 use call_io::{Sink, Source};
 use channel_sim::SimFault;
 use std::alloc::Global;
-use trace_text::{BadLine, Line, LineFault, Lines, ScriptLine, TextOut, read_script};
+use trace_text::{Line, Lines, ScriptLine, TextOut, read_script};
 
 /// What a turn of a run comes to.
 #[derive(Drop)]
@@ -30,7 +30,7 @@ enum Turn {
 
 /// Plays the script that the input has, and writes its trace.
 pub(crate) fn run<I: Source, O: Sink>(alloc: Global, input: &mut I, output: &mut O) -> Status
-    ensures outcome { Outcome run_words (record { left = I.left input.old; held = O.held output.old }) (record { left = I.left input.new; held = O.held output.new }) result }
+    ensures outcome { Outcome (Some command.Run) (record { left = I.left input.old; held = O.held output.old }) (record { left = I.left input.new; held = O.held output.new }) result }
     ensures unread { result ≡ Status.ReadFault → Rose (I.faults input.old) (I.faults input.new) }
     ensures unwritten { result ≡ Status.WriteFault → Rose (O.faults output.old) (O.faults output.new) }
     ensures reads_counted { I.faults input.old ≤ I.faults input.new }
@@ -75,20 +75,6 @@ fn take_turn<I: Source, O: Sink>(
     }
 }
 
-/// Ends a run whose next line couldn't be read.
-fn fail<O: Sink>(fault: LineFault, output: &mut O) -> Status
-    ensures fails { FailsWith fault (O.held output.old) (O.held output.new) result }
-    ensures read { result ≡ Status.ReadFault → fault ≡ LineFault.ReadFault }
-    ensures unwritten { result ≡ Status.WriteFault → Rose (O.faults output.old) (O.faults output.new) }
-    ensures counted { O.faults output.old ≤ O.faults output.new }
-{
-    match fault {
-        LineFault::Bad(bad) => refuse(&bad, output),
-        LineFault::ReadFault => Status::ReadFault,
-        LineFault::TooLong => Status::TooLong,
-    }
-}
-
 /// Plays a line that was read.
 fn play_line<O: Sink>(alloc: Global, line: &Line<'_>, stage: Stage, output: &mut O) -> Turn
     requires few { calls_in stage < 4294967295 }
@@ -121,13 +107,7 @@ fn obey<O: Sink>(
 {
     match tell(alloc, stage, says, output) {
         Ok(next) => Turn::Next(next),
-        Err(Halt::Refused(reason)) => {
-            let bad = BadLine {
-                line: number,
-                reason,
-            };
-            Turn::End(refuse(&bad, output))
-        }
+        Err(Halt::Refused(reason)) => Turn::End(refuse_line(number, reason, output)),
         Err(Halt::Sim(SimFault::Write)) => Turn::End(Status::WriteFault),
         Err(Halt::Sim(SimFault::Memory)) => Turn::End(Status::Memory),
     }
@@ -148,17 +128,4 @@ fn tell<O: Sink>(
 {
     let mut to = TextOut::over(output);
     stage.obey(alloc, says, &mut to)
-}
-
-/// Refuses a line, and ends the run with that.
-fn refuse<O: Sink>(bad: &BadLine, output: &mut O) -> Status
-    ensures writes { Writes (O.held output.old) (O.held output.new) (refusal_line bad.now) Status.Refused result }
-    ensures read { result ≡ Status.ReadFault → ⊥ }
-    ensures unwritten { result ≡ Status.WriteFault → Rose (O.faults output.old) (O.faults output.new) }
-    ensures counted { O.faults output.old ≤ O.faults output.new }
-{
-    match write_refusal(bad, output) {
-        Ok(()) => Status::Refused,
-        Err(_) => Status::WriteFault,
-    }
 }

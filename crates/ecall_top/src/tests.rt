@@ -42,7 +42,7 @@ fn expand(alloc: Global, text: &str) -> Result<String, AllocError> {
 }
 
 /// A source of these pieces of text, at most so many bytes a call.
-fn source(
+pub(crate) fn source(
     alloc: Global,
     pieces: &[&str],
     most: usize,
@@ -58,7 +58,7 @@ fn source(
 }
 
 /// Carries out these words, one by one behind single spaces.
-fn call(
+pub(crate) fn call(
     alloc: Global,
     words: &str,
     input: &mut MemSource,
@@ -72,7 +72,7 @@ fn call(
 }
 
 /// A sink with room for any run here.
-fn sink(alloc: Global, fails: Vec<u64>) -> Result<MemSink, Fail> {
+pub(crate) fn sink(alloc: Global, fails: Vec<u64>) -> Result<MemSink, Fail> {
     Ok(MemSink::new(alloc, 20_000, fails)?)
 }
 
@@ -132,7 +132,8 @@ fn refuses_and_ends(rt: HostRuntime) -> Result<(), Fail> {
         ("run", "", Status::Done, ""),
         ("run", "\n\n# nothing\n", Status::Done, ""),
         ("run fast", "", Status::Usage, usage),
-        ("decode", "", Status::Usage, usage),
+        ("decode all", "", Status::Usage, usage),
+        ("encode", "", Status::Usage, usage),
         ("--help", "", Status::Usage, usage),
         ("", "", Status::Usage, usage),
     ];

@@ -1,0 +1,18 @@
+-- Which command the words name: each form of words is an exact list. This project's profile. Cited by the reply to
+-- words and an input.
+use Rattle.std.specs.Prelude.{ℕ, List, [], ◌∷◌, Option, Some, None, codes, if◌then◌else◌}
+use Rattle.std.specs.Str.{bytes_eq}
+use Rattle.ecall_top.specs.declared.command.Command.{Command}
+use Rattle.ecall_top.specs.declared.command.Command.TheVariants as command
+
+-- the command of one word
+abbrev pub command_named : List ℕ → Option Command
+command_named word =
+    if bytes_eq word (codes "run") then Some command.Run
+    else if bytes_eq word (codes "decode") then Some command.Decode
+    else None
+
+-- the command that the words name; no other words are a form of words
+abbrev pub command_of : List (List ℕ) → Option Command
+command_of (word ∷ []) = command_named word
+command_of _ = None

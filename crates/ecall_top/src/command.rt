@@ -1,0 +1,32 @@
+//! The commands.
+
+ghost use Rattle.std.specs.Prelude.{◌≡◌, map};
+ghost use Rattle.std.specs.String.{string_bytes};
+ghost use Rattle.ecall_top.specs.Commands.{command_of};
+
+/// What the words ask for.
+#[derive(Clone, Copy, Debug, PartialEq, Eq)]
+pub enum Command {
+    /// Play the script that the input has, and write its trace.
+    Run,
+    /// Describe the sets of data that the input has, one on each line.
+    Decode,
+}
+
+/// The command that the words name, if they name one.
+pub(crate) fn read_command(words: &[String]) -> Option<Command>
+    ensures { result ≡ command_of (map string_bytes words.now) }
+{
+    match words {
+        [word] => {
+            if word.as_str() == "run" {
+                Some(Command::Run)
+            } else if word.as_str() == "decode" {
+                Some(Command::Decode)
+            } else {
+                None
+            }
+        }
+        _ => None,
+    }
+}
