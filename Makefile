@@ -1,4 +1,4 @@
-.PHONY: demo build test
+.PHONY: demo build test bench
 
 demo: build
 	crates/ecall/out/ecall run < examples/first-call.script
@@ -8,3 +8,6 @@ build:
 
 test:
 	rt ci
+
+bench: build
+	python3 bench/run.py crates/ecall/out/ecall
