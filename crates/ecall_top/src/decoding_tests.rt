@@ -20,7 +20,7 @@ fn describes_sets(rt: HostRuntime) -> Result<(), Fail> {
         ("\n0z\n", Status::Refused, "refused 4 6\n"),
         ("\n02 00\n", Status::Refused, "refused 4 3\n"),
         ("\n020\n", Status::Refused, "refused 4 6\n"),
-        ("\n02\t00\n", Status::Refused, "refused 4 2\n"),
+        ("\n02\t00\n", Status::Refused, "refused 4 5\n"),
         ("\n02\n", Status::Refused, "refused 4 set 8 1 4\n"),
     ];
     for (more, status, then) in &table {
