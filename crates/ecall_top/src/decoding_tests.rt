@@ -21,7 +21,7 @@ fn describes_sets(rt: HostRuntime) -> Result<(), Fail> {
         ("\n02 00\n", Status::Refused, "refused 4 3\n"),
         ("\n020\n", Status::Refused, "refused 4 6\n"),
         ("\n02\t00\n", Status::Refused, "refused 4 5\n"),
-        ("\n02\n", Status::Refused, "refused 4 set 8 1 4\n"),
+        ("\n02\n", Status::Refused, "refused 4 set 8 1 1\n"),
     ];
     for (more, status, then) in &table {
         let mut input = source(
