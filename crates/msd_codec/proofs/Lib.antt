@@ -5,3 +5,7 @@ pub mod VehicleTypes
 pub mod Identification
 pub mod Rest
 pub mod SetLaws
+pub mod Puts
+pub mod Texts
+pub mod Lengths
+pub mod Presence

@@ -3,3 +3,4 @@ pub mod Trees
 pub mod Sets
 pub mod Places
 pub mod Reading
+pub mod Writing

@@ -4,9 +4,11 @@
 
 mod laws;
 mod reading;
+mod writing;
 
 pub use laws::spelling_laws;
 pub use reading::decode;
+pub use writing::{TooLong, encode};
 
 #[cfg(test)]
 mod tests;

@@ -1,17 +1,14 @@
-//! The vectors of this project's profile, worked out by hand from the encoding rules: where each stops, what
-//! it shows, and where its parts stand.
-use crate::decode;
-use per_bits::Reason;
+//! The vectors, what they show, where their parts stand, and how long a set may be.
+ghost use Rattle.std.specs.Prelude.{◌≤◌, length};
+
+use crate::{TooLong, decode, encode};
+use msd_values::{Extra, Msd};
+use per_bits::{Bits, Octs, Oid, Reason};
 use std::test::Fail;
 
-const WITH_GASOLINE: &[u8; 31] =
-    b"\x02\x00\x06\x81\xd5\x49\x70\xd6\x5c\x35\x97\xca\x04\x20\xc4\x14\x64\x0a\xf0\x5f\x08\x04\x52\xe9\x96\x04\x13\xe2\x55\x01\x68";
+mod vectors;
 
-const WITH_ADDITIONS: &[u8; 36] =
-    b"\x02\x20\x06\x81\xd5\x49\x70\xd6\x5c\x35\x97\xca\x04\x20\xc4\x14\x60\x05\xe0\xbe\x10\x08\xa5\xd3\x2c\x08\x27\xc4\xaa\x02\xd0\x10\x3a\xbc\xde\xf0";
-
-const WITH_EXTRA: &[u8; 41] =
-    b"\x02\x5c\x06\x81\xd5\x49\x70\xd6\x5c\x35\x97\xca\x04\x20\xc4\x14\x67\xff\xeb\xc1\x7c\x20\x11\x4b\xa6\x58\x10\x4f\x89\x54\x05\xb0\x53\xec\x00\x7f\xe0\x40\x20\x2c\x60";
+use vectors::{Answer, SMALLEST, VECTORS, WITH_ADDITIONS, WITH_EVERYTHING, WITH_GASOLINE};
 
 // Where and why the octets stop being a set, if they do.
 fn stop(octets: &[u8]) -> Option<(u32, Reason, u64)> {
@@ -22,72 +19,24 @@ fn stop(octets: &[u8]) -> Option<(u32, Reason, u64)> {
 }
 
 #[test]
-fn vectors_stop(rt: HostRuntime) {
-    let table = [
-        (
-            b"\x02\x00\x06\x81\xd5\x49\x70\xd6\x5c\x35\x97\xca\x04\x20\xc4\x14\x60\x05\xe0\xbe\x10\x08\xa5\xd3\x2c\x08\x27\xc4\xaa\x02\xd0".as_slice(),
-            None,
-        ),
-        (
-            b"\x02\x00\x06\x81\xd5\x49\x70\xd6\x5c\x35\x97\xca\x04\x20\xc4\x14\x64\x0a\xf0\x5f\x08\x04\x52\xe9\x96\x04\x13\xe2\x55\x01\x68".as_slice(),
-            None,
-        ),
-        (
-            b"\x02\x00\x06\x81\xd5\x49\x70\xd6\x5c\x35\x97\xca\x04\x20\xc4\x14\x67\xf0\x0b\xc1\x7c\x20\x11\x4b\xa6\x58\x10\x4f\x89\x54\x05\xa0".as_slice(),
-            None,
-        ),
-        (
-            b"\x02\x20\x06\x81\xd5\x49\x70\xd6\x5c\x35\x97\xca\x04\x20\xc4\x14\x60\x05\xe0\xbe\x10\x08\xa5\xd3\x2c\x08\x27\xc4\xaa\x02\xd0\x10\x3a\xbc\xde\xf0".as_slice(),
-            None,
-        ),
-        (
-            b"\x02\x20\x06\x81\xd5\x49\x70\xd6\x5c\x35\x97\xca\x04\x20\xc4\x14\x60\x05\xe0\xbe\x10\x08\xa5\xd3\x2c\x08\x27\xc4\xaa\x02\xd0\x00".as_slice(),
-            Some((251, Reason::NoAddition, 1)),
-        ),
-        (
-            b"\x02\x00\x06\x81\xd5\x49\x70\xd6\x5c\x35\x97\xca\x04\x20\xc4\x16\x10\x05\xe0\xbe\x10\x08\xa5\xd3\x2c\x08\x27\xc4\xaa\x02\xd0".as_slice(),
-            Some((126, Reason::OutOfRange, 33)),
-        ),
-        (
-            b"\x02\x40\x06\x81\xd5\x49\x70\xd6\x5c\x35\x97\xca\x04\x20\xc4\x14\x60\x05\xe0\xbe\x10\x08\xa5\xd3\x2c\x08\x27\xc4\xaa\x02\xd8\x00".as_slice(),
-            Some((244, Reason::LongLength, 128)),
-        ),
-        (
-            b"\x02\x00\x06\x81\xd5\x49\x70\xd6\x5c\x35\x97\xca\x04\x20\xc4\x14\x64\x0a\xf0\x5f\x08\x04\x52\xe9\x96\x04\x13\xe2\x55\x01".as_slice(),
-            Some((237, Reason::Short, 8)),
-        ),
-        (
-            b"\x03\x00\x06\x81\xd5\x49\x70\xd6\x5c\x35\x97\xca\x04\x20\xc4\x14\x60\x05\xe0\xbe\x10\x08\xa5\xd3\x2c\x08\x27\xc4\xaa\x02\xd0".as_slice(),
-            Some((0, Reason::Version, 3)),
-        ),
-        (
-            b"\x02\x00\x06\x81\xd5\x49\x70\xd6\x5c\x35\x97\xca\x04\x20\xc4\x14\x60\x05\xe0\xbe\x10\x08\xa5\xd3\x2c\x08\x27\xc4\xaa\x02\xd1".as_slice(),
-            Some((247, Reason::PadBits, 1)),
-        ),
-        (
-            b"\x02\x00\x06\x81\xd5\x49\x70\xd6\x5c\x35\x97\xca\x04\x20\xc4\x14\x60\x05\xe0\xbe\x10\x08\xa5\xd3\x2c\x08\x27\xc4\xaa\x02\xd0\x00\x05".as_slice(),
-            Some((256, Reason::Trailing, 5)),
-        ),
-        (
-            b"\x02\x00\x06\xb5\xd5\x49\x70\xd6\x5c\x35\x97\xca\x04\x20\xc4\x14\x60\x05\xe0\xbe\x10\x08\xa5\xd3\x2c\x08\x27\xc4\xaa\x02\xd0".as_slice(),
-            Some((26, Reason::OutOfRange, 13)),
-        ),
-        (
-            b"\x02\x20\x06\x81\xd5\x49\x70\xd6\x5c\x35\x97\xca\x04\x20\xc4\x14\x60\x05\xe0\xbe\x10\x08\xa5\xd3\x2c\x08\x27\xc4\xaa\x02\xd0\x10\x00".as_slice(),
-            Some((252, Reason::EmptyOpen, 0)),
-        ),
-        (
-            b"\x02\x40\x06\x81\xd5\x49\x70\xd6\x5c\x35\x97\xca\x04\x20\xc4\x14\x60\x05\xe0\xbe\x10\x08\xa5\xd3\x2c\x08\x27\xc4\xaa\x02\xd0\x18\x00".as_slice(),
-            Some((252, Reason::BadOid, 128)),
-        ),
-        (
-            b"\x02\x20\x06\x81\xd5\x49\x70\xd6\x5c\x35\x97\xca\x04\x20\xc4\x14\x60\x05\xe0\xbe\x10\x08\xa5\xd3\x2c\x08\x27\xc4\xaa\x02\xd8\x00".as_slice(),
-            Some((244, Reason::SmallLarge, 64)),
-        ),
-    ];
-    for (octets, wanted) in table {
-        assert_eq!(rt; stop(octets), wanted, "{octets:?}");
+fn vectors_are_read_and_written(rt: HostRuntime) -> Result<(), Fail> {
+    for (octets, answer) in VECTORS {
+        match answer {
+            Answer::Canonical(canonical) => {
+                let msd = decode(octets).ok().ok_or("a set")?;
+                let written = encode(&msd).ok().ok_or("at most 140 octets")?;
+                assert_eq!(rt; written.as_slice(), canonical);
+            }
+            Answer::Refused {
+                place,
+                reason,
+                value,
+            } => {
+                assert_eq!(rt; stop(octets), Some((place, reason, value)), "{octets:?}");
+            }
+        }
     }
+    Ok(())
 }
 
 #[test]
@@ -120,9 +69,7 @@ fn fields_are_read(rt: HostRuntime) -> Result<(), Fail> {
 
 #[test]
 fn parts_stand_in_place(rt: HostRuntime) -> Result<(), Fail> {
-    let mut long = [0; 140];
-    long[..41].copy_from_slice(WITH_EXTRA);
-    let Ok(msd) = decode(&long) else {
+    let Ok(msd) = decode(WITH_EVERYTHING) else {
         return Err(Fail::from("refused"));
     };
     let Some(before1) = msd.before1 else {
@@ -164,4 +111,38 @@ fn parts_stand_in_place(rt: HostRuntime) -> Result<(), Fail> {
     );
     assert!(rt; octets.bits().octets_equal(b"\xab\xcd\xef"));
     Ok(())
+}
+
+// How many octets the set has when these octets of additional data stand beside an identifier of one octet.
+fn len_with(octets: &[u8], content: &[u8]) -> Option<Result<usize, TooLong>>
+    requires { length content.now ≤ 127 }
+{
+    let oid = Oid::of(Octs::of(Bits::of(&[0x05]))?)?;
+    let content = Octs::of(Bits::of(content))?;
+    let msd = Msd {
+        extra: Some(Extra { oid, content }),
+        ..decode(octets).ok()?
+    };
+    match encode(&msd) {
+        Ok(written) => Some(Ok(written.len())),
+        Err(long) => Some(Err(long)),
+    }
+}
+
+#[test]
+fn long_sets_are_refused(rt: HostRuntime) {
+    assert_eq!(rt; len_with(SMALLEST, &[7; 106]), Some(Ok(140)));
+    assert_eq!(rt;
+        len_with(SMALLEST, &[7; 107]),
+        Some(Err(TooLong { bits: 1124 }))
+    );
+    assert_eq!(rt;
+        len_with(SMALLEST, &[7; 127]),
+        Some(Err(TooLong { bits: 1284 }))
+    );
+    assert_eq!(rt; len_with(WITH_EVERYTHING, &[7; 99]), Some(Ok(140)));
+    assert_eq!(rt;
+        len_with(WITH_EVERYTHING, &[7; 100]),
+        Some(Err(TooLong { bits: 1123 }))
+    );
 }

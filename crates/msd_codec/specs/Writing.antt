@@ -1,0 +1,31 @@
+-- What a writer does to a buffer of at most 1120 bits, and how many bits it needs, in terms of the elements
+-- that spell what it writes. Cited by the writers and the lengths of this crate.
+use Rattle.std.specs.Prelude.{◌≡◌, ℕ, ◌+◌, ◌<◌, Bool, true, not, IsTrue, List, [], ◌++◌, length, Option, IfSome, IfNone, Result, OnOk, OnErr}
+use Rattle.per_types.specs.Kinds.{Element, bits_of}
+use Rattle.per_types.specs.Types.{Tree, Ty}
+use Rattle.per_types.specs.Spelling.{Elements, TruthElements}
+
+-- On Ok the bits of such elements stand behind the old ones. On Err the bits of none such have room.
+pub record Puts {X E : Type 0} (Spelled : List Element → Type 0) (old : List Bool) (result : Result X E) (new : List Bool) : Type 0 where
+  pub ok : OnOk result ((es : List Element) × Spelled es × (new ≡ old ++ bits_of es))
+  pub full : OnErr result ((es : List Element) → Spelled es → 1120 < length old + length (bits_of es))
+
+-- there are such elements, and they have so many bits
+pub record HasLength (Spelled : List Element → Type 0) (bits : ℕ) : Type 0 where
+  pub elements : List Element
+  pub spelled : Spelled elements
+  pub count : bits ≡ length (bits_of elements)
+
+-- the canonical spelling of the value
+pub record Canon (t : Ty) (v : Tree) (es : List Element) : Type 0 where
+  pub spelled : Elements true t v es
+
+-- an OPTIONAL component: its value, or nothing
+pub record Optional (t : Ty) (v : Option Tree) (es : List Element) : Type 0 where
+  pub some : IfSome v (λ x. Elements true t x es)
+  pub none : IfNone v (es ≡ [])
+
+-- a BOOLEAN DEFAULT FALSE, which is written where it is true
+pub record Flag (v : Bool) (es : List Element) : Type 0 where
+  pub written : IsTrue v → TruthElements true es
+  pub left : IsTrue (not v) → es ≡ []

@@ -1,0 +1,38 @@
+//! Writing a set of data.
+ghost use Rattle.std.specs.Prelude.{IfOk, IfErr};
+ghost use Rattle.msd_codec.specs.Trees.{tree};
+ghost use Rattle.msd_codec.specs.Sets.{AreCanonical, IsTooLong};
+
+mod elements;
+mod lengths;
+mod message;
+mod structure;
+
+use crate::writing::lengths::message_len;
+use crate::writing::message::write_message;
+use arrayvec::ArrayVec;
+use msd_values::Msd;
+use per_bits::BitBuf;
+
+/// The canonical spelling of a set has `bits` bits, which are more than 1120.
+#[derive(Clone, Copy, Debug, PartialEq, Eq)]
+pub struct TooLong {
+    pub bits: u32,
+}
+
+/// The canonical octets of the set: its one spelling without components that equal their defaults, and the
+/// fewest zero bits that make whole octets. `TooLong` is for a spelling of more than 140 octets, which only
+/// long additions and additional data make.
+pub fn encode(msd: &Msd<'_>) -> Result<ArrayVec<u8, 140>, TooLong>
+    ensures canonical { IfOk result (λ octets. AreCanonical octets.items (tree msd.now)) }
+    ensures long { IfErr result (λ e. IsTooLong (tree msd.now) e.bits) }
+{
+    let bits = message_len(msd);
+    let mut to = BitBuf::new();
+    if write_message(&mut to, msd).is_err() {
+        return Err(TooLong { bits });
+    }
+    let mut octets = ArrayVec::new();
+    octets.try_extend_from_slice(to.octets()).unwrap();
+    Ok(octets)
+}

@@ -1,0 +1,136 @@
+//! Writers of the structure of a set of data and of its components.
+ghost use Rattle.std.specs.Prelude.{◌≡◌, length};
+ghost use Rattle.std.specs.Option.{option_map};
+ghost use Rattle.std.specs.List.{AllPass};
+ghost use Rattle.per_types.specs.Types.{text, characters};
+ghost use Rattle.msd_values.specs.Alphabet.{is_vin_character};
+ghost use Rattle.msd_codec.specs.Module.{octet, control_type, vehicle_identification, propulsion_storage, vehicle_location, location_delta, msd_structure};
+ghost use Rattle.msd_codec.specs.Trees.{count_tree, control_tree, vin_tree, storage_tree, pair_tree, way_tree, structure_tree};
+ghost use Rattle.msd_codec.specs.Writing.{Puts, Canon, Optional};
+
+use crate::writing::elements::{
+    write_angle, write_angle_delta, write_extended, write_flag, write_more, write_octet,
+    write_present, write_timestamp, write_truth, write_vehicle_type,
+};
+use msd_values::{Delta, Marks, Msd, VehicleKind, Vin};
+use per_bits::{Additions, BitBuf, Full};
+use per_types::write_char;
+
+/// The structure, which is the set of data without what stands beside it.
+pub fn write_structure(to: &mut BitBuf, msd: &Msd<'_>) -> Result<(), Full>
+    ensures { Puts (Canon msd_structure (structure_tree msd.now)) to.old result to.new }
+{
+    let before1 = msd.before1.is_some();
+    let before2 = msd.before2.is_some();
+    let passengers = msd.passengers.is_some();
+    write_extended(to, msd.set_more.is_some())?;
+    write_present(to, &[before1, before2, passengers])?;
+    write_octet(to, msd.message)?;
+    write_control(to, msd.automatic, msd.test, msd.trusted, msd.kind)?;
+    write_vin(to, &msd.vin)?;
+    write_storage(to, msd.fuel, &msd.fuel_more)?;
+    write_timestamp(to, msd.time)?;
+    write_location(to, msd.latitude, msd.longitude)?;
+    write_octet(to, msd.heading)?;
+    write_recent(to, msd.before1)?;
+    write_recent(to, msd.before2)?;
+    write_passengers(to, msd.passengers)?;
+    write_more(to, &msd.set_more)
+}
+
+// How the call was started, and of which category the vehicle is.
+fn write_control(
+    to: &mut BitBuf,
+    automatic: bool,
+    test: bool,
+    trusted: bool,
+    kind: VehicleKind,
+) -> Result<(), Full>
+    ensures { Puts (Canon control_type (control_tree automatic test trusted kind)) to.old result to.new }
+{
+    write_truth(to, automatic)?;
+    write_truth(to, test)?;
+    write_truth(to, trusted)?;
+    write_vehicle_type(to, kind)
+}
+
+// The four texts of an identification: the manufacturer, the vehicle, its model year and its number.
+fn write_vin(to: &mut BitBuf, vin: &Vin) -> Result<(), Full>
+    ensures { Puts (Canon vehicle_identification (vin_tree vin.now)) to.old result to.new }
+{
+    let text = vin.text();
+    write_text(to, &text[..3])?;
+    write_text(to, &text[3..9])?;
+    write_text(to, &text[9..10])?;
+    write_text(to, &text[10..])
+}
+
+// Characters, one behind the other.
+fn write_text(to: &mut BitBuf, piece: &[u8]) -> Result<(), Full>
+    requires { AllPass is_vin_character piece.now }
+    ensures { Puts (Canon (characters (length piece.now)) (text piece.now)) to.old result to.new }
+{
+    for character in piece {
+        write_char(to, *character)?;
+    }
+    Ok(())
+}
+
+// What the vehicle stores for its propulsion.
+fn write_storage(to: &mut BitBuf, fuel: Marks, more: &Option<Additions<'_>>) -> Result<(), Full>
+    ensures { Puts (Canon propulsion_storage (storage_tree fuel more.now)) to.old result to.new }
+{
+    let marks = [
+        fuel.gasoline,
+        fuel.diesel,
+        fuel.natural_gas,
+        fuel.propane,
+        fuel.electric,
+        fuel.hydrogen,
+        fuel.other,
+    ];
+    write_extended(to, more.is_some())?;
+    write_present(to, &marks)?;
+    write_flag(to, fuel.gasoline)?;
+    write_flag(to, fuel.diesel)?;
+    write_flag(to, fuel.natural_gas)?;
+    write_flag(to, fuel.propane)?;
+    write_flag(to, fuel.electric)?;
+    write_flag(to, fuel.hydrogen)?;
+    write_flag(to, fuel.other)?;
+    write_more(to, more)
+}
+
+fn write_location(to: &mut BitBuf, latitude: i32, longitude: i32) -> Result<(), Full>
+    ensures { Puts (Canon vehicle_location (pair_tree latitude longitude)) to.old result to.new }
+{
+    write_angle(to, latitude)?;
+    write_angle(to, longitude)
+}
+
+// The way from a recent location, if it is present.
+fn write_recent(to: &mut BitBuf, before: Option<Delta>) -> Result<(), Full>
+    ensures { Puts (Optional location_delta (option_map way_tree before)) to.old result to.new }
+{
+    match before {
+        Some(way) => write_delta(to, way),
+        None => Ok(()),
+    }
+}
+
+fn write_delta(to: &mut BitBuf, way: Delta) -> Result<(), Full>
+    ensures { Puts (Canon location_delta (way_tree way)) to.old result to.new }
+{
+    write_angle_delta(to, way.latitude())?;
+    write_angle_delta(to, way.longitude())
+}
+
+// How many passengers there are, if the number is present.
+fn write_passengers(to: &mut BitBuf, passengers: Option<u8>) -> Result<(), Full>
+    ensures { Puts (Optional octet (option_map count_tree passengers)) to.old result to.new }
+{
+    match passengers {
+        Some(count) => write_octet(to, count),
+        None => Ok(()),
+    }
+}
