@@ -3,6 +3,5 @@ pub mod GatherLemmas
 pub mod LinesLemmas
 pub mod NumberLemmas
 pub mod OctetsLemmas
-pub mod ScriptLemmas
 pub mod SkimLemmas
 pub mod WordsLemmas

@@ -58,62 +58,45 @@ fn items_without_a_leg(rt: HostRuntime) -> Result<(), Fail> {
 }
 
 #[test]
-fn legs_and_voice(rt: HostRuntime) -> Result<(), Fail> {
+fn legs(rt: HostRuntime) -> Result<(), Fail> {
     let (vehicle, point) = (End::Vehicle, End::Point);
-    let voice = |end, call, up, down| Note::Voice {
-        end,
-        call,
-        up,
-        down,
-    };
+    let up = |end, call| Note::Up { end, call };
     let down = |end, call, why| Note::Down { end, call, why };
+    let fault = |end, call| Note::Fault { end, call };
     let table = [
-        (
-            Note::Up {
-                end: vehicle,
-                call: 1,
-            },
-            "12 up vehicle 1\n",
-        ),
-        (
-            Note::Up {
-                end: point,
-                call: 0,
-            },
-            "12 up point 0\n",
-        ),
+        (up(vehicle, 1), "12 up vehicle 1\n"),
+        (up(point, 0), "12 up point 0\n"),
         (
             down(vehicle, 16, Why::Release),
             "12 down vehicle 16 release\n",
         ),
         (down(point, 1, Why::Hangup), "12 down point 1 hangup\n"),
         (down(vehicle, 1, Why::Lost), "12 down vehicle 1 lost\n"),
-        (
-            voice(vehicle, 1, true, true),
-            "12 voice vehicle 1 open open\n",
-        ),
-        (
-            voice(vehicle, 1, true, false),
-            "12 voice vehicle 1 open muted\n",
-        ),
-        (
-            voice(point, 1, false, true),
-            "12 voice point 1 muted open\n",
-        ),
-        (
-            voice(point, 1, false, false),
-            "12 voice point 1 muted muted\n",
-        ),
-        (
-            Note::Fault {
-                end: point,
-                call: 3,
-            },
-            "12 fault point 3\n",
-        ),
+        (fault(point, 3), "12 fault point 3\n"),
     ];
     for (note, text) in &table {
         assert_eq!(rt; written(rt.alloc(), 12, *note)?.bytes(), text.as_bytes());
+    }
+    Ok(())
+}
+
+#[test]
+fn voice(rt: HostRuntime) -> Result<(), Fail> {
+    let (vehicle, point) = (End::Vehicle, End::Point);
+    let table = [
+        (vehicle, true, true, "12 voice vehicle 1 open open\n"),
+        (vehicle, true, false, "12 voice vehicle 1 open muted\n"),
+        (point, false, true, "12 voice point 1 muted open\n"),
+        (point, false, false, "12 voice point 1 muted muted\n"),
+    ];
+    for (end, up, down, text) in &table {
+        let voice = Note::Voice {
+            end: *end,
+            call: 1,
+            up: *up,
+            down: *down,
+        };
+        assert_eq!(rt; written(rt.alloc(), 12, voice)?.bytes(), text.as_bytes());
     }
     Ok(())
 }
@@ -174,53 +157,57 @@ fn frames(rt: HostRuntime) -> Result<(), Fail> {
 
 #[test]
 fn sets(rt: HostRuntime) -> Result<(), Fail> {
-    let (request, octets) = (Request::first(), octets_of_set()?);
-    let last = Request::new(255).ok_or("there are 255 requests")?;
-    let data = |request, attempt| Frame::Content {
-        request,
-        attempt,
-        octets,
-    };
-    let send = |call, frame| Note::Send {
+    let (call, request, octets) = (1, Request::first(), octets_of_set()?);
+    let send = Note::Send {
         end: End::Vehicle,
         call,
-        frame,
+        frame: Frame::Content {
+            request,
+            attempt: 0,
+            octets,
+        },
+    };
+    let shown = Note::Shown {
+        call,
+        request,
+        octets,
+    };
+    let acked = Note::Acked {
+        call,
+        request,
+        octets,
     };
     let table = [
-        (6, send(1, data(request, 0)), "6 send vehicle 1 data 1 0 "),
-        (
-            9,
-            Note::Shown {
-                call: 1,
-                request,
-                octets,
-            },
-            "9 shown 1 1 ",
-        ),
-        (
-            12,
-            Note::Acked {
-                call: 1,
-                request,
-                octets,
-            },
-            "12 acked 1 1 ",
-        ),
-        // The longest line of all.
-        (
-            u64::MAX,
-            send(u32::MAX, data(last, 255)),
-            "18446744073709551615 send vehicle 4294967295 data 255 255 ",
-        ),
+        (6, send, "6 send vehicle 1 data 1 0 "),
+        (9, shown, "9 shown 1 1 "),
+        (12, acked, "12 acked 1 1 "),
     ];
     for (tick, note, words) in &table {
         let text = text_with_set(rt.alloc(), words)?;
         assert_eq!(rt; written(rt.alloc(), *tick, *note)?.bytes(), text.as_bytes());
     }
-    let longest = text_with_set(
+    Ok(())
+}
+
+#[test]
+fn longest_line(rt: HostRuntime) -> Result<(), Fail> {
+    let send = Note::Send {
+        end: End::Vehicle,
+        call: u32::MAX,
+        frame: Frame::Content {
+            request: Request::new(255).ok_or("there are 255 requests")?,
+            attempt: 255,
+            octets: octets_of_set()?,
+        },
+    };
+    let text = text_with_set(
         rt.alloc(),
         "18446744073709551615 send vehicle 4294967295 data 255 255 ",
     )?;
-    assert_eq!(rt; longest.len(), LONGEST_LINE);
+    assert_eq!(rt;
+        written(rt.alloc(), u64::MAX, send)?.bytes(),
+        text.as_bytes()
+    );
+    assert_eq!(rt; text.len(), LONGEST_LINE);
     Ok(())
 }
