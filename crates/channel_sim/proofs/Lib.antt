@@ -1,4 +1,3 @@
-pub mod Calls
 mod FirstCall
 pub mod FitKept
 mod Lists

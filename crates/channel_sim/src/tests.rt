@@ -49,16 +49,60 @@ fn voice(end: End, open: bool) -> Note {
     }
 }
 
-/// Steps through a script, in which each event gives so many entries, and checks that all of them are these items at
-/// tick 0.
+fn leg_is_up(end: End) -> Note {
+    Note::Up { end, call: 1 }
+}
+
+/// The vehicle sends the set that was requested first.
+fn sends_set() -> Note {
+    let content = Frame::Content {
+        request: Request::first(),
+        attempt: 0,
+        octets: SET,
+    };
+    sends(End::Vehicle, content)
+}
+
+/// The point sends that the set is accepted.
+fn accepts_set() -> Note {
+    let app = Frame::App {
+        request: Request::first(),
+        answer: Answer::Positive,
+    };
+    sends(End::Point, app)
+}
+
+fn set_is_shown() -> Note {
+    Note::Shown {
+        call: 1,
+        request: Request::first(),
+        octets: SET,
+    }
+}
+
+fn set_is_acknowledged() -> Note {
+    Note::Acked {
+        call: 1,
+        request: Request::first(),
+        octets: SET,
+    }
+}
+
+fn start(alloc: Global) -> World {
+    World::new(alloc, Facts::Ready(SET))
+}
+
+/// Steps a world through a script, in which each event gives so many entries, and checks that all of them are these
+/// items at tick 0.
 fn play(
     rt: &impl Abort,
     alloc: Global,
+    from: World,
     steps: &[(Event, usize)],
     want: &[Note],
 ) -> Result<World, SimFault> {
     let mut to = Kept::new(alloc);
-    let mut world = World::new(alloc, Facts::Ready(SET));
+    let mut world = from;
     for (event, count) in steps {
         assert!(rt; world.calls() < u32::MAX);
         let before = to.entries().len();
@@ -77,12 +121,24 @@ fn play(
     Ok(world)
 }
 
+/// A world in which the vehicle was just answered, in call 1.
+fn answered(rt: &impl Abort, alloc: Global) -> Result<World, SimFault> {
+    let steps = [(TRIGGER, 1), (Event::Answer, 5)];
+    let want = [
+        Note::Dial(DialAttempt::first()),
+        leg_is_up(End::Vehicle),
+        voice(End::Vehicle, false),
+        sends(End::Vehicle, Frame::Init),
+        leg_is_up(End::Point),
+        voice(End::Point, false),
+    ];
+    play(rt, alloc, start(alloc), &steps, &want)
+}
+
 #[test]
 fn hands_one_set_over(rt: HostRuntime) -> Result<(), Fail> {
     let first = Request::first();
     let steps = [
-        (TRIGGER, 1),
-        (Event::Answer, 5),
         (up(&rt, 1, 1), 1),
         (down(&rt, 1, 1), 1),
         (up(&rt, 1, 2), 3),
@@ -90,48 +146,15 @@ fn hands_one_set_over(rt: HostRuntime) -> Result<(), Fail> {
         (down(&rt, 1, 3), 1),
     ];
     let want = [
-        Note::Dial(DialAttempt::first()),
-        Note::Up {
-            end: End::Vehicle,
-            call: 1,
-        },
-        voice(End::Vehicle, false),
-        sends(End::Vehicle, Frame::Init),
-        Note::Up {
-            end: End::Point,
-            call: 1,
-        },
-        voice(End::Point, false),
         sends(End::Point, Frame::Start(first)),
-        sends(
-            End::Vehicle,
-            Frame::Content {
-                request: first,
-                attempt: 0,
-                octets: SET,
-            },
-        ),
-        Note::Shown {
-            call: 1,
-            request: first,
-            octets: SET,
-        },
+        sends_set(),
+        set_is_shown(),
         sends(End::Point, Frame::Ack(first)),
-        sends(
-            End::Point,
-            Frame::App {
-                request: first,
-                answer: Answer::Positive,
-            },
-        ),
-        Note::Acked {
-            call: 1,
-            request: first,
-            octets: SET,
-        },
+        accepts_set(),
+        set_is_acknowledged(),
         voice(End::Vehicle, true),
     ];
-    let world = play(&rt, rt.alloc(), &steps, &want)?;
+    let world = play(&rt, rt.alloc(), answered(&rt, rt.alloc())?, &steps, &want)?;
     assert_eq!(rt; world.tick(), 0);
     assert_eq!(rt; world.calls(), 1);
     assert_eq!(rt; world.vehicle_call(), Some(1));
@@ -142,8 +165,16 @@ fn hands_one_set_over(rt: HostRuntime) -> Result<(), Fail> {
 }
 
 #[test]
-fn applies_what_it_can(rt: HostRuntime) -> Result<(), Fail> {
-    // Before any call, while one is dialled, to a call that doesn't exist, and to frames that were not sent.
+fn has_no_call_at_the_start(rt: HostRuntime) -> Result<(), Fail> {
+    let quiet = play(&rt, rt.alloc(), start(rt.alloc()), &[], &[])?;
+    assert_eq!(rt; quiet.calls(), 0);
+    assert_eq!(rt; quiet.vehicle_call(), None);
+    Ok(())
+}
+
+#[test]
+fn applies_what_it_can_before_an_answer(rt: HostRuntime) -> Result<(), Fail> {
+    // Before any call, and while one is dialled.
     let steps = [
         (Event::Answer, 1),
         (up(&rt, 1, 1), 1),
@@ -152,12 +183,6 @@ fn applies_what_it_can(rt: HostRuntime) -> Result<(), Fail> {
         (TRIGGER, 1),
         (up(&rt, 1, 1), 1),
         (Event::Answer, 5),
-        (Event::Answer, 1),
-        (up(&rt, 2, 1), 1),
-        (down(&rt, 2, 1), 1),
-        (up(&rt, 1, 2), 1),
-        (down(&rt, 1, 1), 1),
-        (TRIGGER, 1),
     ];
     let want = [
         Note::Nothing,
@@ -166,29 +191,31 @@ fn applies_what_it_can(rt: HostRuntime) -> Result<(), Fail> {
         Note::Dial(DialAttempt::first()),
         Note::Nothing,
         Note::Nothing,
-        Note::Up {
-            end: End::Vehicle,
-            call: 1,
-        },
+        leg_is_up(End::Vehicle),
         voice(End::Vehicle, false),
         sends(End::Vehicle, Frame::Init),
-        Note::Up {
-            end: End::Point,
-            call: 1,
-        },
+        leg_is_up(End::Point),
         voice(End::Point, false),
-        Note::Nothing,
-        Note::Nothing,
-        Note::Nothing,
-        Note::Nothing,
-        Note::Nothing,
-        Note::Nothing,
     ];
-    let world = play(&rt, rt.alloc(), &steps, &want)?;
+    let world = play(&rt, rt.alloc(), start(rt.alloc()), &steps, &want)?;
     assert_eq!(rt; world.calls(), 1);
-    let quiet = play(&rt, rt.alloc(), &[], &[])?;
-    assert_eq!(rt; quiet.calls(), 0);
-    assert_eq!(rt; quiet.vehicle_call(), None);
+    Ok(())
+}
+
+#[test]
+fn applies_what_it_can_in_a_call(rt: HostRuntime) -> Result<(), Fail> {
+    // To a call that doesn't exist, and to frames that were not sent.
+    let steps = [
+        (Event::Answer, 1),
+        (up(&rt, 2, 1), 1),
+        (down(&rt, 2, 1), 1),
+        (up(&rt, 1, 2), 1),
+        (down(&rt, 1, 1), 1),
+        (TRIGGER, 1),
+    ];
+    let want = [Note::Nothing; 6];
+    let world = play(&rt, rt.alloc(), answered(&rt, rt.alloc())?, &steps, &want)?;
+    assert_eq!(rt; world.calls(), 1);
     Ok(())
 }
 
@@ -197,8 +224,6 @@ fn keeps_frames_for_later(rt: HostRuntime) -> Result<(), Fail> {
     // Frames twice, late, and the application acknowledgement before the acknowledgement.
     let first = Request::first();
     let steps = [
-        (TRIGGER, 1),
-        (Event::Answer, 5),
         (up(&rt, 1, 1), 1),
         (up(&rt, 1, 1), 0),
         (down(&rt, 1, 1), 1),
@@ -215,51 +240,18 @@ fn keeps_frames_for_later(rt: HostRuntime) -> Result<(), Fail> {
         (down(&rt, 1, 6), 1),
     ];
     let want = [
-        Note::Dial(DialAttempt::first()),
-        Note::Up {
-            end: End::Vehicle,
-            call: 1,
-        },
-        voice(End::Vehicle, false),
-        sends(End::Vehicle, Frame::Init),
-        Note::Up {
-            end: End::Point,
-            call: 1,
-        },
-        voice(End::Point, false),
         sends(End::Point, Frame::Start(first)),
-        sends(
-            End::Vehicle,
-            Frame::Content {
-                request: first,
-                attempt: 0,
-                octets: SET,
-            },
-        ),
-        Note::Shown {
-            call: 1,
-            request: first,
-            octets: SET,
-        },
+        sends_set(),
+        set_is_shown(),
         sends(End::Point, Frame::Ack(first)),
-        sends(
-            End::Point,
-            Frame::App {
-                request: first,
-                answer: Answer::Positive,
-            },
-        ),
+        accepts_set(),
         sends(End::Point, Frame::Ack(first)),
-        Note::Acked {
-            call: 1,
-            request: first,
-            octets: SET,
-        },
+        set_is_acknowledged(),
         voice(End::Vehicle, true),
         sends(End::Point, Frame::Ack(first)),
         Note::Nothing,
     ];
-    play(&rt, rt.alloc(), &steps, &want)?;
+    play(&rt, rt.alloc(), answered(&rt, rt.alloc())?, &steps, &want)?;
     Ok(())
 }
 
@@ -305,7 +297,7 @@ fn fault_after(rt: &impl Abort, alloc: Global, left: usize, why: Deaf) -> Option
         why,
         faults: 0,
     };
-    let mut world = World::new(alloc, Facts::Ready(SET));
+    let mut world = start(alloc);
     for event in [TRIGGER, Event::Answer, up(rt, 1, 1), Event::Answer] {
         assert!(rt; world.calls() < u32::MAX);
         match world.step(alloc, &event, &mut to) {
