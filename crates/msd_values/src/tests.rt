@@ -146,6 +146,52 @@ fn describes_values_that_make_no_sense(rt: HostRuntime) -> Result<(), Fail> {
     expect_text(&rt, rt.alloc(), &msd, fails, Err(Failed), b"")
 }
 
+/// Describes the set to a sink that takes everything, and asserts how the text ends.
+fn expect_end(rt: &impl Abort, alloc: Global, msd: &Msd<'_>, end: &[u8]) -> Result<(), Fail> {
+    let mut sink = MemSink::new(alloc, 2048, Vec::new(alloc))?;
+    assert_eq!(rt; describe(msd, &mut sink), Ok(()));
+    assert!(rt; sink.bytes().ends_with(end));
+    Ok(())
+}
+
+#[test]
+fn describes_each_remark(rt: HostRuntime) -> Result<(), Fail> {
+    let cases = [
+        (324_000_000, 648_000_000, 179, "\nremarks none\n"),
+        (324_000_001, 648_000_000, 179, "\nremarks latitude\n"),
+        (-324_000_000, -648_000_001, 255, "\nremarks longitude\n"),
+        (0, 0, 180, "\nremarks heading\n"),
+        (
+            -324_000_001,
+            648_000_001,
+            0,
+            "\nremarks latitude longitude\n",
+        ),
+        (
+            2_000_000_000,
+            2_147_483_647,
+            254,
+            "\nremarks latitude heading\n",
+        ),
+        (
+            2_147_483_646,
+            2_147_483_646,
+            200,
+            "\nremarks latitude longitude heading\n",
+        ),
+    ];
+    for (latitude, longitude, heading, end) in cases {
+        let msd = Msd {
+            latitude,
+            longitude,
+            heading,
+            ..parked_car(&rt)
+        };
+        expect_end(&rt, rt.alloc(), &msd, end.as_bytes())?;
+    }
+    Ok(())
+}
+
 #[test]
 fn keeps_what_was_written_before_a_failure(rt: HostRuntime) -> Result<(), Fail> {
     let octets = [0x11; 127];
