@@ -27,6 +27,18 @@ fn expect_answered(rt: &impl Abort, ivs: &mut Ivs, call: u32, want: &[Note]) {
     expect(rt, ivs, &VehicleEvent::Answered(call), want);
 }
 
+/// Checks that the vehicle sends its set at a request.
+fn expect_sent(rt: &impl Abort, ivs: &mut Ivs, number: u8) {
+    let want = [sent(rt, number)];
+    expect_at(rt, ivs, &Frame::Start(request(rt, number)), &want);
+}
+
+/// Checks that the vehicle takes the acknowledgement of a request.
+fn expect_acked(rt: &impl Abort, ivs: &mut Ivs, number: u8) {
+    let want = [acked(rt, number)];
+    expect_at(rt, ivs, &Frame::Ack(request(rt, number)), &want);
+}
+
 /// A vehicle that was just answered, in call 1.
 fn answered(rt: &impl Abort) -> Ivs {
     let mut ivs = Ivs::new(Facts::Ready(SET));
@@ -72,7 +84,7 @@ fn dials_and_is_answered(rt: HostRuntime) {
 }
 
 #[test]
-fn acknowledges_and_talks(rt: HostRuntime) {
+fn obeys_and_acknowledges_each_request_once(rt: HostRuntime) {
     let mut ivs = answered(&rt);
     let none: [Note; 0] = [];
 
@@ -81,39 +93,27 @@ fn acknowledges_and_talks(rt: HostRuntime) {
     expect_at(&rt, &mut ivs, &app(&rt, 1, Answer::Positive), &none);
 
     // A request is obeyed once, and a later one takes its place; an older one and stale acknowledgements say nothing.
-    expect_at(
-        &rt,
-        &mut ivs,
-        &Frame::Start(request(&rt, 1)),
-        &[sent(&rt, 1)],
-    );
+    expect_sent(&rt, &mut ivs, 1);
     expect_at(&rt, &mut ivs, &Frame::Start(request(&rt, 1)), &none);
-    expect_at(
-        &rt,
-        &mut ivs,
-        &Frame::Start(request(&rt, 3)),
-        &[sent(&rt, 3)],
-    );
+    expect_sent(&rt, &mut ivs, 3);
     expect_at(&rt, &mut ivs, &Frame::Start(request(&rt, 2)), &none);
     expect_at(&rt, &mut ivs, &Frame::Ack(request(&rt, 1)), &none);
     expect_at(&rt, &mut ivs, &app(&rt, 2, Answer::Positive), &none);
-    expect_at(
-        &rt,
-        &mut ivs,
-        &Frame::Ack(request(&rt, 3)),
-        &[acked(&rt, 3)],
-    );
+    expect_acked(&rt, &mut ivs, 3);
     expect_at(&rt, &mut ivs, &Frame::Ack(request(&rt, 3)), &none);
     expect_at(&rt, &mut ivs, &app(&rt, 1, Answer::Positive), &none);
     expect_at(&rt, &mut ivs, &app(&rt, 3, Answer::Clear), &none);
+}
+
+#[test]
+fn takes_requests_until_it_talks(rt: HostRuntime) {
+    let mut ivs = answered(&rt);
+    let none: [Note; 0] = [];
+    expect_sent(&rt, &mut ivs, 3);
+    expect_acked(&rt, &mut ivs, 3);
 
     // A newer request is taken while the vehicle waits for the application; what it sends may be acknowledged at once.
-    expect_at(
-        &rt,
-        &mut ivs,
-        &Frame::Start(request(&rt, 4)),
-        &[sent(&rt, 4)],
-    );
+    expect_sent(&rt, &mut ivs, 4);
     expect_at(
         &rt,
         &mut ivs,
@@ -125,21 +125,13 @@ fn acknowledges_and_talks(rt: HostRuntime) {
     expect_at(&rt, &mut ivs, &Frame::Start(request(&rt, 5)), &none);
     expect_at(&rt, &mut ivs, &app(&rt, 4, Answer::Positive), &none);
     expect_at(&rt, &mut ivs, &Frame::Nack(request(&rt, 4)), &none);
+}
 
-    // The two acknowledgements one after the other.
+#[test]
+fn talks_after_both_acknowledgements(rt: HostRuntime) {
     let mut ivs = answered(&rt);
-    expect_at(
-        &rt,
-        &mut ivs,
-        &Frame::Start(request(&rt, 255)),
-        &[sent(&rt, 255)],
-    );
-    expect_at(
-        &rt,
-        &mut ivs,
-        &Frame::Ack(request(&rt, 255)),
-        &[acked(&rt, 255)],
-    );
+    expect_sent(&rt, &mut ivs, 255);
+    expect_acked(&rt, &mut ivs, 255);
     expect_at(&rt, &mut ivs, &app(&rt, 255, Answer::Positive), &[open()]);
 }
 
