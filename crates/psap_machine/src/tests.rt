@@ -32,10 +32,15 @@ fn expect_at(rt: &impl Abort, session: &mut Session, frame: &Frame, want: &[Note
     assert_eq!(rt; items.as_slice(), want, "at {frame:?}");
 }
 
+/// Checks that the point asks for the set when it hears that the vehicle is there.
+fn expect_asked(rt: &impl Abort, session: &mut Session) {
+    let want = [sends(Frame::Start(request(rt, 1)))];
+    expect_at(rt, session, &Frame::Init, &want);
+}
+
 #[test]
-fn shows_each_set_once(rt: HostRuntime) {
-    let none: [Note; 0] = [];
-    let (mut session, items) = Session::arriving(3);
+fn arrives_with_the_voice_closed(rt: HostRuntime) {
+    let (session, items) = Session::arriving(3);
     let end = End::Point;
     let want = [
         Note::Up { end, call: 3 },
@@ -48,19 +53,27 @@ fn shows_each_set_once(rt: HostRuntime) {
     ];
     assert_eq!(rt; items.as_slice(), want.as_slice());
     assert_eq!(rt; session.call(), 3);
+}
+
+#[test]
+fn asks_once(rt: HostRuntime) {
+    let none: [Note; 0] = [];
+    let (mut session, _) = Session::arriving(3);
 
     // Nothing was asked, so nothing is shown; frames that go down say nothing.
     expect_at(&rt, &mut session, &content(&rt, 1, 0, SET), &none);
     expect_at(&rt, &mut session, &Frame::Ack(request(&rt, 1)), &none);
 
     // The first frame that says that the vehicle is there is answered, and no later one.
-    expect_at(
-        &rt,
-        &mut session,
-        &Frame::Init,
-        &[sends(Frame::Start(request(&rt, 1)))],
-    );
+    expect_asked(&rt, &mut session);
     expect_at(&rt, &mut session, &Frame::Init, &none);
+}
+
+#[test]
+fn shows_each_set_once(rt: HostRuntime) {
+    let none: [Note; 0] = [];
+    let (mut session, _) = Session::arriving(3);
+    expect_asked(&rt, &mut session);
     expect_at(&rt, &mut session, &content(&rt, 2, 0, SET), &none);
 
     // The set is shown as it came first, whatever its attempt, and its repeats are acknowledged alone.
