@@ -155,8 +155,7 @@ fn the_seven_readings(rt: HostRuntime) -> Result<(), Fail> {
 }
 
 #[test]
-fn numbers(rt: HostRuntime) -> Result<(), Fail> {
-    // small numbers
+fn small_numbers_and_lengths(rt: HostRuntime) -> Result<(), Fail> {
     assert_eq!(rt; small(&[0b0000_0000], 7), (Ok(0), 7));
     assert_eq!(rt; small(&[0b0111_1111], 8), (Ok(63), 7));
     assert_eq!(rt;
@@ -175,7 +174,11 @@ fn numbers(rt: HostRuntime) -> Result<(), Fail> {
         length(&[0xff], 8),
         (refused(0, Reason::LongLength, 255), 0)
     );
-    // truth values
+    Ok(())
+}
+
+#[test]
+fn truth_values_and_presence_bits(rt: HostRuntime) -> Result<(), Fail> {
     assert_eq!(rt; truth(&[0x80], 1), (Ok(true), 1));
     assert_eq!(rt; truth(&[0x7f], 8), (Ok(false), 1));
     assert_eq!(rt; truth(&[], 0), (refused(0, Reason::Short, 1), 0));
@@ -184,7 +187,11 @@ fn numbers(rt: HostRuntime) -> Result<(), Fail> {
     assert_eq!(rt; presence(&[0xff, 0xff], 16, 16), (Ok(65535), 16));
     assert_eq!(rt; presence(&[], 0, 0), (Ok(0), 0));
     assert_eq!(rt; presence(&[0xff], 2, 3), (refused(0, Reason::Short, 3), 0));
-    // characters
+    Ok(())
+}
+
+#[test]
+fn characters_and_formats(rt: HostRuntime) -> Result<(), Fail> {
     assert_eq!(rt; character(&[0b0000_0000], 6), (Ok(b'0'), 6));
     assert_eq!(rt; character(&[0b0100_1000], 6), (Ok(b'J'), 6));
     assert_eq!(rt; character(&[0b0101_1100], 6), (Ok(b'P'), 6));
