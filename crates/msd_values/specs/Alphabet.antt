@@ -1,13 +1,9 @@
--- The alphabet of a vehicle identification number, after ISO 3779: the digits and the letters without
--- I, O and Q, in the order of their indices. Cited by the contracts of `Vin` and by whoever reads or
--- writes its characters.
-use Rattle.std.specs.Prelude.{ℕ, ◌==◌, Bool, List, codes}
+-- The characters of a vehicle identification number: those of its alphabet. Cited by the contracts of `Vin`
+-- and by whoever reads or writes its characters.
+use Rattle.std.specs.Prelude.{ℕ, ◌==◌, Bool}
 use Rattle.std.specs.List.{list_any}
+pub use Rattle.per_bits.specs.Alphabet.{alphabet}
 
--- the ASCII codes of the thirty-three characters
-abbrev pub alphabet : List ℕ
-alphabet = codes "0123456789ABCDEFGHJKLMNPRSTUVWXYZ"
-
--- whether the code is one of them
+-- whether the code stands in the alphabet
 unfoldable pub is_vin_character : ℕ → Bool
 is_vin_character code = list_any (λ character. character == code) alphabet

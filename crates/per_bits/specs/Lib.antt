@@ -1,3 +1,4 @@
+pub mod Alphabet
 pub mod Bits
 pub mod Parts
 pub mod Reasons

@@ -3,8 +3,9 @@
 -- 13 (integer), 14 (enumerated), 17 (octet string), 19 (sequence), 24 (relative object identifier) and
 -- 30 (known-multiplier strings); the limits, the alphabet, the reasons and their values are this
 -- project's profile. Cited by the definitions of spelling and of refusal and by every reader.
-use Rattle.std.specs.Prelude.{ℕ, zero, suc, ◌+◌, ◌-◌, ◌*◌, ◌^◌, ◌==◌, ◌&&◌, ◌||◌, nat_lt, nat_le, ℤ, pos, ◌-ℤ◌, int_lt, unsigned_abs, Bool, true, false, codes, List, [], ◌∷◌, ◌++◌, length, Option, Some, None, if◌then◌else◌}
+use Rattle.std.specs.Prelude.{ℕ, zero, suc, ◌+◌, ◌-◌, ◌*◌, ◌^◌, ◌==◌, ◌&&◌, ◌||◌, nat_lt, nat_le, ℤ, pos, ◌-ℤ◌, int_lt, unsigned_abs, Bool, true, false, List, [], ◌∷◌, ◌++◌, length, Option, Some, None, if◌then◌else◌}
 use Rattle.std.specs.List.{list_any}
+pub use Rattle.per_bits.specs.Alphabet.{alphabet}
 use Rattle.per_bits.specs.Bits.{value_of, octets_of}
 use Rattle.per_bits.specs.declared.refusals.Reason.{Reason}
 use Rattle.per_bits.specs.declared.refusals.Reason.TheVariants.{OutOfRange, LongLength, SmallLarge, NoAddition, EmptyOpen, BadOid, Version}
@@ -34,11 +35,6 @@ pub data Kind : Type 0 where
   oid_octets : ℕ → Kind
   -- the number of a format, which is to be one of those listed
   identifier : List ℕ → Kind
-
--- The characters of a vehicle identification number in the order of their indices: the digits and
--- letters without I, O and Q.
-abbrev pub alphabet : List ℕ
-alphabet = codes "0123456789ABCDEFGHJKLMNPRSTUVWXYZ"
 
 -- the least width from w on in which n can be written, at most w + fuel
 unfoldable pub width_from : ℕ → ℕ → ℕ → ℕ
