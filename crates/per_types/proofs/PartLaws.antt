@@ -1,11 +1,11 @@
 -- The parts that the readings of strings and sections hand out stand where they were spelled.
-use Rattle.std.proofs.Common.{◌≡◌, ℕ, ◌+◌, ◌-◌, ◌*◌, ◌≤◌, Bool, List, ◌++◌, length, take, Result, Ok, Err, refl, sym, ap, subst, ◌∙◌, arith}
+use Rattle.std.proofs.Common.{◌≡◌, ℕ, ◌+◌, ◌-◌, ◌*◌, Bool, List, length, take, Ok, refl, sym, ap, subst, ◌∙◌, arith}
 use Rattle.std.proofs.lemmas.List.{length-append, length-take}
 use Rattle.per_bits.specs.Bits.{Part, value_of, octets_of, behind, front}
 use Rattle.per_bits.specs.Parts.{Member, Section}
 use Rattle.per_types.specs.Kinds as kind
 use Rattle.per_types.specs.Kinds.{Kind, width}
-use Rattle.per_types.specs.Stops.{Read, element_at}
+use Rattle.per_types.specs.Stops.{element_at}
 use Rattle.per_types.specs.Reading.{◌>>=◌, length_at, octets_at, string_at, oid_length_at, oid_at, object_at, members_at, section_at}
 use Rattle.per_types.proofs.Plans.{value, next_ok, element_taken, behind-behind}
 use Rattle.per_types.proofs.Sectionwise.{members_section_of}

@@ -1,5 +1,5 @@
 -- What writers append is spelled so.
-use Rattle.std.proofs.Common.{◌≡◌, ℕ, zero, suc, ◌+◌, ◌-◌, ◌*◌, ◌/◌, ◌%◌, ◌^◌, ◌<◌, ◌≤◌, Bool, true, false, nat_eq, List, [], ◌∷◌, ◌++◌, length, map, Option, None, Some, Result, Ok, Err, refl, ap, sym, subst, ◌∙◌, add-one, append-nil, append_assoc, arith}
+use Rattle.std.proofs.Common.{◌≡◌, ℕ, suc, ◌+◌, ◌-◌, ◌*◌, ◌/◌, ◌%◌, ◌^◌, ◌<◌, ◌≤◌, Bool, true, false, nat_eq, List, [], ◌∷◌, ◌++◌, length, map, None, Some, Result, Ok, Err, refl, ap, sym, subst, ◌∙◌, add-one, append-nil, append_assoc, arith}
 use Rattle.std.specs.Prelude.{FitsSigned, OnOk, OnErr, is_some, slice_index, ℤ, pos, unsigned_abs, ◌-ℤ◌, ◌+ℤ◌, ◌≤ℤ◌}
 use Rattle.std.specs.List.{Contains}
 use Rattle.std.specs.Int.{from_bool}
@@ -8,7 +8,7 @@ use Rattle.std.proofs.Common.{w64}
 use Rattle.std.proofs.Math.Nat.{mod-eq_of_lt, div-eq_of_lt}
 use Rattle.std.proofs.lemmas.List.{length-append}
 use Rattle.per_bits.specs.Bits.{Part, digits, value_of, octet_bits, octets_of}
-use Rattle.per_bits.specs.Parts.{Open, Opens, Member, Section, IsOid}
+use Rattle.per_bits.specs.Parts.{Opens, Member, Section, IsOid}
 use Rattle.per_bits.proofs.Digits.{length_digits, value_digits, digits_low}
 use Rattle.per_bits.proofs.Octets.{octet_bits_of, are_octets_of}
 use Rattle.per_types.specs.Kinds as kind
