@@ -14,8 +14,8 @@ use Rattle.trace_text.specs.declared.script.ScriptLine.{ScriptLine}
 use Rattle.trace_text.specs.declared.script.FactLine.{FactLine}
 use Rattle.trace_text.specs.declared.script.FactLine.TheVariants as fact
 use Rattle.trace_text.specs.declared.script.ScriptLine.TheVariants as line
-use Rattle.trace_text.specs.EntryLine.{lines_of}
-use Rattle.trace_text.specs.ListenerLaws.{lines_of-append}
+use Rattle.trace_text.specs.EntryLine.{text_of}
+use Rattle.trace_text.specs.ListenerLaws.{text_of-append}
 use Rattle.trace_text.specs.Feed.{Draws}
 use Rattle.trace_text.specs.Lines as bytes
 use Rattle.trace_text.specs.Reading.{Reading, MayFollow, first_reading, FindsLine, FindsTooMany, ReadsLine}
@@ -74,22 +74,22 @@ ends_done start now old new Stands left s reads =
         took = taken_whole start now old new left s.front reads.taken s.taken reads.draws;
         replies = refl;
         wrote =
-            let P : Script → Type 0 = λ x. Grew start.held now.held (ended (lines_of (script_trace x)) x.refused).text in
+            let P : Script → Type 0 = λ x. Grew start.held now.held (ended (text_of (script_trace x)) x.refused).text in
             subst P (sym script) s.wrote;
       },
-      ap (λ x. (ended (lines_of (script_trace x)) x.refused).status) script,
+      ap (λ x. (ended (text_of (script_trace x)) x.refused).status) script,
       at_end start now old new left s.front reads.taken s.taken reads.draws reads.finds.0.ended,
     )
 
 -- the reply to a script that is known
-reply_wrote : (held held' : Option (List ℕ)) (input : List ℕ) (script : Script) → script_of input ≡ script → Grew held held' (ended (lines_of (script_trace script)) script.refused).text → Grew held held' (run_reply input).text
+reply_wrote : (held held' : Option (List ℕ)) (input : List ℕ) (script : Script) → script_of input ≡ script → Grew held held' (ended (text_of (script_trace script)) script.refused).text → Grew held held' (run_reply input).text
 reply_wrote held held' input script same grew =
-    let P : Script → Type 0 = λ x. Grew held held' (ended (lines_of (script_trace x)) x.refused).text in
+    let P : Script → Type 0 = λ x. Grew held held' (ended (text_of (script_trace x)) x.refused).text in
     subst P (sym same) grew
 
-reply_partly : (held held' : Option (List ℕ)) (input : List ℕ) (script : Script) → script_of input ≡ script → GrewPartly held held' (ended (lines_of (script_trace script)) script.refused).text → GrewPartly held held' (run_reply input).text
+reply_partly : (held held' : Option (List ℕ)) (input : List ℕ) (script : Script) → script_of input ≡ script → GrewPartly held held' (ended (text_of (script_trace script)) script.refused).text → GrewPartly held held' (run_reply input).text
 reply_partly held held' input script same grew =
-    let P : Script → Type 0 = λ x. GrewPartly held held' (ended (lines_of (script_trace x)) x.refused).text in
+    let P : Script → Type 0 = λ x. GrewPartly held held' (ended (text_of (script_trace x)) x.refused).text in
     subst P (sym same) grew
 
 -- A line that was read is refused: a front of the input, the bytes behind it, and the script that ends there, whatever
@@ -145,7 +145,7 @@ settled start now old new Stands left s bad r false open_ended =
       r.whole,
       λ more.
           let goes_on : MayFollow new.feed more = λ ended. absurd (false≢true (sym open_ended ∙ ended)) in
-          ap (λ x. ended (lines_of (script_trace x)) x.refused) (pending_follows start now old new Stands left s bad r ∙ sym (r.script more goes_on)),
+          ap (λ x. ended (text_of (script_trace x)) x.refused) (pending_follows start now old new Stands left s bad r ∙ sym (r.script more goes_on)),
     )
 
 -- the refusal was written
@@ -160,7 +160,7 @@ ends_refused start now old new Stands left held s bad r grew =
         replies = refl;
         wrote = reply_wrote start.held held input _ script (Grew-append start.held now.held held _ (refusal_line bad) s.wrote grew);
       },
-      ap (λ x. (ended (lines_of (script_trace x)) x.refused).status) script,
+      ap (λ x. (ended (text_of (script_trace x)) x.refused).status) script,
       settled start now old new Stands left s bad r new.feed.ended refl,
     )
 
@@ -207,7 +207,7 @@ ends_too_long start now old new Stands left s reads =
         unrefused = (
           run_reply (s.front ++ f.front),
           refl,
-          ap (λ x. (ended (lines_of (script_trace x)) x.refused).status)
+          ap (λ x. (ended (text_of (script_trace x)) x.refused).status)
               (ap (λ b. script_of (s.front ++ b)) (sym (append-nil f.front))
               ∙ (s.read.script (f.front ++ []) (too_many_follow old new (old.feed.pending ++ reads.taken) hand f)
               ∙ ap (behind s.events) (
@@ -232,14 +232,14 @@ tidy_behind said events text tidy (line.Fact (fact.Set octets)) judge = inr (app
 tidy_behind said events text tidy (line.Event e) judge = inl refl
 
 -- the text of the lines so far, with one more line
-text_behind : (said : Said) (events : List Event) (text : List ℕ) → IsTidy said events → (says : ScriptLine) → judged said text ≡ Ok (Some says) → lines_of (played (said_after said says).ready (events ++ event_of says)) ≡ lines_of (played said.ready events) ++ lines_of (entries_of said events says)
+text_behind : (said : Said) (events : List Event) (text : List ℕ) → IsTidy said events → (says : ScriptLine) → judged said text ≡ Ok (Some says) → text_of (played (said_after said says).ready (events ++ event_of says)) ≡ text_of (played said.ready events) ++ text_of (entries_of said events says)
 text_behind said events text tidy (line.Event e) judge =
-    ap lines_of (played-line said events (line.Event e)) ∙ lines_of-append (played said.ready events) (entries_of said events (line.Event e))
+    ap text_of (played-line said events (line.Event e)) ∙ text_of-append (played said.ready events) (entries_of said events (line.Event e))
 text_behind said events text tidy (line.Fact (fact.Set octets)) judge =
     let none : events ≡ [] = fact_is_first said events text (fact.Set octets) tidy judge in
-    ap lines_of (ap (played (Some octets)) (append-nil events ∙ none))
-    ∙ sym (ap (λ t. t ++ lines_of (entries_of said events (line.Fact (fact.Set octets)))) (ap lines_of (ap (played said.ready) none ∙ played-nothing said.ready))
-    ∙ ap lines_of (no_entries said.ready))
+    ap text_of (ap (played (Some octets)) (append-nil events ∙ none))
+    ∙ sym (ap (λ t. t ++ text_of (entries_of said events (line.Fact (fact.Set octets)))) (ap text_of (ap (played said.ready) none ∙ played-nothing said.ready))
+    ∙ ap text_of (no_entries said.ready))
   where
     no_entries : (ready : Option (List ℕ)) → entries_in (world_behind ready events) (line.Fact (fact.Set octets)) ≡ []
     no_entries None = refl
@@ -251,7 +251,7 @@ read_behind start now old new Stands left s says l =
     (at_hand start now old new left s.front l.reads.taken s.taken l.reads.draws) l.reads.finds.0 l.judge
 
 -- the run stands behind one more line
-pub stands_behind : (start now : Streams) (old new : Reading) (Stands Next : Said → List Event → Type 0) (left held : Option (List ℕ)) (s : Standing start now old Stands) (says : ScriptLine) → Leads start now old new Stands left s says → Grew now.held held (lines_of (entries_of s.said s.events says)) → Next (said_after s.said says) (s.events ++ event_of says) → Standing start (record { left = left; held = held }) new Next
+pub stands_behind : (start now : Streams) (old new : Reading) (Stands Next : Said → List Event → Type 0) (left held : Option (List ℕ)) (s : Standing start now old Stands) (says : ScriptLine) → Leads start now old new Stands left s says → Grew now.held held (text_of (entries_of s.said s.events says)) → Next (said_after s.said says) (s.events ++ event_of says) → Standing start (record { left = left; held = held }) new Next
 stands_behind start now old new Stands Next left held s says l grew stands =
     record {
       front = s.front ++ l.reads.finds.0.front;
@@ -267,7 +267,7 @@ stands_behind start now old new Stands Next left held s says l grew stands =
     }
 
 -- the entries of a line could not be told whole
-pub cut_line : (start now : Streams) (old new : Reading) (Stands : Said → List Event → Type 0) (left held : Option (List ℕ)) (s : Standing start now old Stands) (says : ScriptLine) → Leads start now old new Stands left s says → GrewPartly now.held held (lines_of (entries_of s.said s.events says)) → (input : List ℕ) × CutShort (Some command.Run) start (record { left = left; held = held }) input
+pub cut_line : (start now : Streams) (old new : Reading) (Stands : Said → List Event → Type 0) (left held : Option (List ℕ)) (s : Standing start now old Stands) (says : ScriptLine) → Leads start now old new Stands left s says → GrewPartly now.held held (text_of (entries_of s.said s.events says)) → (input : List ℕ) × CutShort (Some command.Run) start (record { left = left; held = held }) input
 cut_line start now old new Stands left held s says l grew =
     let f : FindsLine old new (old.feed.pending ++ l.reads.taken) = l.reads.finds.0 in (
       (s.front ++ f.front) ++ new.feed.pending,

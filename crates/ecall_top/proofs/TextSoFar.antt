@@ -7,8 +7,8 @@ use Rattle.trace_text.specs.declared.event.Event.{Event}
 use Rattle.trace_text.specs.declared.reason.BadLine.{BadLine}
 use Rattle.trace_text.specs.declared.script.ScriptLine.{ScriptLine}
 use Rattle.trace_text.specs.declared.script.ScriptLine.TheVariants as line
-use Rattle.trace_text.specs.EntryLine.{lines_of}
-use Rattle.trace_text.specs.ListenerLaws.{lines_of-append}
+use Rattle.trace_text.specs.EntryLine.{text_of}
+use Rattle.trace_text.specs.ListenerLaws.{text_of-append}
 use Rattle.trace_text.specs.Script.{Said, Script, script_from}
 use Rattle.channel_sim.specs.World.{World, step, first_world, trace_from, world_after}
 use Rattle.ecall_top.specs.Progress.{behind, event_of, entries_of, entries_in, world_behind, ReadSoFar}
@@ -56,26 +56,26 @@ pub played-nothing : (ready : Option (List ℕ)) → played ready [] ≡ []
 played-nothing None = refl
 played-nothing (Some octets) = refl
 
-played-append : (ready : Option (List ℕ)) (es fs : List Event) → Begins (lines_of (played ready es)) (lines_of (played ready (es ++ fs)))
+played-append : (ready : Option (List ℕ)) (es fs : List Event) → Begins (text_of (played ready es)) (text_of (played ready (es ++ fs)))
 played-append None es fs = record { rest = []; whole = refl }
 played-append (Some octets) es fs =
     let w : World = first_world (facts.Ready octets) in
     record {
-      rest = lines_of (trace_from (world_after w es) fs);
-      whole = sym (ap lines_of (trace_from-append w es fs) ∙ lines_of-append (trace_from w es) (trace_from (world_after w es) fs));
+      rest = text_of (trace_from (world_after w es) fs);
+      whole = sym (ap text_of (trace_from-append w es fs) ∙ text_of-append (trace_from w es) (trace_from (world_after w es) fs));
     }
 
 -- the text so far is a front of the text of the reply
-text_so_far : (said : Said) (events : List Event) → IsTidy said events → (texts : List (List ℕ)) (number : ℕ) → let script : Script = behind events (script_from said number texts) in Begins (lines_of (played said.ready events)) (ended (lines_of (script_trace script)) script.refused).text
+text_so_far : (said : Said) (events : List Event) → IsTidy said events → (texts : List (List ℕ)) (number : ℕ) → let script : Script = behind events (script_from said number texts) in Begins (text_of (played said.ready events)) (ended (text_of (script_trace script)) script.refused).text
 text_so_far said events (inl eventful) texts number =
     let rest : Script = script_from said number texts in
     begins_ended _ _ rest.refused
-    (subst (λ (r : Option (List ℕ)). Begins (lines_of (played said.ready events)) (lines_of (played r (events ++ rest.events))))
+    (subst (λ (r : Option (List ℕ)). Begins (text_of (played said.ready events)) (text_of (played r (events ++ rest.events))))
     (sym (ready_kept said eventful texts number)) (played-append said.ready events rest.events))
 text_so_far said events (inr none) texts number =
     record {
-      rest = (ended (lines_of (script_trace (behind events (script_from said number texts)))) (script_from said number texts).refused).text;
-      whole = ap (λ t. lines_of t ++ (ended (lines_of (script_trace (behind events (script_from said number texts)))) (script_from said number texts).refused).text) (ap (played said.ready) none ∙ played-nothing said.ready);
+      rest = (ended (text_of (script_trace (behind events (script_from said number texts)))) (script_from said number texts).refused).text;
+      whole = ap (λ t. text_of t ++ (ended (text_of (script_trace (behind events (script_from said number texts)))) (script_from said number texts).refused).text) (ap (played said.ready) none ∙ played-nothing said.ready);
     }
 
 begins_partly : (old new : Option (List ℕ)) (a b : List ℕ) → Begins a b → GrewPartly old new a → GrewPartly old new b
@@ -84,8 +84,8 @@ begins_partly old new a b h grew =
     subst P h.whole (GrewPartly-longer old new a h.rest grew)
 
 -- what was partly written for the lines so far is a front of the text of the reply to any input that begins with them
-pub partly_replied : (old new : Option (List ℕ)) (front more : List ℕ) (reading : Reading) (said : Said) (events : List Event) → IsTidy said events → ReadSoFar front reading said events → MayFollow reading.feed more → GrewPartly old new (lines_of (played said.ready events)) → GrewPartly old new (run_reply (front ++ more)).text
+pub partly_replied : (old new : Option (List ℕ)) (front more : List ℕ) (reading : Reading) (said : Said) (events : List Event) → IsTidy said events → ReadSoFar front reading said events → MayFollow reading.feed more → GrewPartly old new (text_of (played said.ready events)) → GrewPartly old new (run_reply (front ++ more)).text
 partly_replied old new front more reading said events tidy read follows grew =
-    let P : Script → Type 0 = λ script. GrewPartly old new (ended (lines_of (script_trace script)) script.refused).text in
+    let P : Script → Type 0 = λ script. GrewPartly old new (ended (text_of (script_trace script)) script.refused).text in
     subst P (sym (read.script more follows))
-    (begins_partly old new (lines_of (played said.ready events)) _ (text_so_far said events tidy (bytes.lines_of more) (reading.lines + 1)) grew)
+    (begins_partly old new (text_of (played said.ready events)) _ (text_so_far said events tidy (bytes.lines_of more) (reading.lines + 1)) grew)

@@ -4,7 +4,7 @@ use Rattle.ivs_machine.specs.declared.facts.Facts.TheVariants as facts
 use Rattle.trace_text.specs.declared.entry.Entry.{Entry}
 use Rattle.trace_text.specs.declared.event.Event.{Event}
 use Rattle.trace_text.specs.declared.reason.BadLine.{BadLine}
-use Rattle.trace_text.specs.EntryLine.{lines_of}
+use Rattle.trace_text.specs.EntryLine.{text_of}
 use Rattle.trace_text.specs.Script.{Script, script_of}
 use Rattle.channel_sim.specs.World.{trace}
 use Rattle.ecall_top.specs.declared.command.Command.{Command}
@@ -32,7 +32,7 @@ ended text (Some bad) = record { text = text ++ refusal_line bad; status = statu
 
 -- the reply of `run` to an input
 abbrev pub run_reply : List ℕ → Reply
-run_reply input = ended (lines_of (script_trace (script_of input))) (script_of input).refused
+run_reply input = ended (text_of (script_trace (script_of input))) (script_of input).refused
 
 -- the reply to a command and an input, or to words that name none
 abbrev pub Replies : Option Command → List ℕ → Reply → Type 0

@@ -3,7 +3,7 @@
 use Rattle.std.specs.Prelude.{◌≡◌, ℕ, ◌⊎◌, true, List, []}
 use Rattle.call_io.specs.Bytes.{Grew}
 use Rattle.trace_text.specs.declared.event.Event.{Event}
-use Rattle.trace_text.specs.EntryLine.{lines_of}
+use Rattle.trace_text.specs.EntryLine.{text_of}
 use Rattle.trace_text.specs.Reading.{Reading}
 use Rattle.trace_text.specs.Script.{Said}
 use Rattle.ecall_top.specs.Outcome.{Streams}
@@ -21,6 +21,6 @@ pub record Standing (start now : Streams) (reading : Reading) (Stands : Said →
   pub said : Said
   pub events : List Event
   pub read : ReadSoFar front reading said events
-  pub wrote : Grew start.held now.held (lines_of (played said.ready events))
+  pub wrote : Grew start.held now.held (text_of (played said.ready events))
   pub stands : Stands said events
   pub tidy : IsTidy said events

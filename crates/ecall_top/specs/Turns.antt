@@ -5,7 +5,7 @@ use Rattle.call_io.specs.Bytes.{Grew, GrewPartly}
 use Rattle.trace_text.specs.declared.event.Event.{Event}
 use Rattle.trace_text.specs.declared.reason.Reason.{Reason}
 use Rattle.trace_text.specs.declared.script.ScriptLine.{ScriptLine}
-use Rattle.trace_text.specs.EntryLine.{lines_of}
+use Rattle.trace_text.specs.EntryLine.{text_of}
 use Rattle.trace_text.specs.Reading.{Reading}
 use Rattle.trace_text.specs.Script.{Said, said_after}
 use Rattle.ecall_top.specs.declared.run.Turn.{Turn}
@@ -23,7 +23,7 @@ use Rattle.ecall_top.specs.Standing.{Standing}
 pub record Told (place : Result (Option ScriptLine) Reason) (said : Said) (events : List Event) (Wrote : List ℕ → Type 0) : Type 0 where
   pub says : ScriptLine
   pub placed : place ≡ Ok (Some says)
-  pub wrote : Wrote (lines_of (entries_of said events says))
+  pub wrote : Wrote (text_of (entries_of said events says))
 
 -- Why a line is refused in its place, and what was written of it.
 pub record Refused (place : Result (Option ScriptLine) Reason) (number : ℕ) (Wrote : List ℕ → Type 0) : Type 0 where
@@ -35,7 +35,7 @@ pub record Refused (place : Result (Option ScriptLine) Reason) (number : ℕ) (W
 pub record GoesOn (place : Result (Option ScriptLine) Reason) (said : Said) (events : List Event) (Wrote : List ℕ → Type 0) (calls : ℕ) (next : Stage) : Type 0 where
   pub says : ScriptLine
   pub placed : place ≡ Ok (Some says)
-  pub wrote : Wrote (lines_of (entries_of said events says))
+  pub wrote : Wrote (text_of (entries_of said events says))
   pub stands : StageStandsFor next (said_after said says) (events ++ event_of says)
   pub few : calls_in next ≤ calls
 

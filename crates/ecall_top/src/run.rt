@@ -9,7 +9,7 @@ ghost use Rattle.trace_text.specs.Script.{script_line, placed, placed_line};
 ghost use Rattle.ecall_top.specs.Outcome.{Outcome, Streams};
 ghost use Rattle.ecall_top.specs.declared.command.Command.TheVariants as command;
 ghost use Rattle.ecall_top.specs.Stage.{StageStandsFor, Obeys, calls_in};
-ghost use Rattle.trace_text.specs.EntryLine.{lines_of};
+ghost use Rattle.trace_text.specs.EntryLine.{text_of};
 ghost use Rattle.ecall_top.specs.Standing.{Standing};
 ghost use Rattle.ecall_top.specs.Turns.{Turns, Plays};
 
@@ -122,7 +122,7 @@ fn tell<O: Sink>(
 ) -> Result<Stage, Halt>
     requires few { calls_in stage < 4294967295 }
     requires stands { (said : Said) × (events : List Event) × StageStandsFor stage said events }
-    ensures obeys { (said : Said) (events : List Event) → StageStandsFor stage said events → Obeys (λ es. Grew (O.held output.old) (O.held output.new) (lines_of es)) (λ es. GrewPartly (O.held output.old) (O.held output.new) (lines_of es)) stage said events says.now result }
+    ensures obeys { (said : Said) (events : List Event) → StageStandsFor stage said events → Obeys (λ es. Grew (O.held output.old) (O.held output.new) (text_of es)) (λ es. GrewPartly (O.held output.old) (O.held output.new) (text_of es)) stage said events says.now result }
     ensures cause { result ≡ Err (Halt.Sim SimFault.Write) → Rose (O.faults output.old) (O.faults output.new) }
     ensures counted { O.faults output.old ≤ O.faults output.new }
 {

@@ -101,6 +101,6 @@ abbrev pub line_of : Entry → List ℕ
 line_of entry = decimal entry.tick ++ spaced (note_words entry.note) ++ 10 ∷ []
 
 -- the lines of some entries, one behind the other
-abbrev pub lines_of : List Entry → List ℕ
-lines_of [] = []
-lines_of (entry ∷ entries) = line_of entry ++ lines_of entries
+abbrev pub text_of : List Entry → List ℕ
+text_of [] = []
+text_of (entry ∷ entries) = line_of entry ++ text_of entries

@@ -4,7 +4,7 @@ use Rattle.std.specs.Prelude.{◌≡◌, ℕ, List, ◌++◌, Option}
 use Rattle.std.specs.Borrow.{GName}
 use Rattle.call_io.specs.Bytes.{Grew, GrewPartly}
 use Rattle.call_io.specs.Counts.{Rose}
-use Rattle.trace_text.specs.EntryLine.{lines_of}
+use Rattle.trace_text.specs.EntryLine.{text_of}
 use Rattle.trace_text.specs.declared.entry.Entry.{Entry}
 use Rattle.trace_text.specs.declared.listener.Deaf.{Deaf}
 use Rattle.trace_text.specs.declared.listener.Deaf.TheVariants as deaf
@@ -35,9 +35,9 @@ sink_name to = to.out.ghost_name
 -- still the same sink is borrowed, and its told bytes grew by exactly the lines of these entries
 abbrev pub TextGrew : {O : Type 0} → (O → Option (List ℕ)) → (old new : TextOut O) → List Entry → Type 0
 TextGrew held old new entries =
-    (sink_name new ≡ sink_name old) × Grew (held (sink old)) (held (sink new)) (lines_of entries)
+    (sink_name new ≡ sink_name old) × Grew (held (sink old)) (held (sink new)) (text_of entries)
 
 -- still the same sink is borrowed, and its told bytes grew by a front of the bytes of these lines
 abbrev pub TextGrewPartly : {O : Type 0} → (O → Option (List ℕ)) → (old new : TextOut O) → List Entry → Type 0
 TextGrewPartly held old new entries =
-    (sink_name new ≡ sink_name old) × GrewPartly (held (sink old)) (held (sink new)) (lines_of entries)
+    (sink_name new ≡ sink_name old) × GrewPartly (held (sink old)) (held (sink new)) (text_of entries)

@@ -4,7 +4,7 @@ use Rattle.std.proofs.Common.{◌≡◌, ℕ, List, [], ◌∷◌, ◌++◌, Opt
 use Rattle.std.proofs.lemmas.List.{append-nil}
 use Rattle.call_io.specs.Bytes.{Grew, GrewPartly}
 use Rattle.call_io.proofs.BytesLemmas.{Grew-nothing, Grew-append, GrewPartly-whole, GrewPartly-after, GrewPartly-longer}
-use Rattle.trace_text.specs.EntryLine.{line_of, lines_of}
+use Rattle.trace_text.specs.EntryLine.{line_of, text_of}
 use Rattle.trace_text.specs.Listener.{GrewByFront, KeptGrew, sink, TextGrew, TextGrewPartly}
 use Rattle.trace_text.specs.declared.entry.Entry.{Entry}
 use Rattle.trace_text.specs.declared.text_out.TextOut.{TextOut}
@@ -31,9 +31,9 @@ pub KeptGrew-append : (a b c : List Entry) (s t : List Entry) → KeptGrew a b s
 KeptGrew-append a b c s t first second = second ∙ ap (λ r. r ++ t) first ∙ append_assoc a s t
 
 -- the lines of two lists of entries are those of the one behind those of the other
-pub lines_of-append : (s t : List Entry) → lines_of (s ++ t) ≡ lines_of s ++ lines_of t
-lines_of-append [] t = refl
-lines_of-append (x ∷ s) t = ap (λ r. line_of x ++ r) (lines_of-append s t) ∙ sym (append_assoc (line_of x) (lines_of s) (lines_of t))
+pub text_of-append : (s t : List Entry) → text_of (s ++ t) ≡ text_of s ++ text_of t
+text_of-append [] t = refl
+text_of-append (x ∷ s) t = ap (λ r. line_of x ++ r) (text_of-append s t) ∙ sym (append_assoc (line_of x) (text_of s) (text_of t))
 
 module _ {O : Type 0} (held : O → Option (List ℕ)) where
   pub TextGrew-nothing : (a : TextOut O) → TextGrew held a a []
@@ -42,23 +42,23 @@ module _ {O : Type 0} (held : O → Option (List ℕ)) where
   pub TextGrew-append : (a b c : TextOut O) (s t : List Entry) → TextGrew held a b s → TextGrew held b c t → TextGrew held a c (s ++ t)
   TextGrew-append a b c s t first second = (
     second.0 ∙ first.0,
-    subst (Grew (held (sink a)) (held (sink c))) (sym (lines_of-append s t))
-        (Grew-append (held (sink a)) (held (sink b)) (held (sink c)) (lines_of s) (lines_of t) first.1 second.1),
+    subst (Grew (held (sink a)) (held (sink c))) (sym (text_of-append s t))
+        (Grew-append (held (sink a)) (held (sink b)) (held (sink c)) (text_of s) (text_of t) first.1 second.1),
   )
 
   pub TextGrewPartly-whole : (a b : TextOut O) (s : List Entry) → TextGrew held a b s → TextGrewPartly held a b s
-  TextGrewPartly-whole a b s whole = (whole.0, GrewPartly-whole (held (sink a)) (held (sink b)) (lines_of s) whole.1)
+  TextGrewPartly-whole a b s whole = (whole.0, GrewPartly-whole (held (sink a)) (held (sink b)) (text_of s) whole.1)
 
   pub TextGrewPartly-after : (a b c : TextOut O) (s t : List Entry) → TextGrew held a b s → TextGrewPartly held b c t → TextGrewPartly held a c (s ++ t)
   TextGrewPartly-after a b c s t first second = (
     second.0 ∙ first.0,
-    subst (GrewPartly (held (sink a)) (held (sink c))) (sym (lines_of-append s t))
-        (GrewPartly-after (held (sink a)) (held (sink b)) (held (sink c)) (lines_of s) (lines_of t) first.1 second.1),
+    subst (GrewPartly (held (sink a)) (held (sink c))) (sym (text_of-append s t))
+        (GrewPartly-after (held (sink a)) (held (sink b)) (held (sink c)) (text_of s) (text_of t) first.1 second.1),
   )
 
   pub TextGrewPartly-longer : (a b : TextOut O) (s t : List Entry) → TextGrewPartly held a b s → TextGrewPartly held a b (s ++ t)
   TextGrewPartly-longer a b s t part = (
     part.0,
-    subst (GrewPartly (held (sink a)) (held (sink b))) (sym (lines_of-append s t))
-        (GrewPartly-longer (held (sink a)) (held (sink b)) (lines_of s) (lines_of t) part.1),
+    subst (GrewPartly (held (sink a)) (held (sink b))) (sym (text_of-append s t))
+        (GrewPartly-longer (held (sink a)) (held (sink b)) (text_of s) (text_of t) part.1),
   )

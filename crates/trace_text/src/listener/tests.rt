@@ -1,7 +1,7 @@
 //! A run of entries through each listener, and what a failure leaves.
 ghost use Rattle.std.specs.Prelude.{◌≡◌, ◌≤◌, OnOk, OnErr, IfErr};
 ghost use Rattle.call_io.specs.Bytes.{Grew, GrewPartly};
-ghost use Rattle.trace_text.specs.EntryLine.{lines_of};
+ghost use Rattle.trace_text.specs.EntryLine.{text_of};
 ghost use Rattle.trace_text.specs.Listener.{HasCause};
 
 use super::*;
@@ -25,8 +25,8 @@ fn hear_all<H: Listener>(alloc: Global, entries: &[Entry], to: &mut H) -> Result
 
 /// Writes the lines of entries to a sink that it is lent, through the listener that borrows it.
 fn write_lines<O: Sink>(alloc: Global, entries: &[Entry], out: &mut O) -> Result<(), Deaf>
-    ensures ok { OnOk result (Grew (O.held out.old) (O.held out.new) (lines_of entries.now)) }
-    ensures partly { OnErr result (GrewPartly (O.held out.old) (O.held out.new) (lines_of entries.now)) }
+    ensures ok { OnOk result (Grew (O.held out.old) (O.held out.new) (text_of entries.now)) }
+    ensures partly { OnErr result (GrewPartly (O.held out.old) (O.held out.new) (text_of entries.now)) }
     ensures cause { IfErr result (λ e. HasCause e (O.faults out.old) (O.faults out.new)) }
     ensures counted { O.faults out.old ≤ O.faults out.new }
 {
