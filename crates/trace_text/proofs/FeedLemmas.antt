@@ -1,12 +1,17 @@
 -- What a block of bytes says of the bytes that are pending, and how takings from a source compose.
 use Rattle.std.proofs.Common.{◌≡◌, ℕ, ◌+◌, ◌-◌, ◌<◌, ◌≤◌, ◌⊎◌, Bool, true, false, List, [], ◌∷◌, ◌++◌, length, take, drop, get_or, eqb, Option, Some, None, refl, sym, ap, ◌∙◌, subst, inl, inr, arith, length-take, length-drop, drop-cons, add-one, suc, Ok}
-use Rattle.std.proofs.lemmas.List.{append-nil}
-use Rattle.std.proofs.lemmas.Bool.{eqb-true, eq-eqb, false≢true}
-use Rattle.std.specs.List.{slice_range}
+use Rattle.std.proofs.lemmas.List.{append-nil, drop-drop, take-take, take-append-drop, take_at, take_all}
+use Rattle.std.proofs.lemmas.List.Sums.{prefix_len-le-length}
+use Rattle.std.proofs.lemmas.Bool.Decides.{nat_tests}
+use Rattle.std.proofs.Math.Seq.{take-append-add}
+use Rattle.std.specs.Prelude.{cond, not, nat_lt, min, ◌==◌}
+use Rattle.std.specs.Option.{unwrap_or}
+use Rattle.std.proofs.lemmas.Bool.{eqb-true, eq-eqb, false≢true, cases_lt}
+use Rattle.std.specs.List.{slice_range, position, position_or_len, AllByRecursion}
 use Rattle.std.specs.Io.KnownBytes.{IsAtEnd}
 use Rattle.call_io.specs.Bytes.{Took, EndsExactly}
 use Rattle.call_io.proofs.BytesLemmas.{Took-nothing, Took-append}
-use Rattle.trace_text.specs.Feed.{Feed, Draws, Refills, KeepsFeed, NextByte}
+use Rattle.trace_text.specs.Feed.{Feed, Draws, IsInner, GivesRun, run_of, Refills, KeepsFeed, NextByte}
 
 -- what is left of a part
 pub slice_range-empty : (xs : List ℕ) (at end : ℕ) → end ≤ at → slice_range xs at end ≡ []
@@ -116,3 +121,79 @@ Draws-append old mid new left between left' s t first second = record {
     ]
   ];
 }
+
+-- ---- bytes that are given on together
+
+inner_at_first : (bytes : List ℕ) → AllByRecursion IsInner (take (position_or_len (λ b. b == 10) bytes) bytes)
+inner_at_first [] = tt
+inner_at_first (b ∷ bytes) =
+    elim (b == 10) as (λ t. (b == 10) ≡ t → AllByRecursion IsInner (take (cond (not t) (1 + position_or_len (λ c. c == 10) bytes) 0) (b ∷ bytes))) [
+      | true ↦ λ e. tt
+      | false ↦ λ e. let next : suc (position_or_len (λ c. c == 10) bytes) ≡ 1 + position_or_len (λ c. c == 10) bytes = omega arith in
+          subst (λ n. AllByRecursion IsInner (take n (b ∷ bytes))) next ((λ same. false≢true (sym e ∙ eq-eqb b 10 same)), inner_at_first bytes)
+    ] refl
+
+not_below : (m n : ℕ) → nat_lt m n ≡ false → n ≤ m
+not_below m n h = grind (arith, nat_tests)
+
+first_or_all : (bytes : List ℕ) → unwrap_or (position (λ b. b == 10) bytes) (length bytes) ≡ position_or_len (λ b. b == 10) bytes
+first_or_all bytes =
+    let n = position_or_len (λ b. b == 10) bytes in
+    elim (nat_lt n (length bytes)) as (λ t. nat_lt n (length bytes) ≡ t → unwrap_or (cond t (Some n) None) (length bytes) ≡ n) [
+      | true ↦ λ h. refl
+      | false ↦ λ h. let past : length bytes ≤ n = not_below n (length bytes) h in omega (arith, past, prefix_len-le-length (λ b. not (b == 10)) bytes)
+    ] refl
+
+-- the place of the first newline among so many bytes, or how many these are
+pub run_place : (bytes : List ℕ) (most n m : ℕ) → m ≡ min (length bytes) most → n ≡ unwrap_or (position (λ b. b == 10) (take m bytes)) (length (take m bytes)) → n ≡ position_or_len (λ b. b == 10) (take most bytes)
+run_place bytes most n m least e =
+    let same : take m bytes ≡ take most bytes = take_least bytes most m least in
+    e ∙ first_or_all (take m bytes) ∙ ap (position_or_len (λ b. b == 10)) same
+  where
+    take_least : (bytes : List ℕ) (most m : ℕ) → m ≡ min (length bytes) most → take m bytes ≡ take most bytes
+    take_least bytes most m least = elim (cases_lt most (length bytes)) as (λ _. take m bytes ≡ take most bytes) [
+      | inl below ↦ let e : m ≡ most = omega (arith, least, below) in ap (λ k. take k bytes) e
+      | inr past ↦ take_all m bytes (omega (arith, least, past)) ∙ sym (take_all most bytes (omega (arith, past)))
+    ]
+
+slice_range-split : (block : List ℕ) (at end len : ℕ) → at + len ≤ end → end ≤ length block → slice_range block at end ≡ slice_range block at (at + len) ++ slice_range block (at + len) end
+slice_range-split block at end len within most =
+    let xs = drop at block in
+    let first : (at + len) - at ≡ len = omega arith in
+    let whole : end - at ≡ len + (end - (at + len)) = omega arith in
+    ap (λ n. take n xs) whole ∙ take_two len (end - (at + len)) xs (omega (arith, length-drop at block))
+    ∙ ap (λ (l : List ℕ). take len xs ++ take (end - (at + len)) l) (drop-drop len at block)
+    ∙ ap (λ n. take n xs ++ slice_range block (at + len) end) (sym first)
+  where
+    take_two : (m n : ℕ) (xs : List ℕ) → m + n ≤ length xs → take (m + n) xs ≡ take m xs ++ take n (drop m xs)
+    take_two m n xs few =
+        ap (λ (l : List ℕ). take (m + n) l) (sym (take-append-drop m xs)) ∙ ap (λ k. take (k + n) (take m xs ++ drop m xs)) (sym (length-take m xs ∙ omega arith)) ∙ take-append-add (take m xs) (drop m xs) n
+
+pub run_is : (block : List ℕ) (at end given len room : ℕ) (ended : Bool) → at ≤ end → end ≤ length block → len ≡ position_or_len (λ b. b == 10) (take (min room (16777216 - given)) (slice_range block at end))
+    → let old : Feed = record { pending = slice_range block at end; given = given; ended = ended } in slice_range block at (at + len) ≡ run_of old room
+run_is block at end given len room ended order within is =
+    let most = min room (16777216 - given) in
+    let pending = slice_range block at end in
+    let here : len ≤ length (take most pending) = omega (arith, is, prefix_len-le-length (λ b. not (b == 10)) (take most pending)) in
+    let long : length (take most pending) ≡ min most (length pending) = length-take most pending in
+    let few : len ≤ most = omega (arith, here, long) in
+    let inside : len ≤ end - at = omega (arith, here, long, length-slice_range block at end within) in
+    let split = slice_range-split block at end len (omega (arith, inside, order)) within in
+    let run_long : length (slice_range block at (at + len)) ≡ len = length-slice_range block at (at + len) (omega (arith, inside, order, within)) ∙ omega arith in
+    sym (ap (take len) split ∙ take_at (slice_range block at (at + len)) (slice_range block (at + len) end) len run_long)
+    ∙ sym (take-take len most pending few)
+    ∙ ap (λ n. take n (take most pending)) is
+
+pub GivesRun-range : (block : List ℕ) (at end given len room : ℕ) (ended : Bool) → at ≤ end → end ≤ length block → len ≤ length (slice_range block at end) → len ≡ position_or_len (λ b. b == 10) (take (min room (16777216 - given)) (slice_range block at end))
+    → let old : Feed = record { pending = slice_range block at end; given = given; ended = ended } in
+    let new : Feed = record { pending = slice_range block (at + len) end; given = given + len; ended = ended } in GivesRun old new (run_of old room)
+GivesRun-range block at end given len room ended order within few is =
+    let fits : at + len ≤ end = omega (arith, few, order, length-slice_range block at end within) in
+    let run = run_is block at end given len room ended order within is in
+    let long : length (slice_range block at (at + len)) ≡ len = length-slice_range block at (at + len) (omega (arith, fits, within)) ∙ omega arith in
+    record {
+      pending = slice_range-split block at end len fits within ∙ ap (λ (l : List ℕ). l ++ slice_range block (at + len) end) run;
+      given = omega (arith, long, ap length run);
+      ended = refl;
+      inner = inner_at_first (take (min room (16777216 - given)) (slice_range block at end));
+    }

@@ -1,12 +1,12 @@
 -- A line that is being gathered, and how it ends.
-use Rattle.std.proofs.Common.{◌≡◌, ℕ, ◌+◌, ◌<◌, ◌≤◌, ◌≢◌, false, eqb, List, [], ◌∷◌, ◌++◌, length, Option, Some, None, Ok, Err, sym, ap, ◌∙◌, arith, append_assoc, length-append}
+use Rattle.std.proofs.Common.{◌≡◌, ℕ, ◌+◌, ◌<◌, ◌≤◌, ◌≢◌, false, eqb, List, [], ◌∷◌, ◌++◌, length, Option, Some, None, Ok, Err, sym, ap, subst, ◌∙◌, arith, append_assoc, length-append}
 use Rattle.std.specs.List.{AllByRecursion}
 use Rattle.std.proofs.lemmas.List.{append-nil}
 use Rattle.std.proofs.lemmas.Bool.{eq-eqb, false≢true}
 use Rattle.trace_text.specs.declared.fault.LineFault.{LineFault}
 use Rattle.trace_text.specs.declared.fault.LineFault.TheVariants as fault
 use Rattle.trace_text.specs.declared.gather.Ending.TheVariants as ending
-use Rattle.trace_text.specs.Feed.{Feed, Draws, IsInner, NextByte, GivesByte, GathersLine, GathersText}
+use Rattle.trace_text.specs.Feed.{Feed, Draws, IsInner, NextByte, GivesByte, GivesRun, GathersLine, GathersText}
 use Rattle.trace_text.proofs.FeedLemmas.{Draws-nothing, Draws-append}
 
 -- these bytes of a line were gathered
@@ -43,6 +43,28 @@ Gathering-more old now new left between left' text b so next inner room = record
   given = let len : length (text ++ b ∷ []) ≡ length text + 1 = length-append text (b ∷ []) in omega (arith, so.given, next.gives.1);
   short = let len : length (text ++ b ∷ []) ≡ length text + 1 = length-append text (b ∷ []) in omega arith;
 }
+
+AllByRecursion-append : (a b : List ℕ) → AllByRecursion IsInner a → AllByRecursion IsInner b → AllByRecursion IsInner (a ++ b)
+AllByRecursion-append [] b all more = more
+AllByRecursion-append (x ∷ a) b all more = (all.0, AllByRecursion-append a b all.1 more)
+
+-- bytes at hand more of the line
+pub Gathering-run : (old now new : Feed) (left left' : Option (List ℕ)) (text whole run : List ℕ) → Gathering old now left left' text → GivesRun now new run → whole ≡ text ++ run → length whole ≤ 512 → Gathering old new left left' whole
+Gathering-run old now new left left' text whole run so gives is short =
+    let bytes : old.pending ++ so.taken ≡ text ++ (run ++ new.pending) = so.bytes ∙ ap (λ (r : List ℕ). text ++ r) gives.pending in
+    record {
+      taken = so.taken;
+      draws = record {
+        took = so.draws.took;
+        idle = so.draws.idle;
+        stays = λ e. gives.ended ∙ so.draws.stays e;
+        «end» = λ e. so.draws.«end» (sym gives.ended ∙ e);
+      };
+      inner = subst (λ (l : List ℕ). AllByRecursion IsInner l) (sym is) (AllByRecursion-append text run so.inner gives.inner);
+      bytes = bytes ∙ sym (append_assoc text run new.pending) ∙ ap (λ (l : List ℕ). l ++ new.pending) (sym is);
+      given = omega (arith, so.given, gives.given, ap length is, length-append text run);
+      short = short;
+    }
 
 -- the input ended
 pub GathersLine-end : (old now new : Feed) (left between left' : Option (List ℕ)) (text : List ℕ)

@@ -1,7 +1,7 @@
 -- Bytes on their way from a source into lines, and what is said of the next byte and of the next line's bytes. This
 -- project's profile. Cited by the contracts of `Bytes` and of the functions that gather a line.
-use Rattle.std.specs.Prelude.{◌≡◌, ◌≢◌, ℕ, ◌+◌, ◌<◌, ◌≤◌, ◌⊎◌, Bool, true, false, List, [], ◌∷◌, ◌++◌, length, Option, Some, None, Result, Ok, Err}
-use Rattle.std.specs.List.{AllByRecursion}
+use Rattle.std.specs.Prelude.{◌≡◌, ◌≢◌, ℕ, ◌+◌, ◌-◌, ◌==◌, min, take, ◌<◌, ◌≤◌, ◌⊎◌, Bool, true, false, List, [], ◌∷◌, ◌++◌, length, Option, Some, None, Result, Ok, Err}
+use Rattle.std.specs.List.{AllByRecursion, before_first}
 use Rattle.std.specs.Io.KnownBytes.{IsAtEnd}
 use Rattle.call_io.specs.Bytes.{Took}
 use Rattle.trace_text.specs.declared.fault.LineFault.{LineFault}
@@ -66,6 +66,17 @@ pub record NextByte (old new : Feed) (left left' : Option (List ℕ)) (answer : 
   pub taken : List ℕ
   pub draws : Draws old new left left' taken
   pub gives : GivesByte old new (old.pending ++ taken) answer
+
+-- the bytes at hand before the first newline, as many as there is room for and as an input may still have
+abbrev pub run_of : Feed → ℕ → List ℕ
+run_of feed room = before_first (λ b. b == 10) (take (min room (16777216 - feed.given)) feed.pending)
+
+-- These bytes at hand, none of which ends a line, were given on.
+pub record GivesRun (old new : Feed) (run : List ℕ) : Type 0 where
+  pub pending : old.pending ≡ run ++ new.pending
+  pub given : new.given ≡ old.given + length run
+  pub ended : new.ended ≡ old.ended
+  pub inner : AllByRecursion IsInner run
 
 -- what an answer for the next line's bytes says of the bytes at hand, where these were gathered
 abbrev pub GathersText : (old new : Feed) → (bytes text : List ℕ) → Result Ending LineFault → Type 0

@@ -1,10 +1,13 @@
 //! The bytes of a source, one after another.
 
-ghost use Rattle.std.specs.Prelude.{◌≡◌, ℕ, ◌≤◌, List, Option, OnOk, OnErr, IfErr};
+ghost use Rattle.std.specs.Prelude.{◌≡◌, ◌==◌, ◌-◌, ℕ, ◌≤◌, List, ◌++◌, length, take, Option, OnOk, OnErr, IfErr};
+ghost use Rattle.std.specs.List.{position, position_or_len};
 ghost use Rattle.call_io.specs.Counts.{Rose};
 ghost use Rattle.trace_text.specs.declared.fault.LineFault.TheVariants as fault;
 
 use crate::fault::LineFault;
+use crate::gather::MOST_IN_LINE;
+use arrayvec::ArrayVec;
 use call_io::Source;
 use std::marker::Model;
 
@@ -33,7 +36,7 @@ impl Model for Bytes {
 }
 
 impl Bytes {
-    ghost use Rattle.trace_text.specs.Feed.{first_feed, NextByte, Refills, KeepsFeed};
+    ghost use Rattle.trace_text.specs.Feed.{first_feed, NextByte, GivesRun, run_of, Refills, KeepsFeed};
 
     /// Before anything was read.
     pub fn new() -> Bytes
@@ -68,6 +71,22 @@ impl Bytes {
         Ok(Some(byte))
     }
 
+    /// Puts the bytes at hand behind a text, up to a newline and as far as it has room. The source isn't read.
+    pub fn put_run(&mut self, text: &mut ArrayVec<u8, MOST_IN_LINE>)
+        ensures run { GivesRun self.old self.new (run_of self.old (512 - length text.old.items)) }
+        ensures text { text.new.items ≡ text.old.items ++ run_of self.old (512 - length text.old.items) }
+        ensures short { length text.new.items ≤ 512 }
+        ensures limit { self.new.given ≤ 16777216 }
+    {
+        let room = MOST_IN_LINE - text.len();
+        let most = room.min((MOST_BYTES - self.given) as usize);
+        let len = run_len(&self.block[self.at..self.end], most);
+        text.try_extend_from_slice(&self.block[self.at..self.at + len])
+            .unwrap();
+        self.at += len;
+        self.given += len as u32;
+    }
+
     /// Reads the source where no byte is pending, unless its end was seen.
     fn refill<I: Source>(&mut self, source: &mut I) -> Result<(), LineFault>
         ensures ok { OnOk result (Refills self.old self.new (I.left source.old) (I.left source.new)) }
@@ -90,4 +109,21 @@ impl Bytes {
             Err(_) => Err(LineFault::ReadFault),
         }
     }
+}
+
+// How many of the first bytes, at most so many, stand before a newline.
+fn run_len(bytes: &[u8], most: usize) -> usize
+    ensures place { result ≡ position_or_len (λ byte. byte == 10) (take most bytes.now) }
+    ensures few { result ≤ most }
+    ensures within { result ≤ length bytes.now }
+{
+    let front = &bytes[..bytes.len().min(most)];
+    newline_in(front).unwrap_or(front.len())
+}
+
+// The place of the first newline.
+fn newline_in(bytes: &[u8]) -> Option<usize>
+    ensures { result ≡ position (λ byte. byte == 10) bytes.now }
+{
+    bytes.iter().position(|byte| *byte == b'\n')
 }

@@ -37,6 +37,7 @@ pub fn gather<I: Source>(
 {
     text.clear();
     loop {
+        bytes.put_run(text);
         let Some(byte) = bytes.next(source)? else {
             return Ok(Ending::InputEnd);
         };
