@@ -55,15 +55,17 @@ def instructions(program, line):
     """How many instructions `PROGRAM decode` needs for one line."""
     run = ["valgrind", "--tool=callgrind", "--callgrind-out-file=/dev/null", program, "decode"]
     said = subprocess.run(run, input=line.encode() + b"\n", capture_output=True).stderr.decode()
-    return int(re.search(r"refs:\s+([\d,]+)", said).group(1).replace(",", ""))
+    count = re.search(r"refs:\s+([\d,]+)", said)
+    if count is None:
+        raise OSError("valgrind counts no instructions here")
+    return int(count.group(1).replace(",", ""))
 
 
 def decoded_alone(program, path, seconds):
     """The share of decoding in the instructions for a set: those for a set that is refused for the octet 1 behind it, after
     all else was read, less those for one that is refused at its first octet."""
     if shutil.which("valgrind") is None:
-        print("decoded alone: not measured, valgrind is not installed")
-        return
+        raise OSError("valgrind is not installed")
     with open(path) as lines:
         sets = [line.strip() for line, _ in zip(lines, range(SAMPLES))]
     sets = [digits for digits in sets if len(digits) < 2 * MOST_OCTETS]
@@ -116,7 +118,10 @@ def main(program):
             path, seconds = table(program, folder)
         except OSError as reason:
             sys.exit(f"{reason}: run it on the output of bench/sets.py to see why")
-        decoded_alone(program, path, seconds)
+        try:
+            decoded_alone(program, path, seconds)
+        except OSError as reason:
+            print(f"decoded alone: not measured, {reason}")
         compare(folder, path)
 
 
