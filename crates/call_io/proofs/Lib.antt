@@ -1,2 +1,3 @@
+pub mod BlockLemmas
 pub mod BytesLemmas
 pub mod CountsLemmas

@@ -2,6 +2,7 @@
 // std's readers and writers.
 #![tactic(auto)]
 
+mod block;
 mod calm;
 mod copy;
 mod mem_sink;
@@ -13,6 +14,7 @@ mod source;
 #[cfg(test)]
 mod tests;
 
+pub use block::Block;
 pub use calm::{CalmSink, CalmSource};
 pub use mem_sink::MemSink;
 pub use mem_source::MemSource;

@@ -14,7 +14,7 @@ use std::marker::Model;
 #[derive(Drop)]
 pub struct MemSink {
     bytes: Vec<u8>,
-    held: usize,
+    used: usize,
     failures: Failures,
 }
 
@@ -24,9 +24,9 @@ impl Model for MemSink {
 
     ghost Value = { Store };
 
-    ghost view = { λ s. record { held = take s.held s.bytes.items; room = vec_len s.bytes; plan = s.failures } };
+    ghost view = { λ s. record { held = take s.used s.bytes.items; room = vec_len s.bytes; plan = s.failures } };
 
-    ghost invariant = { λ s. s.held ≤ vec_len s.bytes };
+    ghost invariant = { λ s. s.used ≤ vec_len s.bytes };
 }
 
 impl MemSink {
@@ -39,7 +39,7 @@ impl MemSink {
         };
         Ok(MemSink {
             bytes,
-            held: 0,
+            used: 0,
             failures: Failures::new(fails),
         })
     }
@@ -48,7 +48,7 @@ impl MemSink {
     pub fn bytes(&self) -> &[u8]
         ensures { result.now ≡ self.now.held }
     {
-        &self.bytes[..self.held]
+        &self.bytes[..self.used]
     }
 }
 
@@ -70,16 +70,17 @@ impl Sink for MemSink {
         ensures bytes { IfOk result (λ n. Grew (Some self.old.held) (Some self.new.held) (take n piece.now)) }
         ensures kept { OnErr result (Some self.new.held ≡ Some self.old.held) }
         ensures cause { OnErr result (Rose self.old.plan.faults self.new.plan.faults) }
+        ensures stood { IfOk result (λ _. self.new.plan.faults ≡ self.old.plan.faults) }
         ensures counted { self.old.plan.faults ≤ self.new.plan.faults }
     {
-        let is_full = self.held == self.bytes.len();
+        let is_full = self.used == self.bytes.len();
         if self.failures.next_fails() || (is_full && !piece.is_empty()) {
             self.failures.fail();
             return Err(Failed);
         }
         self.failures.succeed();
-        let n = put(&mut self.bytes, self.held, piece);
-        self.held += n;
+        let n = put(&mut self.bytes, self.used, piece);
+        self.used += n;
         Ok(n)
     }
 }

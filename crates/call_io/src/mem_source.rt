@@ -64,6 +64,7 @@ impl Source for MemSource {
         ensures end { IfOk result (λ n. 0 < length into.old → EndsExactly (Some self.old.left) n) }
         ensures kept { OnErr result (Some self.new.left ≡ Some self.old.left) }
         ensures cause { OnErr result (Rose self.old.plan.faults self.new.plan.faults) }
+        ensures stood { IfOk result (λ _. self.new.plan.faults ≡ self.old.plan.faults) }
         ensures counted { self.old.plan.faults ≤ self.new.plan.faults }
     {
         if self.failures.next_fails() {

@@ -21,5 +21,6 @@ pub trait Source {
         ensures end { IfOk result (λ n. 0 < length into.old → EndsExactly (left self.old) n) }
         ensures kept { OnErr result (left self.new ≡ left self.old) }
         ensures cause { OnErr result (Rose (faults self.old) (faults self.new)) }
+        ensures stood { IfOk result (λ _. faults self.new ≡ faults self.old) }
         ensures counted { faults self.old ≤ faults self.new };
 }

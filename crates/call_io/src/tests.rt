@@ -1,3 +1,5 @@
+ghost use Rattle.std.specs.Prelude.{None};
+
 use super::*;
 use std::io;
 use std::io::{Error, ErrorKind, Read, Write};
@@ -7,6 +9,16 @@ use std::test::Fail;
 /// A reader and a writer of std whose every call is an error.
 #[derive(Drop)]
 struct Broken;
+
+impl Write for Broken {
+    fn write(&mut self, _buf: &[u8]) -> io::Result<usize> {
+        Err(Error::from(ErrorKind::NotConnected))
+    }
+
+    fn flush(&mut self) -> io::Result<()> {
+        Ok(())
+    }
+}
 
 impl Read for Broken {
     fn read(&mut self, _buf: &mut [u8]) -> io::Result<usize> {
@@ -99,9 +111,81 @@ fn works_over_std(rt: HostRuntime) -> Result<(), Fail> {
         assert_eq!(rt; write_all(&mut sink, &[1, 2, 3]), Ok(()));
     }
     assert_eq!(rt; written.as_slice(), [1, 2, 3].as_slice());
+    assert_eq!(rt; RealSource::new(Broken).read(&mut []), Err(Failed));
+    assert_eq!(rt; RealSource::new(bytes.as_slice()).read(&mut []), Ok(0));
+    assert_eq!(rt; RealSink::new(Broken).write(&[1]), Err(Failed));
+    assert_eq!(rt; RealSink::new(Broken).write(&[]), Err(Failed));
     let mut stuck = RealSink::new(Stuck);
     assert_eq!(rt; stuck.write(&[]), Ok(0));
     assert_eq!(rt; stuck.write(&[1]), Err(Failed));
+    Ok(())
+}
+
+/// A sink that counts the calls of `write`, and the bytes.
+#[derive(Drop)]
+struct Counting {
+    writes: u32,
+    bytes: u64,
+}
+
+impl Sink for Counting {
+    ghost held = { λ _. None };
+
+    ghost faults = { λ _. 0 };
+
+    fn write(&mut self, piece: &[u8]) -> Result<usize, Failed> {
+        self.writes = self.writes.saturating_add(1);
+        self.bytes = self.bytes.saturating_add(piece.len() as u64);
+        Ok(piece.len())
+    }
+}
+
+#[test]
+fn blocks_reach_the_sink(rt: HostRuntime) -> Result<(), Fail> {
+    // 200 pieces of 100 bytes are two blocks of 8192 bytes and 3616 more.
+    let mut sink = Counting {
+        writes: 0,
+        bytes: 0,
+    };
+    {
+        let mut block = Block::over(&mut sink);
+        for _ in 0..200 {
+            assert_eq!(rt; write_all(&mut block, &[7; 100]), Ok(()));
+        }
+        assert_eq!(rt; block.empty(), Ok(()));
+        assert_eq!(rt; block.empty(), Ok(()));
+    }
+    assert_eq!(rt; sink.writes, 3);
+    assert_eq!(rt; sink.bytes, 20000);
+    Ok(())
+}
+
+#[test]
+fn blocks_keep_what_failed(rt: HostRuntime) -> Result<(), Fail> {
+    // The first write is listed, the second finds room for two bytes, the third none.
+    let fails = vec![in rt.alloc(); 1]?;
+    let mut sink = MemSink::new(rt.alloc(), 2, fails)?;
+    {
+        let mut block = Block::over(&mut sink);
+        assert_eq!(rt; write_all(&mut block, b"abc"), Ok(()));
+        assert_eq!(rt; block.empty(), Err(Failed));
+        assert_eq!(rt; write_all(&mut block, b"d"), Ok(()));
+        assert_eq!(rt; block.empty(), Err(Failed));
+    }
+    assert_eq!(rt; sink.bytes(), b"ab".as_slice());
+    // A full block is emptied before it takes more, and a failure there leaves all pending.
+    let fails = vec![in rt.alloc(); 1]?;
+    let mut sink = MemSink::new(rt.alloc(), 10000, fails)?;
+    {
+        let mut block = Block::over(&mut sink);
+        assert_eq!(rt; write_all(&mut block, &[1; 8192]), Ok(()));
+        assert_eq!(rt; block.write(&[2]), Err(Failed));
+        assert_eq!(rt; block.write(&[]), Ok(0));
+        assert_eq!(rt; block.write(&[3]), Ok(1));
+        assert_eq!(rt; block.empty(), Ok(()));
+    }
+    assert_eq!(rt; sink.bytes().len(), 8193);
+    assert_eq!(rt; sink.bytes().last(), Some(&3));
     Ok(())
 }
 
