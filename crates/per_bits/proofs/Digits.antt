@@ -92,3 +92,11 @@ octet_field_value k n o h =
     ap (λ w. value_of (take n (drop k (digits w o)))) e
     ∙ ap value_of (digits_field k n (8 - k - n) o)
     ∙ value_digits n (o / 2 ^ (8 - k - n))
+
+-- the same of the number that a window of 64 bits reads
+pub window_field_value : (k n x : ℕ) → k + n ≤ 64 → value_of (take n (drop k (digits 64 x))) ≡ x / 2 ^ (64 - k - n) % 2 ^ n
+window_field_value k n x h =
+    let e : 64 ≡ k + (n + (64 - k - n)) = omega arith in
+    ap (λ w. value_of (take n (drop k (digits w x)))) e
+    ∙ ap value_of (digits_field k n (64 - k - n) x)
+    ∙ value_digits n (x / 2 ^ (64 - k - n))

@@ -72,6 +72,19 @@ number_step octets start at n v h i fits e =
     ∙ sym (value_more (octet_bits octets) start (at - start) n (omega (arith, length_octet_bits octets)))
     ∙ ap (λ k. value_of (take k (drop start (octet_bits octets)))) (sym far)
 
+-- one octet more of a window
+pub window_step : (octets : List ℕ) (at i v : ℕ) → at + i < length octets → v ≡ value_of (take (8 * i) (drop (8 * at) (octet_bits octets)))
+    → v * 2 ^ 8 + value_of (take 8 (drop 0 (digits 8 (get_or octets (at + i) 0)))) ≡ value_of (take (8 * (i + 1)) (drop (8 * at) (octet_bits octets)))
+window_step octets at i v h e =
+    let there : 8 * at + 8 * i ≡ 8 * (at + i) + 0 = omega arith in
+    let far : 8 * (i + 1) ≡ 8 * i + 8 = omega arith in
+    let field : take 8 (drop 0 (digits 8 (get_or octets (at + i) 0))) ≡ take 8 (drop (8 * at + 8 * i) (octet_bits octets)) =
+    sym (octet_field octets (at + i) 0 8 h (omega arith)) ∙ ap (λ k. take 8 (drop k (octet_bits octets))) (sym there) in
+    ap (λ x. x * 2 ^ 8 + value_of (take 8 (drop 0 (digits 8 (get_or octets (at + i) 0))))) e
+    ∙ ap (λ l. value_of (take (8 * i) (drop (8 * at) (octet_bits octets))) * 2 ^ 8 + value_of l) field
+    ∙ sym (value_more (octet_bits octets) (8 * at) (8 * i) 8 (omega (arith, length_octet_bits octets)))
+    ∙ ap (λ k. value_of (take k (drop (8 * at) (octet_bits octets)))) (sym far)
+
 -- a shift that loses no bit, and the bits that come behind
 pub shifted_or : (v d n f : ℕ) → v < 2 ^ d → d + n ≤ 64 → f < 2 ^ n → bit_or (v * 2 ^ n % 2 ^ 64) f ≡ v * 2 ^ n + f
 shifted_or v d n f h fits below = ap (λ x. bit_or x f) (shl_whole v d n 64 h fits) ∙ or_shifted v n f below
@@ -167,3 +180,14 @@ octets_differ bits start i other h small e =
     ∙ take_all 8 (digits 8 (get_or other i 0)) (omega (arith, length_digits 8 (get_or other i 0))))
     ∙ value_digits 8 (get_or other i 0)
     ∙ mod-eq_of_lt small
+
+-- a field of a window is one of the octets
+pub window_value : (octets : List ℕ) (start n : ℕ) → start / 8 + 8 ≤ length octets → n ≤ 57
+    → value_of (take n (drop (start % 8) (digits 64 (value_of (take 64 (drop (8 * (start / 8)) (octet_bits octets))))))) ≡ value_of (take n (drop start (octet_bits octets)))
+window_value octets start n within narrow =
+    let window = take 64 (drop (8 * (start / 8)) (octet_bits octets)) in
+    let long : length window ≡ 64 = length_field octets (8 * (start / 8)) 64 (omega arith) in
+    let same : digits 64 (value_of window) ≡ window = ap (λ w. digits w (value_of window)) (sym long) ∙ digits_value window in
+    ap (λ l. value_of (take n (drop (start % 8) l))) same
+    ∙ ap value_of (part_field (octet_bits octets) (8 * (start / 8)) 64 (start % 8) n (omega arith))
+    ∙ ap (λ k. value_of (take n (drop k (octet_bits octets)))) (omega arith)

@@ -10,9 +10,9 @@ use Rattle.std.proofs.Math.Seq.{take-add}
 use Rattle.std.proofs.lemmas.List.{length-append, length-take, length-drop, length-map, take-append-drop, append_assoc, append-nil, take_at, drop_at, drop_more, drop-drop, drop-map}
 use Rattle.std.proofs.lemmas.Option.{get_or_from_slice_get, slice_get_within}
 use Rattle.per_bits.specs.Bits.{digits, value_of, octet_bits, octets_of, Part, front, behind}
-use Rattle.per_bits.specs.Parts.{Open, Member, Opens, Section, open_parts, present_parts}
+use Rattle.per_bits.specs.Parts.{Open, Member, Opens, Section, IsSection, open_octets, behind_open, opens_of, member_count, members_of, present_members, present_parts}
 use Rattle.per_bits.proofs.Digits.{length_digits, value_digits, digits_value}
-use Rattle.per_bits.proofs.Octets.{octet_bits_of, length_octets_of, are_octets_of}
+use Rattle.per_bits.proofs.Octets.{octet_bits_of, length_octets_of, are_octets_of, octets_of_bits}
 use Rattle.per_bits.proofs.Places.{length_octet_bits}
 
 -- ---- open types
@@ -120,15 +120,15 @@ cond_is_some true x y e = (refl, e)
 cond_is_some false x y e = absurd (cc)
 
 -- and what stands there comes from members
-pub members_of : (present bits rest : List Bool) → rest_behind present bits ≡ Some rest → (members : List Member) × (map is_some members ≡ present) × ((b : List Bool) × Opens members b × (bits ≡ b ++ rest))
-members_of [] bits rest e = ([], refl, ([], refl, cc))
-members_of (false ∷ present) bits rest e =
-    let more = members_of present bits rest e in
+pub members_from : (present bits rest : List Bool) → rest_behind present bits ≡ Some rest → (members : List Member) × (map is_some members ≡ present) × ((b : List Bool) × Opens members b × (bits ≡ b ++ rest))
+members_from [] bits rest e = ([], refl, ([], refl, cc))
+members_from (false ∷ present) bits rest e =
+    let more = members_from present bits rest e in
     (None ∷ more.0, ap (λ l. false ∷ l) more.1, more.2)
-members_of (true ∷ present) bits rest e =
+members_from (true ∷ present) bits rest e =
     let stands = cond_is_some (open_stands bits) (rest_behind present (drop (open_size bits) bits)) rest e in
     let fits = tested_open bits stands.0 in
-    let more = members_of present (drop (open_size bits) bits) rest stands.1 in (
+    let more = members_from present (drop (open_size bits) bits) rest stands.1 in (
       Some (octets_of (take (8 * value_of (take 8 bits)) (drop 8 bits))) ∷ more.0,
       ap (λ l. true ∷ l) more.1,
       (
@@ -273,7 +273,7 @@ passed_none present bits i e none =
 pub section_from : (bits : List Bool) (count : ℕ) → 7 + count ≤ length bits → value_of (take 7 bits) + 1 ≡ count → count ≤ 64 → value_of (take count (drop 7 bits)) ≢ 0
     → rest_behind (take count (drop 7 bits)) (drop (7 + count) bits) ≡ Some [] → (members : List Member) × Section members bits
 section_from bits count long number few some passed =
-    let found = members_of (take count (drop 7 bits)) (drop (7 + count) bits) [] passed in
+    let found = members_from (take count (drop 7 bits)) (drop (7 + count) bits) [] passed in
     let size : length found.0 ≡ count =
     sym (length-map found.0 is_some) ∙ ap length found.1 ∙ length-take count (drop 7 bits) ∙ omega (arith, length-drop 7 bits) in
     let all : found.2.0 ≡ drop (7 + count) bits = sym (found.2.2 ∙ append-nil found.2.0) in
@@ -301,6 +301,13 @@ section_passed members bits count h number =
     ∙ opens_passed members (drop (7 + length members) bits) [] parts.opens
 
 -- ---- the iterator
+
+-- The octets of the open types that presence bits promise in front of p, with their indices from i on: behind
+-- eight bits of length as many octets as these read.
+abbrev pub open_parts : ℕ → List Bool → Part → List (ℕ × Part)
+open_parts i [] p = []
+open_parts i (false ∷ present) p = open_parts (i + 1) present p
+open_parts i (true ∷ present) p = (i, front (behind p 8) (8 * value_of (take 8 p.bits))) ∷ open_parts (i + 1) present (behind p (8 + 8 * value_of (take 8 p.bits)))
 
 pub parts_skip : (n i : ℕ) (present : List Bool) (p : Part) → take n present ≡ replicate n false → open_parts i present p ≡ open_parts (i + n) (drop n present) p
 parts_skip zero i present p e = ap (λ k. open_parts k present p) (omega arith)
@@ -376,3 +383,62 @@ goes can always s t x e = record {
   keeps = always t;
   rests = λ _. tt;
 }
+
+-- ---- reading inverts spelling
+
+pub open_read : (octets : List ℕ) (a rest : List Bool) → Open octets a → open_octets (a ++ rest) ≡ octets
+open_read octets a rest h =
+    ap (λ n. octets_of (take (8 * n) (drop 8 (a ++ rest)))) (number_of_open octets a rest h)
+    ∙ ap octets_of (content_of_open octets a rest h)
+    ∙ octets_of_bits octets h.each
+
+pub open_left : (octets : List ℕ) (a rest : List Bool) → Open octets a → behind_open (a ++ rest) ≡ rest
+open_left octets a rest h =
+    ap (λ n. drop (8 + 8 * n) (a ++ rest)) (number_of_open octets a rest h) ∙ rest_of_open octets a rest h
+
+pub opens_read : (members : List Member) (b : List Bool) → Opens members b → opens_of (map is_some members) b ≡ members
+opens_read [] b h = refl
+opens_read (None ∷ members) b h = ap (λ ms. None ∷ ms) (opens_read members b h)
+opens_read (Some octets ∷ members) b (a, c, spelled, more, e) =
+    ap (λ l. Some (open_octets l) ∷ opens_of (map is_some members) (behind_open l)) e
+    ∙ ap (λ os. Some os ∷ opens_of (map is_some members) (behind_open (a ++ c))) (open_read octets a c spelled)
+    ∙ ap (λ l. Some octets ∷ opens_of (map is_some members) l) (open_left octets a c spelled)
+    ∙ ap (λ ms. Some octets ∷ ms) (opens_read members c more)
+
+pub members_read : (members : List Member) (b : List Bool) → Section members b → members_of b ≡ members
+unfolding members_of
+members_read members b h =
+    let parts = section_parts members b h in
+    ap (λ n. opens_of (take n (drop 7 b)) (drop (7 + n) b)) parts.count
+    ∙ ap (λ l. opens_of l (drop (7 + length members) b)) parts.present
+    ∙ opens_read members (drop (7 + length members) b) parts.opens
+
+-- a section is one of the members that are read
+pub section_read : (b : List Bool) → IsSection b → Section (members_of b) b
+section_read b s =
+    let P : List Member → Type 0 = λ ms. Section ms b in
+    subst P (sym (members_read s.0 b s.1)) s.1
+
+-- the open types that are read are those that the presence bits promise
+pub view_same : (members : List Member) (present : List Bool) (i : ℕ) (p : Part) → map is_some members ≡ present → Opens members p.bits → present_parts p.all i p.start (opens_of present p.bits) ≡ open_parts i present p
+view_same members present i p e h =
+    ap (λ l. present_parts p.all i p.start (opens_of l p.bits)) (sym e)
+    ∙ ap (present_parts p.all i p.start) (opens_read members p.bits h)
+    ∙ sym (parts_are members i p p.bits refl h)
+    ∙ ap (λ l. open_parts i l p) e
+
+-- what the iterator of a section begins with
+pub iterated : (q present rest : Part) → present.bits ≡ take (member_count q.bits) (drop 7 q.bits) → rest ≡ behind q (7 + member_count q.bits)
+    → present_parts rest.all 0 rest.start (opens_of present.bits rest.bits) ≡ present_parts q.all 0 (q.start + (7 + member_count q.bits)) (members_of q.bits)
+unfolding members_of
+iterated q present rest e f =
+    ap (λ (r : Part). present_parts r.all 0 r.start (opens_of present.bits r.bits)) f
+    ∙ ap (λ l. present_parts q.all 0 (q.start + (7 + member_count q.bits)) (opens_of l (drop (7 + member_count q.bits) q.bits))) e
+
+-- the octets of the parts
+pub octets_read : (all : List Bool) (i at : ℕ) (members : List Member) (b : List Bool) → Opens members b → map (λ (x : ℕ × Part). (x.0, octets_of x.1.bits)) (present_parts all i at members) ≡ present_members i members
+octets_read all i at [] b h = refl
+octets_read all i at (None ∷ members) b h = octets_read all (i + 1) at members b h
+octets_read all i at (Some octets ∷ members) b (a, c, spelled, more, e) =
+    ap (λ os. (i, os) ∷ map (λ (x : ℕ × Part). (x.0, octets_of x.1.bits)) (present_parts all (i + 1) (at + (8 + 8 * length octets)) members)) (octets_of_bits octets spelled.each)
+    ∙ ap (λ l. (i, octets) ∷ l) (octets_read all (i + 1) (at + (8 + 8 * length octets)) members c more)

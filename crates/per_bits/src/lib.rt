@@ -2,6 +2,7 @@
 //! them into. Places and lengths are in bits, most significant bit first.
 #![tactic(auto)]
 
+pub mod laws;
 mod numbers;
 mod parts;
 mod reading;
@@ -15,7 +16,7 @@ pub use reading::{Cursor, Short};
 pub use refusals::{Reason, Refusal};
 pub use sections::{Additions, AdditionsIter};
 pub use strings::{Octs, Oid};
-pub use writing::{BitBuf, Full};
+pub use writing::{BitBuf, Full, ROOM_BITS};
 
 #[cfg(test)]
 mod tests;

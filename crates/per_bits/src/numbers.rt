@@ -1,6 +1,6 @@
 //! Numbers that stand in octets at any bit.
 ghost use Rattle.std.specs.Prelude.{◌≡◌, ◌+◌, ◌-◌, ◌*◌, ◌/◌, ◌%◌, ◌^◌, ◌≤◌, ◌<◌, length, take, drop, Some, slice_get, IsTrue, ◌↔◌};
-ghost use Rattle.per_bits.specs.Bits.{digits, value_of, octet_bits};
+ghost use Rattle.per_bits.specs.Bits.{digits, most_borrowed, value_of, octet_bits};
 
 // The number that `n` bits of an octet read, those behind its first `skip` ones.
 #[inline]
@@ -21,12 +21,41 @@ pub(crate) fn bit_at(octets: &[u8], place: u32) -> bool
     field(octets[(place / 8) as usize], place % 8, 1) == 1
 }
 
-// The number that `width` bits from the place `start` on read, an octet at a time.
+// How many octets are loaded at once, and the widest number that lies in them wherever in the first one it begins.
+const WINDOW: usize = 8;
+
+const WINDOW_WIDTH: u32 = 57;
+
+// The number that the octets from one on read, a window of them.
 #[inline]
-pub(crate) fn number_at(octets: &[u8], start: u32, width: u32) -> u64
+fn window_at(octets: &[u8], at: usize) -> u64
+    requires within { at + WINDOW ≤ length octets.now }
+    ensures value { result ≡ value_of (take 64 (drop (8 * at) (octet_bits octets.now))) }
+{
+    let mut value = 0u64;
+    for i in 0..WINDOW {
+        value = (value << 8) | field(octets[at + i], 0, 8);
+    }
+    value
+}
+
+// The number that `n` bits of a window read, those behind its first `skip` ones.
+#[inline]
+fn window_field(window: u64, skip: u32, n: u32) -> u64
+    requires within { skip + n ≤ 64 }
+    requires some { 0 < n }
+    requires narrow { n < 64 }
+    ensures value { result ≡ value_of (take n (drop skip (digits 64 window))) }
+    ensures below { result < 2 ^ n }
+{
+    (window >> (64 - skip - n)) & ((1 << n) - 1)
+}
+
+// The number that `width` bits from the place `start` on read, an octet at a time.
+fn number_by_octets(octets: &[u8], start: u32, width: u32) -> u64
     requires narrow { width ≤ 64 }
     requires within { start + width ≤ 8 * length octets.now }
-    requires few { length octets.now ≤ 65535 }
+    requires few { length octets.now ≤ most_borrowed }
     ensures value { result ≡ value_of (take width (drop start (octet_bits octets.now))) }
     ensures below { result < 2 ^ width }
 {
@@ -42,10 +71,27 @@ pub(crate) fn number_at(octets: &[u8], start: u32, width: u32) -> u64
     value
 }
 
+// The number that `width` bits from the place `start` on read: out of one window where it lies in one.
+#[inline]
+pub(crate) fn number_at(octets: &[u8], start: u32, width: u32) -> u64
+    requires narrow { width ≤ 64 }
+    requires within { start + width ≤ 8 * length octets.now }
+    requires few { length octets.now ≤ most_borrowed }
+    ensures value { result ≡ value_of (take width (drop start (octet_bits octets.now))) }
+    ensures below { result < 2 ^ width }
+{
+    let at = (start / 8) as usize;
+    if 0 < width && width <= WINDOW_WIDTH && at + WINDOW <= octets.len() {
+        window_field(window_at(octets, at), start % 8, width)
+    } else {
+        number_by_octets(octets, start, width)
+    }
+}
+
 // Whether the bits from the place `start` on are those of the octets `other`.
 pub(crate) fn octets_stand_at(octets: &[u8], start: u32, other: &[u8]) -> bool
     requires within { start + 8 * length other.now ≤ 8 * length octets.now }
-    requires few { length octets.now ≤ 65535 }
+    requires few { length octets.now ≤ most_borrowed }
     ensures { IsTrue result ↔ (take (8 * length other.now) (drop start (octet_bits octets.now)) ≡ octet_bits other.now) }
 {
     for (i, octet) in other.iter().enumerate() {

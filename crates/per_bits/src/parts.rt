@@ -1,6 +1,6 @@
 //! A part of borrowed octets, in bits.
 ghost use Rattle.std.specs.Prelude.{◌≡◌, ◌+◌, ◌*◌, ◌^◌, ◌≤◌, ◌<◌, ◌↔◌, IsTrue, Some, length, take, slice_get};
-ghost use Rattle.per_bits.specs.Bits.{Part, IsInPlace, whole, front, behind, value_of, octet_bits};
+ghost use Rattle.per_bits.specs.Bits.{Part, IsInPlace, most_borrowed, all_bits, front, behind, value_of, octet_bits};
 
 use crate::numbers::{bit_at, number_at, octets_stand_at};
 use std::marker::Model;
@@ -16,20 +16,20 @@ pub struct Bits<'a> {
 
 impl<'a> Model for Bits<'a> {
     ghost use Rattle.std.specs.Prelude.{◌+◌, ◌*◌, ◌≤◌, length};
-    ghost use Rattle.per_bits.specs.Bits.{Part, part_at};
+    ghost use Rattle.per_bits.specs.Bits.{Part, most_borrowed, part_at};
 
     ghost Value = { Part };
 
     ghost view = { λ b. part_at b.octets.now b.start b.len };
 
-    ghost invariant = { λ b. (b.start + b.len ≤ 8 * length b.octets.now) × (length b.octets.now ≤ 65535) };
+    ghost invariant = { λ b. (b.start + b.len ≤ 8 * length b.octets.now) × (length b.octets.now ≤ most_borrowed) };
 }
 
 impl<'a> Bits<'a> {
     /// All bits of the octets.
     pub fn of(octets: &'a [u8]) -> Bits<'a>
-        requires { length octets.now ≤ 65535 }
-        ensures all { result ≡ whole octets.now }
+        requires { length octets.now ≤ most_borrowed }
+        ensures all { result ≡ all_bits octets.now }
         ensures in_place { IsInPlace result }
     {
         Bits {
@@ -103,8 +103,8 @@ impl<'a> Bits<'a> {
         }
     }
 
-    // The part itself, once more.
-    pub(crate) fn again(&self) -> Bits<'a>
+    /// The part itself, a second time: a type with a lifetime and a `Model` can't be `Copy`.
+    pub fn share(&self) -> Bits<'a>
         ensures value { result ≡ self.now }
         ensures in_place { IsInPlace result }
     {

@@ -41,7 +41,7 @@ impl<'a> Cursor<'a> {
         ensures in_place { IsInPlace result }
     {
         Cursor {
-            rest: self.rest.again(),
+            rest: self.rest.share(),
         }
     }
 

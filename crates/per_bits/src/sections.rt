@@ -1,13 +1,21 @@
 //! A part that is known to be a section of extension additions.
-ghost use Rattle.std.specs.Prelude.{◌≡◌, ◌+◌, ◌-◌, ◌*◌, ◌≤◌, ◌<◌, ◌↔◌, List, Bool, ◌++◌, length, take, drop, replicate, slice_get, ℕ, true, false, Some, IsTrue, IsSome, IfSome, IfNone};
+ghost use Rattle.std.specs.Prelude.{◌≡◌, ◌+◌, ◌-◌, ◌*◌, ◌≤◌, ◌<◌, ◌↔◌, List, Bool, ◌++◌, length, map, take, drop, replicate, slice_get, ℕ, true, false, Some, IsTrue, IsSome, IfSome, IfNone};
 ghost use Rattle.std.specs.Iterator.{YieldsFirst, item_count};
 ghost use Rattle.std.specs.List.{AllByRecursion};
-ghost use Rattle.per_bits.specs.Bits.{Part, IsInPlace, LiesIn, value_of, behind};
-ghost use Rattle.per_bits.specs.Parts.{Open, Member, Section, present_parts, open_parts, AreInOrder};
+ghost use Rattle.per_bits.specs.Bits.{Part, IsInPlace, LiesIn, octets_of};
+ghost use Rattle.per_bits.specs.Parts.{Open, Section, IsSection, AreInOrder, member_count, members_of, present_members, present_parts};
 
 use crate::parts::Bits;
-use crate::strings::Octs;
+use crate::strings::{MOST_OCTETS, Octs};
 use std::marker::Model;
+
+// How many bits the number of additions has, and how many a length has.
+const COUNT_BITS: u32 = 7;
+
+const LENGTH_BITS: u32 = 8;
+
+// How many additions a section has at most.
+const MOST_ADDITIONS: u32 = 64;
 
 /// Exactly one section of extension additions. A contract sees the part.
 #[derive(Drop)]
@@ -16,21 +24,20 @@ pub struct Additions<'a> {
 }
 
 impl<'a> Model for Additions<'a> {
-    ghost use Rattle.std.specs.Prelude.{List};
     ghost use Rattle.per_bits.specs.Bits.{Part};
-    ghost use Rattle.per_bits.specs.Parts.{Member, Section};
+    ghost use Rattle.per_bits.specs.Parts.{IsSection};
 
     ghost Value = { Part };
 
     ghost view = { λ a. a.bits };
 
-    ghost invariant = { λ a. (members : List Member) × Section members a.bits.bits };
+    ghost invariant = { λ a. IsSection a.bits.bits };
 }
 
 impl<'a> Additions<'a> {
     /// The part as a section. `None` is for bits that aren't exactly one.
     pub fn of(bits: Bits<'a>) -> Option<Additions<'a>>
-        ensures valid { IsSome result ↔ ((members : List Member) × Section members bits.entry.bits) }
+        ensures valid { IsSome result ↔ IsSection bits.entry.bits }
         ensures same { IfSome result (λ additions. additions ≡ bits.entry) }
     {
         if is_section(&bits) {
@@ -40,39 +47,56 @@ impl<'a> Additions<'a> {
         }
     }
 
+    /// The part as a section, where it is known to be one.
+    pub fn known(bits: Bits<'a>) -> Additions<'a>
+        requires { IsSection bits.bits }
+        ensures { result ≡ bits.entry }
+    {
+        Additions { bits }
+    }
+
+    /// The section itself, a second time.
+    pub fn share(&self) -> Additions<'a>
+        ensures value { result ≡ self.now }
+        ensures in_place { IsInPlace result }
+    {
+        Additions {
+            bits: self.bits.share(),
+        }
+    }
+
     /// How many additions the section has a presence bit for, 1 to 64.
     pub fn count(&self) -> u8
-        ensures value { (members : List Member) → Section members self.now.bits → result ≡ length members }
-        ensures number { result ≡ value_of (take 7 self.now.bits) + 1 }
-        ensures section { (members : List Member) × Section members self.now.bits }
+        ensures value { result ≡ length (members_of self.now.bits) }
+        ensures section { Section (members_of self.now.bits) self.now.bits }
     {
-        self.bits.number(7) as u8 + 1
+        self.bits.number(COUNT_BITS) as u8 + 1
     }
 
     /// The section as bits.
     pub fn bits(&self) -> Bits<'a>
         ensures value { result ≡ self.now }
-        ensures section { (members : List Member) × Section members self.now.bits }
+        ensures section { Section (members_of self.now.bits) self.now.bits }
         ensures in_place { IsInPlace result }
     {
-        self.bits.again()
+        self.bits.share()
     }
 
     /// The present additions in order, each with its index from 0.
     pub fn iter(&self) -> AdditionsIter<'a>
-        ensures value { (members : List Member) → Section members self.now.bits → result ≡ present_parts self.now.all 0 (self.now.start + (7 + length members)) members }
-        ensures section { (members : List Member) × Section members self.now.bits }
+        ensures value { result ≡ present_parts self.now.all 0 (self.now.start + (7 + member_count self.now.bits)) (members_of self.now.bits) }
+        ensures section { Section (members_of self.now.bits) self.now.bits }
+        // Their octets are those of the present members.
+        ensures members { map (λ addition. (addition.0, octets_of addition.1.bits)) result ≡ present_members 0 (members_of self.now.bits) }
         // Each lies in the section, behind the one before it.
         ensures inside { AllByRecursion (λ addition. LiesIn addition.1 self.now) result }
         ensures ordered { AreInOrder 0 self.now.start result }
-        // The same without members: what the presence bits promise.
-        ensures parts { let count = value_of (take 7 self.now.bits) + 1 in result ≡ open_parts 0 (take count (drop 7 self.now.bits)) (behind self.now (7 + count)) }
     {
-        let count = self.bits.number(7) as u32 + 1;
+        let count = self.bits.number(COUNT_BITS) as u32 + 1;
         AdditionsIter {
             index: 0,
-            present: self.bits.part(7, count),
-            rest: self.bits.behind(7 + count),
+            present: self.bits.part(COUNT_BITS, count),
+            rest: self.bits.behind(COUNT_BITS + count),
         }
     }
 }
@@ -88,11 +112,11 @@ pub struct AdditionsIter<'a> {
 impl<'a> Model for AdditionsIter<'a> {
     ghost use Rattle.std.specs.Prelude.{◌≡◌, ◌+◌, ◌≤◌, ℕ, List, length, map, is_some};
     ghost use Rattle.per_bits.specs.Bits.{Part};
-    ghost use Rattle.per_bits.specs.Parts.{Member, Opens, open_parts};
+    ghost use Rattle.per_bits.specs.Parts.{Member, Opens, opens_of, present_parts};
 
     ghost Value = { List (ℕ × Part) };
 
-    ghost view = { λ s. open_parts s.index s.present.bits s.rest };
+    ghost view = { λ s. present_parts s.rest.all s.index s.rest.start (opens_of s.present.bits s.rest.bits) };
 
     ghost invariant = { λ s. (s.index + length s.present.bits ≤ 64) × ((members : List Member) × (map is_some members ≡ s.present.bits) × Opens members s.rest.bits) };
 }
@@ -124,35 +148,35 @@ impl<'a> Iterator for AdditionsIter<'a> {
             return None;
         }
         let index = self.index + absent as u8;
-        let size = 8 * self.rest.number(8) as u32;
-        let octets = Octs::known(self.rest.part(8, size));
+        let size = 8 * self.rest.number(LENGTH_BITS) as u32;
+        let octets = Octs::known(self.rest.part(LENGTH_BITS, size));
         self.index = index + 1;
         self.present = self.present.behind(absent + 1);
-        self.rest = self.rest.behind(8 + size);
+        self.rest = self.rest.behind(LENGTH_BITS + size);
         Some((index, octets))
     }
 }
 
 // Whether the bits are exactly one section of additions.
 fn is_section(bits: &Bits<'_>) -> bool
-    ensures { IsTrue result ↔ ((members : List Member) × Section members bits.now.bits) }
+    ensures { IsTrue result ↔ IsSection bits.now.bits }
 {
     let len = bits.len();
-    if len < 7 {
+    if len < COUNT_BITS {
         return false;
     }
-    let count = bits.number(7) as u32 + 1;
-    if count > 64 {
+    let count = bits.number(COUNT_BITS) as u32 + 1;
+    if count > MOST_ADDITIONS {
         return false;
     }
-    if len < 7 + count {
+    if len < COUNT_BITS + count {
         return false;
     }
-    let present = bits.part(7, count);
+    let present = bits.part(COUNT_BITS, count);
     if present.number(count) == 0 {
         return false;
     }
-    let mut place = 7 + count;
+    let mut place = COUNT_BITS + count;
     for i in 0..count {
         if present.bit(i) {
             let Some(end) = open_end(bits, place) else {
@@ -171,17 +195,17 @@ fn open_end(bits: &Bits<'_>, place: u32) -> Option<u32>
     ensures none { IfNone result ((octets : List ℕ) (a rest : List Bool) → Open octets a → drop place bits.now.bits ≡ a ++ rest → ⊥) }
 {
     let rest = bits.behind(place);
-    if rest.len() < 8 {
+    if rest.len() < LENGTH_BITS {
         return None;
     }
-    let octets = rest.number(8) as u32;
+    let octets = rest.number(LENGTH_BITS) as u32;
     if octets == 0 {
         return None;
     }
-    if octets > 127 {
+    if octets > MOST_OCTETS {
         return None;
     }
-    let size = 8 + 8 * octets;
+    let size = LENGTH_BITS + 8 * octets;
     if rest.len() < size {
         return None;
     }

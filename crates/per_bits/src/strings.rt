@@ -1,10 +1,13 @@
 //! Parts that are known to be an octet string or a relative object identifier.
 ghost use Rattle.std.specs.Prelude.{◌≡◌, ◌*◌, ◌%◌, ◌≤◌, ◌<◌, ◌↔◌, Some, IsSome, IfSome, IsTrue, length, slice_get};
 ghost use Rattle.per_bits.specs.Bits.{Part, IsInPlace, octets_of};
-ghost use Rattle.per_bits.specs.Parts.{IsOid};
+ghost use Rattle.per_bits.specs.Parts.{most_octets, IsOid};
 
 use crate::parts::Bits;
 use std::marker::Model;
+
+// How many octets a string or an open type has at most.
+pub(crate) const MOST_OCTETS: u32 = 127;
 
 /// At most 127 octets, which need not begin at a borrowed octet's first bit. A contract sees the part.
 #[derive(Drop)]
@@ -13,32 +16,33 @@ pub struct Octs<'a> {
 }
 
 impl<'a> Model for Octs<'a> {
-    ghost use Rattle.std.specs.Prelude.{◌≡◌, ◌%◌, ◌≤◌, length};
+    ghost use Rattle.std.specs.Prelude.{◌≡◌, ◌*◌, ◌%◌, ◌≤◌, length};
     ghost use Rattle.per_bits.specs.Bits.{Part};
+    ghost use Rattle.per_bits.specs.Parts.{most_octets};
 
     ghost Value = { Part };
 
     ghost view = { λ o. o.bits };
 
-    ghost invariant = { λ o. (length o.bits.bits % 8 ≡ 0) × (length o.bits.bits ≤ 1016) };
+    ghost invariant = { λ o. (length o.bits.bits % 8 ≡ 0) × (length o.bits.bits ≤ 8 * most_octets) };
 }
 
 impl<'a> Octs<'a> {
     /// The part as octets. `None` is for a part that isn't whole octets, or is more than 127 of them.
     pub fn of(bits: Bits<'a>) -> Option<Octs<'a>>
-        ensures valid { IsSome result ↔ ((length bits.entry.bits % 8 ≡ 0) × (length bits.entry.bits ≤ 1016)) }
+        ensures valid { IsSome result ↔ ((length bits.entry.bits % 8 ≡ 0) × (length bits.entry.bits ≤ 8 * most_octets)) }
         ensures same { IfSome result (λ octs. octs ≡ bits.entry) }
     {
-        if bits.len() % 8 != 0 || bits.len() > 1016 {
+        if bits.len() % 8 != 0 || bits.len() > 8 * MOST_OCTETS {
             return None;
         }
         Some(Octs { bits })
     }
 
-    // The part as octets, where it is known to be some.
-    pub(crate) fn known(bits: Bits<'a>) -> Octs<'a>
-        requires whole { length bits.bits % 8 ≡ 0 }
-        requires few { length bits.bits ≤ 1016 }
+    /// The part as octets, where it is known to be some.
+    pub fn known(bits: Bits<'a>) -> Octs<'a>
+        requires octets { length bits.bits % 8 ≡ 0 }
+        requires few { length bits.bits ≤ 8 * most_octets }
         ensures { result ≡ bits.entry }
     {
         Octs { bits }
@@ -47,8 +51,8 @@ impl<'a> Octs<'a> {
     /// How many octets they are.
     pub fn count(&self) -> u32
         ensures value { result ≡ length (octets_of self.now.bits) }
-        ensures whole { length self.now.bits ≡ 8 * result }
-        ensures few { result ≤ 127 }
+        ensures size { length self.now.bits ≡ 8 * result }
+        ensures few { result ≤ most_octets }
         ensures in_place { IsInPlace self.now }
     {
         self.bits.len() / 8
@@ -67,16 +71,16 @@ impl<'a> Octs<'a> {
         ensures value { result ≡ self.now }
         ensures in_place { IsInPlace result }
     {
-        self.bits.again()
+        self.bits.share()
     }
 
-    // The octets themselves, once more.
-    fn again(&self) -> Octs<'a>
+    /// The octets themselves, a second time.
+    pub fn share(&self) -> Octs<'a>
         ensures value { result ≡ self.now }
         ensures in_place { IsInPlace result }
     {
         Octs {
-            bits: self.bits.again(),
+            bits: self.bits.share(),
         }
     }
 
@@ -127,12 +131,30 @@ impl<'a> Oid<'a> {
         }
     }
 
+    /// The octets as a relative object identifier, where they are known to be one.
+    pub fn known(octs: Octs<'a>) -> Oid<'a>
+        requires { IsOid (octets_of octs.bits) }
+        ensures { result ≡ octs.entry }
+    {
+        Oid { octs }
+    }
+
+    /// The identifier itself, a second time.
+    pub fn share(&self) -> Oid<'a>
+        ensures value { result ≡ self.now }
+        ensures in_place { IsInPlace result }
+    {
+        Oid {
+            octs: self.octs.share(),
+        }
+    }
+
     /// The octets of the identifier.
     pub fn octs(&self) -> Octs<'a>
         ensures value { result ≡ self.now }
         ensures oid { IsOid (octets_of self.now.bits) }
         ensures in_place { IsInPlace result }
     {
-        self.octs.again()
+        self.octs.share()
     }
 }

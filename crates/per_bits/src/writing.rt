@@ -1,6 +1,6 @@
 //! A buffer for the bits of one set of data.
 ghost use Rattle.std.specs.Prelude.{◌≡◌, ◌+◌, ◌-◌, ◌*◌, ◌/◌, ◌%◌, ◌^◌, ◌≤◌, ◌<◌, [], ◌++◌, false, length, take, drop, replicate, bit_or, OnOk, OnErr};
-ghost use Rattle.per_bits.specs.Bits.{Part, digits, octet_bits, padded};
+ghost use Rattle.per_bits.specs.Bits.{Part, digits, octet_bits, padded, room_octets, room_bits};
 
 use crate::parts::Bits;
 use std::marker::Model;
@@ -9,22 +9,28 @@ use std::marker::Model;
 #[derive(Clone, Copy, Debug, Drop, PartialEq, Eq)]
 pub struct Full;
 
+// How many octets a buffer holds.
+const ROOM_OCTETS: usize = 140;
+
+/// How many bits a buffer holds: those of 140 octets.
+pub const ROOM_BITS: u32 = 1120;
+
 /// At most 1120 bits, which is 140 octets. A contract sees the bits.
 #[derive(Drop)]
 pub struct BitBuf {
-    octets: [u8; 140],
+    octets: [u8; ROOM_OCTETS],
     len: u32,
 }
 
 impl Model for BitBuf {
     ghost use Rattle.std.specs.Prelude.{◌≡◌, ◌-◌, ◌≤◌, List, Bool, false, take, drop, replicate, length};
-    ghost use Rattle.per_bits.specs.Bits.{octet_bits};
+    ghost use Rattle.per_bits.specs.Bits.{octet_bits, room_bits};
 
     ghost Value = { List Bool };
 
     ghost view = { λ b. take b.len (octet_bits b.octets) };
 
-    ghost invariant = { λ b. (b.len ≤ 1120) × (drop b.len (octet_bits b.octets) ≡ replicate (1120 - b.len) false) };
+    ghost invariant = { λ b. (b.len ≤ room_bits) × (drop b.len (octet_bits b.octets) ≡ replicate (room_bits - b.len) false) };
 }
 
 impl BitBuf {
@@ -33,7 +39,7 @@ impl BitBuf {
         ensures { result ≡ [] }
     {
         BitBuf {
-            octets: [0; 140],
+            octets: [0; ROOM_OCTETS],
             len: 0,
         }
     }
@@ -41,7 +47,7 @@ impl BitBuf {
     /// How many bits stand in the buffer.
     pub fn len(&self) -> u32
         ensures value { result ≡ length self.now }
-        ensures few { result ≤ 1120 }
+        ensures few { result ≤ room_bits }
     {
         self.len
     }
@@ -49,7 +55,7 @@ impl BitBuf {
     /// The octets of the bits, after the fewest zero bits that make whole octets.
     pub fn octets(&self) -> &[u8]
         ensures value { result.now ≡ padded self.now }
-        ensures few { length result.now ≤ 140 }
+        ensures few { length result.now ≤ room_octets }
     {
         used(&self.octets, self.len)
     }
@@ -58,10 +64,10 @@ impl BitBuf {
     pub fn put(&mut self, value: u64, width: u32) -> Result<(), Full>
         requires narrow { width ≤ 64 }
         requires fits { value < 2 ^ width }
-        ensures ok { OnOk result ((length self.old + width ≤ 1120) × (self.new ≡ self.old ++ digits width value)) }
-        ensures full { OnErr result ((1120 < length self.old + width) × (self.new ≡ self.old)) }
+        ensures ok { OnOk result ((length self.old + width ≤ room_bits) × (self.new ≡ self.old ++ digits width value)) }
+        ensures full { OnErr result ((room_bits < length self.old + width) × (self.new ≡ self.old)) }
     {
-        if self.len() + width > 1120 {
+        if self.len() + width > ROOM_BITS {
             return Err(Full);
         }
         self.append(value, width);
@@ -70,11 +76,11 @@ impl BitBuf {
 
     /// Puts the bits behind what stands there.
     pub fn put_bits(&mut self, bits: Bits<'_>) -> Result<(), Full>
-        ensures ok { OnOk result ((length self.old + length bits.entry.bits ≤ 1120) × (self.new ≡ self.old ++ bits.entry.bits)) }
-        ensures full { OnErr result ((1120 < length self.old + length bits.entry.bits) × (self.new ≡ self.old)) }
+        ensures ok { OnOk result ((length self.old + length bits.entry.bits ≤ room_bits) × (self.new ≡ self.old ++ bits.entry.bits)) }
+        ensures full { OnErr result ((room_bits < length self.old + length bits.entry.bits) × (self.new ≡ self.old)) }
     {
         let len = bits.len();
-        if self.len() + len > 1120 {
+        if self.len() + len > ROOM_BITS {
             return Err(Full);
         }
         let mut done = 0;
@@ -90,7 +96,7 @@ impl BitBuf {
     fn append(&mut self, value: u64, width: u32)
         requires narrow { width ≤ 64 }
         requires fits { value < 2 ^ width }
-        requires room { length self.old + width ≤ 1120 }
+        requires room { length self.old + width ≤ room_bits }
         ensures { self.new ≡ self.old ++ digits width value }
     {
         put_at(&mut self.octets, self.len, value, width);
@@ -109,12 +115,12 @@ fn used(octets: &[u8], len: u32) -> &[u8]
 }
 
 // Writes the low `width` bits of the value at a place behind which all bits are 0, an octet at a time.
-fn put_at(octets: &mut [u8; 140], start: u32, value: u64, width: u32)
+fn put_at(octets: &mut [u8; ROOM_OCTETS], start: u32, value: u64, width: u32)
     requires narrow { width ≤ 64 }
     requires fits { value < 2 ^ width }
-    requires room { start + width ≤ 1120 }
-    requires clear { drop start (octet_bits octets.old) ≡ replicate (1120 - start) false }
-    ensures { octet_bits octets.new ≡ take start (octet_bits octets.old) ++ digits width value ++ replicate (1120 - (start + width)) false }
+    requires room { start + width ≤ room_bits }
+    requires clear { drop start (octet_bits octets.old) ≡ replicate (room_bits - start) false }
+    ensures { octet_bits octets.new ≡ take start (octet_bits octets.old) ++ digits width value ++ replicate (room_bits - (start + width)) false }
 {
     let mut left = width;
     let mut at = start;
@@ -128,36 +134,36 @@ fn put_at(octets: &mut [u8; 140], start: u32, value: u64, width: u32)
 
 // Writes n bits that stand in one octet, at a place behind which all bits are 0.
 #[inline]
-fn put_in_octet(octets: &mut [u8; 140], at: u32, value: u8, n: u32)
+fn put_in_octet(octets: &mut [u8; ROOM_OCTETS], at: u32, value: u8, n: u32)
     requires some { 0 < n }
     requires one { at % 8 + n ≤ 8 }
     requires fits { value < 2 ^ n }
-    requires room { at < 1120 }
-    requires clear { drop at (octet_bits octets.old) ≡ replicate (1120 - at) false }
-    ensures { octet_bits octets.new ≡ take at (octet_bits octets.old) ++ digits n value ++ replicate (1120 - (at + n)) false }
+    requires room { at < room_bits }
+    requires clear { drop at (octet_bits octets.old) ≡ replicate (room_bits - at) false }
+    ensures { octet_bits octets.new ≡ take at (octet_bits octets.old) ++ digits n value ++ replicate (room_bits - (at + n)) false }
 {
     let i = (at / 8) as usize;
     octets[i] = with_bits(octets[i], value, 8 - at % 8 - n);
 }
 
-// The octet with the bits of the value, before its last `behind` ones.
+// The octet with the bits of the value, before its last `low` ones.
 #[inline]
-fn with_bits(octet: u8, value: u8, behind: u32) -> u8
-    requires within { behind < 8 }
-    requires fits { value * 2 ^ behind < 2 ^ 8 }
-    ensures value { result ≡ bit_or octet (value * 2 ^ behind) }
+fn with_bits(octet: u8, value: u8, low: u32) -> u8
+    requires within { low < 8 }
+    requires fits { value * 2 ^ low < 2 ^ 8 }
+    ensures value { result ≡ bit_or octet (value * 2 ^ low) }
     ensures range { octet < 2 ^ 8 }
 {
-    octet | (value << behind)
+    octet | (value << low)
 }
 
-// The number that `n` bits of the value read, those before its last `behind` ones.
+// The number that `n` bits of the value read, those before its last `low` ones.
 #[inline]
-fn field(value: u64, behind: u32, n: u32) -> u8
+fn field(value: u64, low: u32, n: u32) -> u8
     requires small { n ≤ 8 }
-    requires within { behind < 64 }
-    ensures value { result ≡ value / 2 ^ behind % 2 ^ n }
+    requires within { low < 64 }
+    ensures value { result ≡ value / 2 ^ low % 2 ^ n }
     ensures below { result < 2 ^ n }
 {
-    ((value >> behind) & ((1 << n) - 1)) as u8
+    ((value >> low) & ((1 << n) - 1)) as u8
 }

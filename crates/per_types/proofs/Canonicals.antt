@@ -1,6 +1,6 @@
 -- The canonical spelling is a spelling, and each value has one at most.
-use Rattle.std.proofs.Common.{◌≡◌, ℕ, zero, suc, ◌-◌, ◌<◌, Bool, true, false, eqb, ◌&&◌, List, [], ◌∷◌, ◌++◌, length, map, Option, Some, None, refl, sym, ap, ◌∙◌, arith, inl, inr}
-use Rattle.std.specs.Prelude.{ℤ, pos, ◌+ℤ◌, slice_index, is_some}
+use Rattle.std.proofs.Common.{◌≡◌, ℕ, zero, suc, ◌-◌, ◌<◌, Bool, true, false, eqb, ◌&&◌, List, [], ◌∷◌, ◌++◌, length, Option, Some, None, refl, sym, ap, ◌∙◌, arith, inl, inr}
+use Rattle.std.specs.Prelude.{ℤ, pos, ◌+ℤ◌, slice_index}
 use Rattle.std.specs.List.{position_or_len}
 use Rattle.std.proofs.lemmas.Int.{ints}
 use Rattle.std.proofs.lemmas.Bool.{eqb-true, cases_eq}
@@ -8,9 +8,10 @@ use Rattle.per_bits.specs.Bits.{value_of, octet_bits}
 use Rattle.per_bits.specs.Parts.{Small, Length, Member}
 use Rattle.per_bits.proofs.Digits.{same_bits}
 use Rattle.per_types.specs.Kinds as kind
-use Rattle.per_types.specs.Kinds.{Element, element, bits_of, alphabet}
+use Rattle.per_types.specs.Kinds.{Element, element, bits_of, alphabet, span}
+use Rattle.per_types.proofs.Widths.{same_width}
 use Rattle.per_types.specs.Types.{Tree, truth, number, text, bytes, root, added, record_of, Fields, no_fields, field, absent, Ty, boolean, integer, characters, octet_string, relative_oid, enumerated, format, sequence, Components, no_components, required, optional, default, presence_count}
-use Rattle.per_types.specs.Spelling.{Whole, Character, RootIndex, TextElements, OpenElements, SectionElements, MoreElements, mark_elements, Elements, Present, Spells, Canonical}
+use Rattle.per_types.specs.Spelling.{Whole, Character, RootIndex, TextElements, SectionElements, MoreElements, mark_elements, Elements, Present, Spells, Canonical}
 
 -- ---- a canonical spelling is a spelling
 
@@ -75,7 +76,7 @@ pub alphabet_once : (i j : ℕ) → i < length alphabet → j < length alphabet 
 alphabet_once i j h k e = sym (spot_of i h) ∙ ap spot e ∙ spot_of j k
 
 one_whole : (low high v : ℤ) (b c : List Bool) → Whole low high v b → Whole low high v c → b ≡ c
-one_whole low high v b c s r = same_bits b c (s.width ∙ sym r.width) (reads (value_of b) (value_of c) (s.reads ∙ sym r.reads))
+one_whole low high v b c s r = same_bits b c (same_width (span low high) (length b) (length c) s.width r.width) (reads (value_of b) (value_of c) (s.reads ∙ sym r.reads))
   where
     reads : (m n : ℕ) → low +ℤ pos m ≡ low +ℤ pos n → m ≡ n
     reads m n e = omega (arith, ints)
@@ -84,7 +85,7 @@ one_character : (c : ℕ) (a b : List Bool) → Character c a → Character c b 
 one_character c a b s r = same_bits a b (s.width ∙ sym r.width) (alphabet_once (value_of a) (value_of b) s.known r.known (s.reads ∙ sym r.reads))
 
 one_root : (roots i : ℕ) (a b : List Bool) → RootIndex roots i a → RootIndex roots i b → a ≡ b
-one_root roots i a b s r = same_bits a b (s.width ∙ sym r.width) (s.reads ∙ sym r.reads)
+one_root roots i a b s r = same_bits a b (same_width (roots - 1) (length a) (length b) s.width r.width) (s.reads ∙ sym r.reads)
 
 one_small : (n : ℕ) (a b : List Bool) → Small n a → Small n b → a ≡ b
 one_small n a b s r = s.1 ∙ sym r.1
@@ -105,23 +106,8 @@ one_text (suc n) (c ∷ cs) es ds s r =
 one_text zero (c ∷ cs) es ds s r = absurd s
 one_text (suc n) [] es ds s r = absurd s
 
-pub one_opens : (members : List Member) (es ds : List Element) → OpenElements members es → OpenElements members ds → es ≡ ds
-one_opens [] es ds s r = s ∙ sym r
-one_opens (None ∷ members) es ds s r = one_opens members es ds s r
-one_opens (Some os ∷ members) es ds s r =
-    s.6 ∙ same s.0 r.0 s.1 r.1 (one_length (length os) s.0 r.0 s.3 r.3) (one_opens members s.1 r.1 s.5 r.5) ∙ sym r.6
-  where
-    same : (a b : List Bool) (rest others : List Element) → a ≡ b → rest ≡ others
-        → (element kind.open_length a ∷ element (kind.string_octets (length os)) (octet_bits os) ∷ rest) ≡ (element kind.open_length b ∷ element (kind.string_octets (length os)) (octet_bits os) ∷ others)
-    same a b rest others e f = rw (e, f) refl
-
 pub one_section : (members : List Member) (es ds : List Element) → SectionElements members es → SectionElements members ds → es ≡ ds
-one_section members es ds s r =
-    s.7 ∙ same s.0 r.0 s.1 r.1 (one_small (length members - 1) s.0 r.0 s.5 r.5) (one_opens members s.1 r.1 s.6 r.6) ∙ sym r.7
-  where
-    same : (a b : List Bool) (rest others : List Element) → a ≡ b → rest ≡ others
-        → (element kind.small a ∷ element (kind.additions (length members)) (map is_some members) ∷ rest) ≡ (element kind.small b ∷ element (kind.additions (length members)) (map is_some members) ∷ others)
-    same a b rest others e f = rw (e, f) refl
+one_section members es ds s r = s.1 ∙ sym r.1
 
 pub one_more : (marked : Bool) (more : Option (List Member)) (es ds : List Element) → MoreElements marked more es → MoreElements marked more ds → es ≡ ds
 one_more marked None es ds s r = s ∙ sym r
@@ -134,7 +120,7 @@ behind_length k a b e h = rw h refl
 alone : (k : kind.Kind) (a b : List Bool) → a ≡ b → (element k a ∷ []) ≡ (element k b ∷ [])
 alone k a b h = rw h refl
 
-behind_mark : (m : List Bool) (k : kind.Kind) (a b : List Bool) → a ≡ b → (element kind.mark m ∷ element k a ∷ []) ≡ (element kind.mark m ∷ element k b ∷ [])
+behind_mark : (m : List Bool) (k : kind.Kind) (a b : List Bool) → a ≡ b → (element kind.truth m ∷ element k a ∷ []) ≡ (element kind.truth m ∷ element k b ∷ [])
 behind_mark m k a b h = rw h refl
 
 one_sequence : (es ds mark a b c d : List Element) (n : ℕ) (p q : List Bool) → es ≡ mark ++ element (kind.presence n) p ∷ (a ++ b) → ds ≡ mark ++ element (kind.presence n) q ∷ (c ++ d) → p ≡ q → a ≡ c → b ≡ d → es ≡ ds
@@ -149,7 +135,7 @@ mutual
   one_elements relative_oid (bytes os) es ds s r = s.4 ∙ behind_length kind.oid_length s.0 r.0 (element (kind.oid_octets (length os)) (octet_bits os)) (one_length (length os) s.0 r.0 s.1 r.1) ∙ sym r.4
   one_elements (enumerated roots) (root i) es ds s r = s.2 ∙ behind_mark (false ∷ []) (kind.root roots) s.0 r.0 (one_root roots i s.0 r.0 s.1 r.1) ∙ sym r.2
   one_elements (enumerated roots) (added i) es ds s r = s.2 ∙ behind_mark (true ∷ []) kind.small s.0 r.0 (one_small i s.0 r.0 s.1 r.1) ∙ sym r.2
-  one_elements (format known) (number (pos v)) es ds s r = s.4 ∙ alone (kind.identifier known) s.0 r.0 (same_bits s.0 r.0 (s.1 ∙ sym r.1) (sym s.3 ∙ r.3)) ∙ sym r.4
+  one_elements (format known) (number (pos v)) es ds s r = s.4 ∙ alone (kind.format known) s.0 r.0 (same_bits s.0 r.0 (s.1 ∙ sym r.1) (sym s.3 ∙ r.3)) ∙ sym r.4
   one_elements (sequence marked cs) (record_of fs more) es ds s r =
       let parts = one_present cs fs s.0 r.0 s.1 r.1 s.3 r.3 in
       one_sequence es ds (mark_elements marked more) s.1 s.2 r.1 r.2 (presence_count cs) s.0 r.0 s.5 r.5 parts.0 parts.1 (one_more marked more s.2 r.2 s.4 r.4)

@@ -1,31 +1,29 @@
 -- The laws of spelling and reading, from the plans.
-use Rattle.std.proofs.Common.{◌≡◌, ℕ, ◌+◌, ◌<◌, ◌≤◌, Bool, false, List, [], ◌∷◌, ◌++◌, length, Ok, Err, refl, sym, ap, ◌∙◌, append-nil, arith}
+use Rattle.std.proofs.Common.{◌≡◌, ℕ, ◌+◌, ◌<◌, ◌≤◌, Bool, false, List, [], ◌∷◌, ◌++◌, length, Result, Ok, Err, refl, sym, ap, ◌∙◌, append-nil, arith}
 use Rattle.std.specs.Prelude.{ℤ, ◌≤ℤ◌}
 use Rattle.std.specs.List.{Contains}
 use Rattle.std.proofs.lemmas.List.{length-append}
 use Rattle.per_bits.specs.Bits.{Part, behind}
 use Rattle.per_types.specs.Kinds.{Element, bits_of}
 use Rattle.per_types.specs.Types.{Tree, Ty}
-use Rattle.per_types.specs.Spelling.{Elements, Spells, TruthElements, WholeElements, PresenceElements, CharacterElements, SmallElements, LengthElements, StringElements, OidElements, FormatElements, SectionElements}
-use Rattle.per_types.specs.Stops.{Read, IsReading, IsOnlyReading, HasValues}
-use Rattle.per_types.specs.Reading.{truth_at, whole_at, presence_at, character_at, small_at, length_at, string_at, object_at, format_at, members_at, tree_at}
+use Rattle.per_types.specs.Spelling.{Elements, Spells, TruthElements, WholeElements, PresenceElements, CharacterElements, SmallElements, LengthElements, StringElements, OidElements, FormatElements, OpenElements, SectionElements}
+use Rattle.per_types.specs.inner.Reading.{◌>>=◌, Gives}
+use Rattle.per_bits.specs.declared.refusals.Refusal.{Refusal}
+use Rattle.per_types.specs.Stops.{Read, Reads, IsReading, IsOnlyReading, HasValues}
+use Rattle.per_types.specs.inner.Reading.{truth_at, whole_at, presence_at, character_at, small_at, length_at, string_at, object_at, format_at, content_at, members_at, tree_at}
 use Rattle.per_types.specs.declared.index.EnumIndex.{EnumIndex}
 use Rattle.per_types.specs.declared.index.EnumIndex.TheVariants.{Root, Added}
-use Rattle.per_types.specs.Kinds as kind
-use Rattle.per_types.specs.Kinds.{first_bit}
-use Rattle.per_types.specs.Writing.{MarkElements, EnumElements}
-use Rattle.per_types.specs.Reading.{mark_at, enum_at}
-use Rattle.per_types.proofs.Leaves.{asked, accepted_mark, mark_bit}
+use Rattle.per_types.specs.Writing.{EnumElements}
+use Rattle.per_types.specs.inner.Reading.{enum_at}
 use Rattle.per_types.proofs.Strings.{EnumElements as IndexElements, enum_plan, follows_enum}
 use Rattle.per_types.proofs.Lives.{live_enum}
 use Rattle.per_types.proofs.Readings.{enum_run}
-use Rattle.per_types.proofs.Plans.{done, ask}
 use Rattle.per_types.proofs.Plans.{Plan, value, Follows, Live, Path, run, path-run, run_takes, takes_run, run_stops, stops_run}
 use Rattle.per_types.proofs.Leaves.{truth_plan, follows_truth, whole_plan, follows_whole, presence_plan, follows_presence, character_plan, follows_character, small_plan, follows_small, length_plan, follows_length, format_plan, follows_format}
-use Rattle.per_types.proofs.Strings.{string_plan, follows_string, oid_plan, follows_oid, section_plan, follows_section}
+use Rattle.per_types.proofs.Strings.{string_plan, follows_string, oid_plan, follows_oid, open_plan, follows_open, section_plan, follows_section}
 use Rattle.per_types.proofs.TypePlans.{plan, follows_type, plan_asked}
-use Rattle.per_types.proofs.Lives.{live_truth, live_whole, live_presence, live_character, live_small, live_length, live_string, live_oid, live_format, live_section, live_type}
-use Rattle.per_types.proofs.Readings.{truth_run, whole_run, presence_run, character_run, small_run, length_run, string_run, oid_run, format_run, members_run, tree_run}
+use Rattle.per_types.proofs.Lives.{live_truth, live_whole, live_presence, live_character, live_small, live_length, live_string, live_oid, live_format, live_open, live_section, live_type}
+use Rattle.per_types.proofs.Readings.{truth_run, whole_run, presence_run, character_run, small_run, length_run, string_run, oid_run, format_run, content_run, members_run, tree_run}
 
 module _ {X : Type 0} (Spelled : X → List Element → Type 0) (p : Plan X) (follows : Follows Spelled p) (live : Live p) (reading : Part → Read X) (same : (at : Part) → reading at ≡ run p at) where
   is_reading : (at : Part) (answer : Read X) → answer ≡ run p at → IsReading Spelled at answer
@@ -45,30 +43,7 @@ only_truth = only_reading TruthElements truth_plan follows_truth live_truth trut
 pub only_whole : (low high : ℤ) → low ≤ℤ high → IsOnlyReading (WholeElements low high) (whole_at low high)
 only_whole low high h = only_reading (WholeElements low high) (whole_plan low high) (follows_whole low high) (live_whole low high h) (whole_at low high) (whole_run low high)
 
--- ---- marks and enumerations
-
-mark_plan : Plan Bool
-mark_plan = ask kind.mark (λ b. done (first_bit b))
-
-follows_mark : Follows MarkElements mark_plan
-unfolding mark_plan
-follows_mark = record {
-  asked = λ v es spelled. rw spelled (refl, accepted_mark v, (refl, refl));
-  spelled = λ v es path.
-      let a = asked kind.mark (λ b. done (first_bit b)) es v path in
-      a.elements ∙ rw (a.path.0, mark_bit a.bits a.accepted, a.path.1) refl;
-}
-
-live_mark : Live mark_plan
-unfolding mark_plan
-live_mark = ((false ∷ [], accepted_mark false), λ b a. tt)
-
-mark_run : (p : Part) → mark_at p ≡ run mark_plan p
-unfolding mark_plan mark_at
-mark_run p = refl
-
-pub only_mark : IsOnlyReading MarkElements mark_at
-only_mark = only_reading MarkElements mark_plan follows_mark live_mark mark_at mark_run
+-- ---- enumerations
 
 index_to : (roots : ℕ) (i : EnumIndex) (es : List Element) → EnumElements roots i es → IndexElements roots i es
 index_to roots (Root i) es s = s
@@ -108,6 +83,9 @@ only_object = only_reading OidElements oid_plan follows_oid live_oid object_at o
 pub only_format : (known : List ℕ) (id : ℕ) → id < 256 → Contains known id → IsOnlyReading (FormatElements known) (format_at known)
 only_format known id small c = only_reading (FormatElements known) (format_plan known) (follows_format known) (live_format known id small c) (format_at known) (format_run known)
 
+pub only_open : IsOnlyReading OpenElements content_at
+only_open = only_reading OpenElements open_plan follows_open live_open content_at content_run
+
 pub only_members : IsOnlyReading SectionElements members_at
 only_members = only_reading SectionElements section_plan follows_section live_section members_at members_run
 
@@ -139,3 +117,18 @@ no_prefix t v w b c tail s r e =
 pub one_value : (t : Ty) (v w : Tree) (b : List Bool) → Spells t v b → Spells t w b → v ≡ w
 one_value t v w b s r =
     (one_path (plan t) s.0 r.0 v w [] (plan_asked t v s.0 s.1) (plan_asked t w r.0 r.1) (sym r.2 ∙ s.2 ∙ sym (append-nil (bits_of s.0)))).1
+
+-- ---- what a reader does, from the reading that it gives
+
+pub gives_reads : {X Y : Type 0} (Spelled : Y → List Element → Type 0) (reading : Part → Read Y) → IsOnlyReading Spelled reading
+    → (view : X → Y) (old : Part) (r : Result X Refusal) (new : Part) → Gives view r (reading old) new → Reads Spelled view old r new
+gives_reads Spelled reading only view old (Ok x) new g = (only old (Ok (view x, new))).0 (sym g)
+gives_reads Spelled reading only view old (Err e) new g = (only old (Err (e, new))).0 (sym g)
+
+-- the same, where the reader hands out a part that is read on
+pub part_reads : {X Y Z : Type 0} (Spelled : Z → List Element → Type 0) (parts : Part → Read Y) (f : Y → Z) (reading : Part → Read Z) → IsOnlyReading Spelled reading → ((p : Part) → reading p ≡ (parts p >>= λ o. Ok (f o.0, o.1)))
+    → (view : X → Y) (old : Part) (r : Result X Refusal) (new : Part) → Gives view r (parts old) new → Reads Spelled (λ x. f (view x)) old r new
+part_reads Spelled parts f reading only same view old (Ok x) new g =
+    (only old (Ok (f (view x), new))).0 (sym (same old ∙ ap (λ (r : Read _). r >>= λ o. Ok (f o.0, o.1)) g))
+part_reads Spelled parts f reading only same view old (Err e) new g =
+    (only old (Err (e, new))).0 (sym (same old ∙ ap (λ (r : Read _). r >>= λ o. Ok (f o.0, o.1)) g))

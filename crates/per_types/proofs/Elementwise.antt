@@ -8,12 +8,12 @@ use Rattle.std.proofs.lemmas.List.{length-take}
 use Rattle.per_bits.specs.Bits.{Part, value_of, behind, digits}
 use Rattle.per_bits.specs.declared.refusals.Refusal.{Refusal}
 use Rattle.per_bits.specs.declared.refusals.Reason.{Reason}
-use Rattle.per_bits.specs.declared.refusals.Reason.TheVariants.{Short, OutOfRange, LongLength, SmallLarge, Version}
+use Rattle.per_bits.specs.declared.refusals.Reason.TheVariants.{Short, OutOfRange, LongLength, SmallLarge, Format}
 use Rattle.per_bits.proofs.Digits.{value_below, digits_value}
 use Rattle.per_types.specs.Kinds as kind
 use Rattle.per_types.specs.Kinds.{Kind, width, fault, Fault, at_once, first_bit, whole_width, alphabet}
 use Rattle.per_types.specs.Stops.{Read, IsShort, element_at}
-use Rattle.per_types.specs.Reading.{truth_at, whole_at, presence_at, character_at, small_at, length_at, format_at}
+use Rattle.per_types.specs.inner.Reading.{truth_at, whole_at, presence_at, character_at, small_at, length_at, format_at}
 use Rattle.per_types.proofs.Plans.{element_at-enough}
 
 -- ---- one element
@@ -35,14 +35,14 @@ pub ok_step : (k : Kind) (p : Part) (w : ℕ) → width k ≡ w → w ≤ length
 ok_step k p w same enough sound =
     element_at-enough k p (omega (arith, enough, same)) ∙ rw (same, sound) refl
 
-pub bad_step : (k : Kind) (p : Part) (w : ℕ) (f : Fault) → width k ≡ w → w ≤ length p.bits → fault k (take w p.bits) ≡ Some f → element_at k p ≡ Err (record { place = p.start + f.behind; reason = f.reason; value = f.value }, p)
+pub bad_step : (k : Kind) (p : Part) (w : ℕ) (f : Fault) → width k ≡ w → w ≤ length p.bits → fault k (take w p.bits) ≡ Some f → element_at k p ≡ Err (record { place = p.start + f.offset; reason = f.reason; value = f.value }, p)
 bad_step k p w f same enough bad =
     element_at-enough k p (omega (arith, enough, same)) ∙ rw (same, bad) refl
 
 -- the refusal at the element's first bit
 pub once_step : (k : Kind) (p : Part) (w : ℕ) (r : Reason) (v : ℕ) → width k ≡ w → w ≤ length p.bits → fault k (take w p.bits) ≡ at_once r v → element_at k p ≡ Err (record { place = p.start; reason = r; value = v }, p)
 once_step k p w r v same enough bad =
-    bad_step k p w (record { behind = 0; reason = r; value = v }) same enough bad ∙ ap (λ (place : ℕ). refused (record { place = place; reason = r; value = v }) p) (omega arith)
+    bad_step k p w (record { offset = 0; reason = r; value = v }) same enough bad ∙ ap (λ (place : ℕ). refused (record { place = place; reason = r; value = v }) p) (omega arith)
 
 -- ---- first bits and numbers
 
@@ -230,29 +230,29 @@ module _ (low high : ℤ) (w : ℕ) (same : w ≡ whole_width low high) where
 
 -- ---- formats
 
-format_width : (known : List ℕ) → width (kind.identifier known) ≡ 8
+format_width : (known : List ℕ) → width (kind.format known) ≡ 8
 unfolding width
 format_width known = refl
 
-format_fault : (known : List ℕ) (p : Part) (n : ℕ) → Prefix 8 p n → list_any (λ id. eqb id n) known ≡ false → fault (kind.identifier known) (take 8 p.bits) ≡ at_once Version n
+format_fault : (known : List ℕ) (p : Part) (n : ℕ) → Prefix 8 p n → list_any (λ id. eqb id n) known ≡ false → fault (kind.format known) (take 8 p.bits) ≡ at_once Format n
 unfolding fault
 format_fault known p n h unknown = rw (← h.reads, unknown) refl
 
-format_sound : (known : List ℕ) (p : Part) (n : ℕ) → Prefix 8 p n → list_any (λ id. eqb id n) known ≡ true → fault (kind.identifier known) (take 8 p.bits) ≡ None
+format_sound : (known : List ℕ) (p : Part) (n : ℕ) → Prefix 8 p n → list_any (λ id. eqb id n) known ≡ true → fault (kind.format known) (take 8 p.bits) ≡ None
 unfolding fault
 format_sound known p n h k = rw (← h.reads, k) refl
 
 pub format_short : (known : List ℕ) (p : Part) (e : Refusal) → IsShort p 8 e → format_at known p ≡ Err (e, p)
 unfolding format_at
-format_short known p e s = rw (short_step (kind.identifier known) p 8 e (format_width known) s) refl
+format_short known p e s = rw (short_step (kind.format known) p 8 e (format_width known) s) refl
 
-pub format_unknown : (known : List ℕ) (p : Part) (n : ℕ) → Prefix 8 p n → list_any (λ id. eqb id n) known ≡ false → format_at known p ≡ Err (record { place = p.start; reason = Version; value = n }, p)
+pub format_unknown : (known : List ℕ) (p : Part) (n : ℕ) → Prefix 8 p n → list_any (λ id. eqb id n) known ≡ false → format_at known p ≡ Err (record { place = p.start; reason = Format; value = n }, p)
 unfolding format_at
-format_unknown known p n h unknown = rw (once_step (kind.identifier known) p 8 Version n (format_width known) h.enough (format_fault known p n h unknown)) refl
+format_unknown known p n h unknown = rw (once_step (kind.format known) p 8 Format n (format_width known) h.enough (format_fault known p n h unknown)) refl
 
 pub format_ok : (known : List ℕ) (p : Part) (n : ℕ) → Prefix 8 p n → list_any (λ id. eqb id n) known ≡ true → format_at known p ≡ Ok (n, behind p 8)
 unfolding format_at
-format_ok known p n h k = rw (ok_step (kind.identifier known) p 8 (format_width known) h.enough (format_sound known p n h k), h.reads) refl
+format_ok known p n h k = rw (ok_step (kind.format known) p 8 (format_width known) h.enough (format_sound known p n h k), h.reads) refl
 
 -- ---- the sum that a whole number is
 

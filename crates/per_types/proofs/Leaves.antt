@@ -10,8 +10,9 @@ use Rattle.per_bits.specs.Bits.{digits, value_of}
 use Rattle.per_bits.specs.Parts.{Small, Length}
 use Rattle.per_bits.proofs.Digits.{length_digits, value_digits, digits_value, value_below}
 use Rattle.per_types.specs.Kinds as kind
-use Rattle.per_types.specs.Kinds.{Kind, width, fault, Fault, at_once, first_bit, Element, element, bits_of, alphabet, whole_width, root_width, is_last, oid_fault}
+use Rattle.per_types.specs.Kinds.{Kind, width, fault, Fault, at_once, first_bit, Element, element, bits_of, alphabet, span, is_last, oid_fault}
 use Rattle.per_types.specs.Spelling.{Whole, Character, TruthElements, SmallElements, LengthElements, WholeElements, PresenceElements, CharacterElements, TextElements, FormatElements}
+use Rattle.per_types.proofs.Widths.{only_width, has_width}
 use Rattle.per_types.proofs.Plans.{Plan, done, ask, chain, Path, Live, Accepted, Follows}
 
 -- ---- paths taken apart and put together
@@ -63,17 +64,9 @@ pub accepted_truth : (x : Bool) → Accepted kind.truth (x ∷ [])
 unfolding width fault
 accepted_truth x = record { width = refl; sound = refl }
 
-pub accepted_mark : (x : Bool) → Accepted kind.mark (x ∷ [])
-unfolding width fault
-accepted_mark x = record { width = refl; sound = refl }
-
 pub truth_bit : (b : List Bool) → Accepted kind.truth b → b ≡ first_bit b ∷ []
 unfolding width fault
 truth_bit b a = one_bit b a.width
-
-pub mark_bit : (b : List Bool) → Accepted kind.mark b → b ≡ first_bit b ∷ []
-unfolding width fault
-mark_bit b a = one_bit b a.width
 
 abbrev pub truth_plan : Plan Bool
 truth_plan = ask kind.truth (λ b. done (first_bit b))
@@ -197,12 +190,12 @@ module _ (low high : ℤ) where
 
   pub accepted_whole : (v : ℤ) (b : List Bool) → Whole low high v b → Accepted (kind.whole low high) b
   unfolding width fault
-  accepted_whole v b w = record { width = w.width; sound = rw (in_range v (value_of b) w.below w.reads) refl }
+  accepted_whole v b w = record { width = only_width (span low high) (length b) w.width; sound = rw (in_range v (value_of b) w.below w.reads) refl }
 
   whole_bits : (b : List Bool) → Accepted (kind.whole low high) b → Whole low high (low +ℤ pos (value_of b)) b
   unfolding width fault
   whole_bits b a =
-      record { above = not_below (value_of b); below = not_above (value_of b) (no_fault (int_lt (high -ℤ low) (pos (value_of b))) _ None a.sound).0; width = a.width; reads = refl }
+      record { above = not_below (value_of b); below = not_above (value_of b) (no_fault (int_lt (high -ℤ low) (pos (value_of b))) _ None a.sound).0; width = has_width (span low high) (length b) a.width; reads = refl }
 
   abbrev pub whole_plan : Plan ℤ
   whole_plan = ask (kind.whole low high) (λ b. done (low +ℤ pos (value_of b)))
@@ -298,22 +291,22 @@ no_other true f h = refl
 no_other false f h = absurd cc
 
 module _ (known : List ℕ) where
-  pub accepted_format : (b : List Bool) → length b ≡ 8 → Contains known (value_of b) → Accepted (kind.identifier known) b
+  pub accepted_format : (b : List Bool) → length b ≡ 8 → Contains known (value_of b) → Accepted (kind.format known) b
   unfolding width fault
   accepted_format b l c = record { width = l; sound = rw (is_known known (value_of b) c) refl }
 
-  format_bits : (b : List Bool) → Accepted (kind.identifier known) b → (length b ≡ 8) × Contains known (value_of b)
+  format_bits : (b : List Bool) → Accepted (kind.format known) b → (length b ≡ 8) × Contains known (value_of b)
   unfolding width fault
   format_bits b a = (a.width, known_is known (value_of b) (no_other _ _ a.sound))
 
   abbrev pub format_plan : Plan ℕ
-  format_plan = ask (kind.identifier known) (λ b. done (value_of b))
+  format_plan = ask (kind.format known) (λ b. done (value_of b))
 
   pub follows_format : Follows (FormatElements known) format_plan
   follows_format = record {
     asked = λ v es s. rw s.4 (refl, accepted_format s.0 s.1 s.2, (refl, sym s.3));
     spelled = λ v es path.
-        let a = asked (kind.identifier known) (λ b. done (value_of b)) es v path in
+        let a = asked (kind.format known) (λ b. done (value_of b)) es v path in
         let f = format_bits a.bits a.accepted in
         (a.bits, f.0, f.1, sym a.path.1, a.elements ∙ rw a.path.0 refl);
   }

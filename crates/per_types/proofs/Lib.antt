@@ -1,4 +1,6 @@
+pub mod Widths
 pub mod Plans
+pub mod Cuts
 pub mod Octets
 pub mod Leaves
 pub mod Strings
@@ -7,7 +9,6 @@ pub mod Lives
 pub mod Readings
 pub mod Decided
 pub mod Canonicals
-pub mod Widths
 pub mod Elementwise
 pub mod Stringwise
 pub mod Sectionwise

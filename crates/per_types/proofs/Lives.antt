@@ -1,6 +1,6 @@
 -- Whatever was accepted, something may follow: so where a type has values, each refusal comes behind the
 -- first elements of a spelling.
-use Rattle.std.proofs.Common.{◌≡◌, ℕ, zero, suc, ◌+◌, ◌*◌, ◌^◌, ◌<◌, ◌≤◌, Bool, true, false, List, [], ◌∷◌, length, replicate, Some, None, refl, sym, ap, subst, ◌∙◌, arith}
+use Rattle.std.proofs.Common.{◌≡◌, ℕ, zero, suc, ◌+◌, ◌-◌, ◌*◌, ◌^◌, ◌<◌, ◌≤◌, Bool, true, false, List, [], ◌∷◌, length, replicate, Some, None, refl, sym, ap, subst, ◌∙◌, arith}
 use Rattle.std.specs.Prelude.{ℤ, pos, ◌+ℤ◌, ◌≤ℤ◌, slice_index}
 use Rattle.std.specs.List.{Contains}
 use Rattle.std.proofs.lemmas.Int.{ints}
@@ -11,13 +11,14 @@ use Rattle.per_bits.specs.Bits.{digits, value_of, octet_bits, octets_of}
 use Rattle.per_bits.specs.Parts.{AreOctets, ArcsFrom}
 use Rattle.per_bits.proofs.Digits.{length_digits, value_digits}
 use Rattle.per_types.specs.Kinds as kind
-use Rattle.per_types.specs.Kinds.{Kind, first_bit, alphabet, whole_width, root_width, Element}
+use Rattle.per_types.specs.Kinds.{Kind, first_bit, alphabet, span, whole_width, root_width, Element}
+use Rattle.per_types.proofs.Widths.{has_width}
 use Rattle.per_types.specs.Types.{truth, number, text, bytes, record_of, field, absent, Ty, boolean, integer, characters, octet_string, relative_oid, enumerated, format, sequence, Components, no_components, required, optional, default, presence_count}
 use Rattle.per_types.specs.Stops.{HasValues, HaveValues}
-use Rattle.per_types.specs.Reading.{index_tree}
+use Rattle.per_types.specs.inner.Reading.{index_tree}
 use Rattle.per_types.proofs.Plans.{Plan, done, chain, Live, Accepted}
-use Rattle.per_types.proofs.Leaves.{live_chain, Headed, headed, accepted_truth, accepted_mark, accepted_small, accepted_length, accepted_oid_length, accepted_open_length, accepted_presence, accepted_character, accepted_format, accepted_whole, truth_plan, whole_plan, presence_plan, character_plan, text_plan, format_plan, small_plan, length_plan}
-use Rattle.per_types.proofs.Strings.{accepted_octets, accepted_oid_octets, accepted_root, accepted_additions, string_plan, oid_plan, index_plan, enum_plan, opens_plan, section_plan}
+use Rattle.per_types.proofs.Leaves.{live_chain, Headed, headed, accepted_truth, accepted_small, accepted_length, accepted_oid_length, accepted_open_length, accepted_presence, accepted_character, accepted_format, accepted_whole, truth_plan, whole_plan, presence_plan, character_plan, text_plan, format_plan, small_plan, length_plan}
+use Rattle.per_types.proofs.Strings.{accepted_octets, accepted_oid_octets, accepted_root, accepted_additions, string_plan, oid_plan, index_plan, enum_plan, open_plan, opens_plan, section_plan}
 use Rattle.per_types.proofs.TypePlans.{plan, fields_plan, extended_plan, more_plan, with_fields}
 
 value_zeros : (n : ℕ) → value_of (replicate n false) ≡ 0
@@ -36,7 +37,7 @@ live_truth = ((false ∷ [], accepted_truth false), λ b a. tt)
 pub live_whole : (low high : ℤ) → low ≤ℤ high → Live (whole_plan low high)
 live_whole low high h =
     let b = replicate (whole_width low high) false in
-    ((b, accepted_whole low high low b (record { above = omega (arith, ints); below = h; width = zeros (whole_width low high); reads = ap (λ (n : ℕ). low +ℤ pos n) (value_zeros (whole_width low high)) ∙ omega (arith, ints) })), λ c a. tt)
+    ((b, accepted_whole low high low b (record { above = omega (arith, ints); below = h; width = has_width (span low high) (length b) (zeros (whole_width low high)); reads = ap (λ (n : ℕ). low +ℤ pos n) (value_zeros (whole_width low high)) ∙ omega (arith, ints) })), λ c a. tt)
 
 pub live_presence : (n : ℕ) → Live (presence_plan n)
 live_presence n = ((replicate n false, accepted_presence n (replicate n false) (zeros n)), λ b a. tt)
@@ -88,10 +89,13 @@ live_index : (roots : ℕ) → 1 ≤ roots → (x : Bool) → Live (index_plan r
 live_index roots some true = live_small
 live_index roots some false =
     let b = replicate (root_width roots) false in
-    ((b, accepted_root roots 0 b (record { width = zeros (root_width roots); known = some; reads = value_zeros (root_width roots) })), λ c a. tt)
+    ((b, accepted_root roots 0 b (record { width = has_width (roots - 1) (length b) (zeros (root_width roots)); known = some; reads = value_zeros (root_width roots) })), λ c a. tt)
 
 pub live_enum : (roots : ℕ) → 1 ≤ roots → Live (enum_plan roots)
-live_enum roots some = ((false ∷ [], accepted_mark false), λ b a. live_index roots some (first_bit b))
+live_enum roots some = ((false ∷ [], accepted_truth false), λ b a. live_index roots some (first_bit b))
+
+pub live_open : Live open_plan
+live_open = ((false ∷ digits 7 1, accepted_open_length 1 (false ∷ digits 7 1) one_length (λ e. absurd (omega arith))), λ b a. (live_octets (value_of b), λ o c. tt))
 
 pub live_opens : (present : List Bool) → Live (opens_plan present)
 live_opens [] = tt
@@ -109,7 +113,7 @@ live_section = (live_small.0, λ b a. ((true ∷ replicate (value_of b) false, o
 
 live_extended : (marked : Bool) → Live (extended_plan marked)
 live_extended false = tt
-live_extended true = ((false ∷ [], accepted_mark false), λ b a. tt)
+live_extended true = ((false ∷ [], accepted_truth false), λ b a. tt)
 
 live_more : (extended : Bool) → Live (more_plan extended)
 live_more false = tt

@@ -1,17 +1,20 @@
 -- Each reading is the run of its plan.
-use Rattle.std.proofs.Common.{◌≡◌, ℕ, zero, suc, ◌+◌, ◌*◌, Bool, true, false, List, [], ◌∷◌, take, Some, None, Ok, Err, cond, refl, sym, ap, ◌∙◌}
-use Rattle.std.proofs.lemmas.List.{take_at}
+use Rattle.std.proofs.Common.{◌≡◌, ℕ, zero, suc, ◌+◌, ◌-◌, ◌*◌, Bool, true, false, List, [], ◌∷◌, length, take, Some, None, Ok, Err, cond, refl, sym, ap, ◌∙◌, arith}
+use Rattle.std.proofs.lemmas.List.{length-append, take_at}
 use Rattle.std.specs.Prelude.{ℤ, pos}
 use Rattle.per_bits.specs.Bits.{Part, value_of, octets_of, front}
 use Rattle.per_types.specs.declared.index.EnumIndex.TheVariants.{Added}
 use Rattle.per_types.specs.Kinds as kind
-use Rattle.per_types.specs.Kinds.{Kind, first_bit, width}
+use Rattle.per_types.specs.Kinds.{Kind, first_bit, width, bits_of}
+use Rattle.per_types.specs.Spelling.{SectionElements}
+use Rattle.per_bits.specs.Parts.{Member, members_of}
+use Rattle.per_bits.proofs.SectionLaws.{members_read}
 use Rattle.per_types.specs.Types.{Tree, truth, number, text, bytes, record_of, Fields, field, absent, Ty, boolean, integer, characters, octet_string, relative_oid, enumerated, format, sequence, Components, no_components, required, optional, default, presence_count}
 use Rattle.per_types.specs.Stops.{Read, element_at}
-use Rattle.per_types.specs.Reading.{◌>>=◌, mark_at, truth_at, whole_at, presence_at, character_at, small_at, length_at, octets_at, oid_at, oid_length_at, open_length_at, string_at, object_at, added_at, root_at, enum_at, format_at, open_at, additions_at, member_at, opens_at, members_at, text_at, extended_at, more_at, index_tree, tree_at, fields_at}
-use Rattle.per_types.proofs.Plans.{Plan, done, ask, chain, run, next_next, next_along, element_taken}
+use Rattle.per_types.specs.inner.Reading.{◌>>=◌, truth_at, whole_at, presence_at, character_at, small_at, length_at, octets_at, oid_at, oid_length_at, open_length_at, string_at, object_at, added_at, root_at, enum_at, format_at, open_at, content_at, additions_at, member_at, opens_at, over_at, section_at, members_at, text_at, extended_at, more_at, index_tree, tree_at, fields_at}
+use Rattle.per_types.proofs.Plans.{Plan, done, ask, chain, run, run_takes, next_next, next_along, element_taken}
 use Rattle.per_types.proofs.Leaves.{truth_plan, whole_plan, presence_plan, character_plan, text_plan, format_plan, small_plan, length_plan}
-use Rattle.per_types.proofs.Strings.{string_plan, oid_plan, index_plan, enum_plan, opens_plan, section_plan}
+use Rattle.per_types.proofs.Strings.{string_plan, oid_plan, index_plan, enum_plan, open_plan, opens_plan, section_plan, follows_section}
 use Rattle.per_types.proofs.TypePlans.{plan, fields_plan, extended_plan, more_plan, with_fields}
 
 pub run-chain : {X Y : Type 0} (p : Plan X) (next : X → Plan Y) (at : Part) → run (chain p next) at ≡ (run p at >>= λ x. run (next x.0) x.1)
@@ -77,10 +80,10 @@ index_run roots true p = next_next (element_at kind.small p) (seen value_of) (se
 index_run roots false p = refl
 
 pub enum_run : (roots : ℕ) (p : Part) → enum_at roots p ≡ run (enum_plan roots) p
-unfolding enum_at mark_at
+unfolding enum_at truth_at
 enum_run roots p =
-    next_next (element_at kind.mark p) (seen first_bit) (λ x. cond x.0 (added_at x.1) (root_at roots x.1))
-    ∙ next_along (element_at kind.mark p) (λ b. cond (first_bit b.0) (added_at b.1) (root_at roots b.1)) (λ b. run (index_plan roots (first_bit b.0)) b.1) (λ b. index_run roots (first_bit b.0) b.1)
+    next_next (element_at kind.truth p) (seen first_bit) (λ x. cond x.0 (added_at x.1) (root_at roots x.1))
+    ∙ next_along (element_at kind.truth p) (λ b. cond (first_bit b.0) (added_at b.1) (root_at roots b.1)) (λ b. run (index_plan roots (first_bit b.0)) b.1) (λ b. index_run roots (first_bit b.0) b.1)
 
 -- ---- octets behind a length
 
@@ -124,38 +127,81 @@ oid_run p =
     (λ n. next_next (element_at (kind.oid_octets (value_of n.0)) n.1) (λ b. Ok (front n.1 (8 * value_of n.0), b.1)) (seen (λ o. octets_of o.bits))
     ∙ octets_step (kind.oid_octets (value_of n.0)) n.1 (value_of n.0) (oid_width (value_of n.0)))
 
--- ---- additions
+-- ---- open types
 
-open_run : {A : Type 0} (p : Part) (next : List ℕ × Part → Read A) → (open_at p >>= next) ≡ (element_at kind.open_length p >>= λ n. element_at (kind.string_octets (value_of n.0)) n.1 >>= λ o. next (octets_of o.0, o.1))
+open_run : {A : Type 0} (p : Part) (next : Part × Part → Read A) → (open_at p >>= next) ≡ (element_at kind.open_length p >>= λ n. element_at (kind.string_octets (value_of n.0)) n.1 >>= λ o. next (front n.1 (8 * value_of n.0), o.1))
 unfolding open_at open_length_at
 open_run p next =
-    ap (λ (r : Read (List ℕ)). r >>= next) (next_next (element_at kind.open_length p) (seen value_of) (λ n. element_at (kind.string_octets n.0) n.1 >>= seen octets_of))
-    ∙ next_next (element_at kind.open_length p) (λ n. element_at (kind.string_octets (value_of n.0)) n.1 >>= seen octets_of) next
-    ∙ next_along (element_at kind.open_length p) (λ n. (element_at (kind.string_octets (value_of n.0)) n.1 >>= seen octets_of) >>= next) (λ n. element_at (kind.string_octets (value_of n.0)) n.1 >>= λ o. next (octets_of o.0, o.1))
-    (λ n. next_next (element_at (kind.string_octets (value_of n.0)) n.1) (seen octets_of) next)
+    ap (λ (r : Read Part). r >>= next) (next_next (element_at kind.open_length p) (seen value_of) (λ n. element_at (kind.string_octets n.0) n.1 >>= λ b. Ok (front n.1 (8 * n.0), b.1)))
+    ∙ next_next (element_at kind.open_length p) (λ n. element_at (kind.string_octets (value_of n.0)) n.1 >>= λ b. Ok (front n.1 (8 * value_of n.0), b.1)) next
+    ∙ next_along (element_at kind.open_length p) (λ n. (element_at (kind.string_octets (value_of n.0)) n.1 >>= λ b. Ok (front n.1 (8 * value_of n.0), b.1)) >>= next) (λ n. element_at (kind.string_octets (value_of n.0)) n.1 >>= λ o. next (front n.1 (8 * value_of n.0), o.1))
+    (λ n. next_next (element_at (kind.string_octets (value_of n.0)) n.1) (λ b. Ok (front n.1 (8 * value_of n.0), b.1)) next)
 
-pub opens_run : (present : List Bool) (p : Part) → opens_at present p ≡ run (opens_plan present) p
+pub content_run : (p : Part) → content_at p ≡ run open_plan p
+unfolding content_at
+content_run p =
+    open_run p (seen (λ o. octets_of o.bits))
+    ∙ next_along (element_at kind.open_length p) _ (λ n. element_at (kind.string_octets (value_of n.0)) n.1 >>= seen octets_of)
+    (λ n. octets_step (kind.string_octets (value_of n.0)) n.1 (value_of n.0) (string_width (value_of n.0)))
+
+-- ---- additions
+
+-- where a reading leads, without its value
+abbrev gone : {A : Type 0} → A × Part → Read (Unit {0})
+gone x = Ok (tt, x.1)
+
+gone_on : {A B : Type 0} (p : Plan A) (f : A → B) (at : Part) → (run (chain p (λ x. done (f x))) at >>= gone) ≡ (run p at >>= gone)
+gone_on p f at =
+    ap (λ (r : Read _). r >>= gone) (run-chain p (λ x. done (f x)) at)
+    ∙ next_next (run p at) (seen f) gone
+
+pub opens_run : (present : List Bool) (p : Part) → opens_at present p ≡ (run (opens_plan present) p >>= gone)
 unfolding opens_at member_at
 opens_run [] p = refl
-opens_run (false ∷ present) p = mapped_run (opens_plan present) (λ ms. None ∷ ms) p (opens_at present p) (opens_run present p)
+opens_run (false ∷ present) p = opens_run present p ∙ sym (gone_on (opens_plan present) (λ ms. None ∷ ms) p)
 opens_run (true ∷ present) p =
-    next_next (open_at p) (seen (λ os. Some os)) (λ m. opens_at present m.1 >>= seen (λ ms. m.0 ∷ ms))
-    ∙ open_run p (λ os. opens_at present os.1 >>= seen (λ ms. Some os.0 ∷ ms))
-    ∙ next_along (element_at kind.open_length p) _ (λ n. element_at (kind.string_octets (value_of n.0)) n.1 >>= λ o. run (chain (opens_plan present) (λ ms. done (Some (octets_of o.0) ∷ ms))) o.1)
-    (λ n. next_along (element_at (kind.string_octets (value_of n.0)) n.1) (λ o. opens_at present o.1 >>= seen (λ ms. Some (octets_of o.0) ∷ ms)) (λ o. run (chain (opens_plan present) (λ ms. done (Some (octets_of o.0) ∷ ms))) o.1)
-    (λ o. mapped_run (opens_plan present) (λ ms. Some (octets_of o.0) ∷ ms) o.1 (opens_at present o.1) (opens_run present o.1)))
+    next_next (open_at p) gone (λ m. opens_at present m.1)
+    ∙ open_run p (λ o. opens_at present o.1)
+    ∙ next_along (element_at kind.open_length p) _ _
+    (λ n.
+    next_along (element_at (kind.string_octets (value_of n.0)) n.1) (λ o. opens_at present o.1) (λ o. run (chain (opens_plan present) (λ ms. done (Some (octets_of o.0) ∷ ms))) o.1 >>= gone)
+    (λ o. opens_run present o.1 ∙ sym (gone_on (opens_plan present) (λ ms. Some (octets_of o.0) ∷ ms) o.1))
+    ∙ sym (next_next (element_at (kind.string_octets (value_of n.0)) n.1) (λ o. run (chain (opens_plan present) (λ ms. done (Some (octets_of o.0) ∷ ms))) o.1) gone))
+    ∙ sym (next_next (element_at kind.open_length p) (λ n. element_at (kind.string_octets (value_of n.0)) n.1 >>= λ o. run (chain (opens_plan present) (λ ms. done (Some (octets_of o.0) ∷ ms))) o.1) gone)
+
+pub over_run : (p : Part) → over_at p ≡ (run section_plan p >>= gone)
+unfolding over_at small_at additions_at
+over_run p =
+    next_next (element_at kind.small p) (seen value_of) (λ n. element_at (kind.additions (n.0 + 1)) n.1 >>= λ present. opens_at present.0 present.1)
+    ∙ next_along (element_at kind.small p) _ _
+    (λ n.
+    next_along (element_at (kind.additions (value_of n.0 + 1)) n.1) (λ present. opens_at present.0 present.1) (λ present. run (opens_plan present.0) present.1 >>= gone) (λ present. opens_run present.0 present.1)
+    ∙ sym (next_next (element_at (kind.additions (value_of n.0 + 1)) n.1) (λ present. run (opens_plan present.0) present.1) gone))
+    ∙ sym (next_next (element_at kind.small p) (λ n. element_at (kind.additions (value_of n.0 + 1)) n.1 >>= λ present. run (opens_plan present.0) present.1) gone)
+
+-- the additions that the bits of a section spell are those that its plan gives
+section_reads : (p : Part) (x : List Member × Part) → run section_plan p ≡ Ok x → members_of (take (length p.bits - length x.1.bits) p.bits) ≡ x.0
+section_reads p x e =
+    let t = run_takes SectionElements section_plan follows_section p x e in
+    let n : length p.bits - length x.1.bits ≡ length (bits_of t.0) = omega (arith, ap length t.2, length-append (bits_of t.0) x.1.bits) in
+    ap (λ (k : ℕ). members_of (take k p.bits)) n
+    ∙ ap (λ (l : List Bool). members_of (take (length (bits_of t.0)) l)) t.2
+    ∙ ap members_of (take_at (bits_of t.0) x.1.bits (length (bits_of t.0)) refl)
+    ∙ members_read x.0 (bits_of t.0) t.1.0
 
 pub members_run : (p : Part) → members_at p ≡ run section_plan p
-unfolding members_at small_at additions_at
+unfolding members_at section_at
 members_run p =
-    next_next (element_at kind.small p) (seen value_of) (λ n. element_at (kind.additions (n.0 + 1)) n.1 >>= λ present. opens_at present.0 present.1)
-    ∙ next_along (element_at kind.small p) _ (λ n. element_at (kind.additions (value_of n.0 + 1)) n.1 >>= λ present. run (opens_plan present.0) present.1)
-    (λ n. next_along (element_at (kind.additions (value_of n.0 + 1)) n.1) (λ present. opens_at present.0 present.1) (λ present. run (opens_plan present.0) present.1) (λ present. opens_run present.0 present.1))
+    next_next (over_at p) (λ over. Ok (front p (length p.bits - length over.1.bits), over.1)) (λ o. Ok (members_of o.0.bits, o.1))
+    ∙ ap (λ (r : Read (Unit {0})). r >>= λ over. Ok (members_of (take (length p.bits - length over.1.bits) p.bits), over.1)) (over_run p)
+    ∙ next_next (run section_plan p) gone (λ over. Ok (members_of (take (length p.bits - length over.1.bits) p.bits), over.1))
+    ∙ next_known (run section_plan p) (λ x. Ok (members_of (take (length p.bits - length x.1.bits) p.bits), x.1)) (seen (λ ms. ms)) (λ x e. ap (λ (ms : List Member). Ok (ms, x.1)) (section_reads p x e))
+    ∙ sym (keep (run section_plan p))
 
 -- ---- all types
 
 extended_run : (marked : Bool) (p : Part) → extended_at marked p ≡ run (extended_plan marked) p
-unfolding extended_at mark_at
+unfolding extended_at truth_at
 extended_run false p = refl
 extended_run true p = refl
 

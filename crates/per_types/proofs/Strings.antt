@@ -5,17 +5,19 @@ use Rattle.std.specs.List.{list_any}
 use Rattle.std.proofs.lemmas.Bool.{eqb-false, ne_eqb, leb-false, lt-leb, ltb-true, lt-ltb}
 use Rattle.std.proofs.lemmas.List.{length-map}
 use Rattle.std.proofs.lemmas.Nat.{pow_pos}
-use Rattle.per_bits.specs.Bits.{value_of, octet_bits, octets_of}
+use Rattle.per_bits.specs.Bits.{digits, value_of, octet_bits, octets_of}
 use Rattle.per_bits.specs.Parts.{Small, Length, IsOid, ArcsFrom, AreOctets, Member}
 use Rattle.per_bits.proofs.Places.{length_octet_bits}
 use Rattle.per_types.specs.Kinds as kind
-use Rattle.per_types.specs.Kinds.{Kind, width, fault, Fault, first_bit, Element, element, root_width, is_last, oid_fault}
-use Rattle.per_types.specs.Spelling.{RootIndex, StringElements, OidElements, RootElements, AddedElements, OpenElements, SectionElements}
+use Rattle.per_types.specs.Kinds.{Kind, width, fault, Fault, first_bit, Element, element, bits_of, is_last, oid_fault}
+use Rattle.per_types.specs.Spelling.{RootIndex, StringElements, OidElements, RootElements, AddedElements, open_cut, OpenElements, SectionElements}
 use Rattle.per_types.specs.declared.index.EnumIndex.{EnumIndex}
 use Rattle.per_types.specs.declared.index.EnumIndex.TheVariants.{Root, Added}
+use Rattle.per_types.proofs.Widths.{only_width, has_width}
+use Rattle.per_types.proofs.Cuts.{LooseOpens, LooseSection, from_loose, to_loose}
 use Rattle.per_types.proofs.Plans.{Plan, done, ask, chain, Path, Accepted, Follows}
 use Rattle.per_types.proofs.Octets.{octets_of-octet_bits, octet_bits-octets_of, length-octets_of, AreOctets-octets_of}
-use Rattle.per_types.proofs.Leaves.{asked, chained, path_chain, no_fault, small_of, length_of, accepted_small, small_bits, accepted_length, length_bits, accepted_oid_length, oid_length_bits, accepted_open_length, open_length_bits, accepted_mark, mark_bit}
+use Rattle.per_types.proofs.Leaves.{asked, chained, path_chain, no_fault, small_of, length_of, accepted_small, small_bits, accepted_length, length_bits, accepted_oid_length, oid_length_bits, accepted_open_length, open_length_bits, accepted_truth, truth_bit}
 
 -- ---- octets
 
@@ -142,11 +144,11 @@ follows_oid = record {
 module _ (roots : ℕ) where
   pub accepted_root : (i : ℕ) (b : List Bool) → RootIndex roots i b → Accepted (kind.root roots) b
   unfolding width fault
-  accepted_root i b s = record { width = s.width; sound = rw (lt-leb roots (value_of b) (omega (arith, s.known, s.reads))) refl }
+  accepted_root i b s = record { width = only_width (roots - 1) (length b) s.width; sound = rw (lt-leb roots (value_of b) (omega (arith, s.known, s.reads))) refl }
 
   root_bits : (b : List Bool) → Accepted (kind.root roots) b → RootIndex roots (value_of b) b
   unfolding width fault
-  root_bits b a = record { width = a.width; known = leb-false roots (value_of b) (no_fault _ _ None a.sound).0; reads = refl }
+  root_bits b a = record { width = has_width (roots - 1) (length b) a.width; known = leb-false roots (value_of b) (no_fault _ _ None a.sound).0; reads = refl }
 
   -- the elements of an index of an enumeration
   abbrev pub EnumElements : EnumIndex → List Element → Type 0
@@ -158,34 +160,69 @@ module _ (roots : ℕ) where
   index_plan false = ask (kind.root roots) (λ b. done (Root (value_of b)))
 
   abbrev pub enum_plan : Plan EnumIndex
-  enum_plan = ask kind.mark (λ b. index_plan (first_bit b))
+  enum_plan = ask kind.truth (λ b. index_plan (first_bit b))
 
-  mark_element : (b : List Bool) (x : Bool) → Accepted kind.mark b → first_bit b ≡ x → element kind.mark b ≡ element kind.mark (x ∷ [])
-  mark_element b x a e = ap (element kind.mark) (mark_bit b a ∙ ap (λ (y : Bool). y ∷ []) e)
+  mark_element : (b : List Bool) (x : Bool) → Accepted kind.truth b → first_bit b ≡ x → element kind.truth b ≡ element kind.truth (x ∷ [])
+  mark_element b x a e = ap (element kind.truth) (truth_bit b a ∙ ap (λ (y : Bool). y ∷ []) e)
 
-  index_spelled : (x : Bool) (b : List Bool) (rest es : List Element) (v : EnumIndex) → Accepted kind.mark b → first_bit b ≡ x → Path (index_plan x) rest v → es ≡ element kind.mark b ∷ rest → EnumElements v es
+  index_spelled : (x : Bool) (b : List Bool) (rest es : List Element) (v : EnumIndex) → Accepted kind.truth b → first_bit b ≡ x → Path (index_plan x) rest v → es ≡ element kind.truth b ∷ rest → EnumElements v es
   index_spelled true b rest es v a e path h =
       let i = asked kind.small (λ c. done (Added (value_of c))) rest v path in
       subst (λ (y : EnumIndex). EnumElements y es) i.path.1
-      (i.bits, small_bits i.bits i.accepted, h ∙ rw (mark_element b true a e) (ap (λ (r : List Element). element kind.mark (true ∷ []) ∷ r) (i.elements ∙ rw i.path.0 refl)))
+      (i.bits, small_bits i.bits i.accepted, h ∙ rw (mark_element b true a e) (ap (λ (r : List Element). element kind.truth (true ∷ []) ∷ r) (i.elements ∙ rw i.path.0 refl)))
   index_spelled false b rest es v a e path h =
       let i = asked (kind.root roots) (λ c. done (Root (value_of c))) rest v path in
       subst (λ (y : EnumIndex). EnumElements y es) i.path.1
-      (i.bits, root_bits i.bits i.accepted, h ∙ rw (mark_element b false a e) (ap (λ (r : List Element). element kind.mark (false ∷ []) ∷ r) (i.elements ∙ rw i.path.0 refl)))
+      (i.bits, root_bits i.bits i.accepted, h ∙ rw (mark_element b false a e) (ap (λ (r : List Element). element kind.truth (false ∷ []) ∷ r) (i.elements ∙ rw i.path.0 refl)))
 
   enum_asked : (v : EnumIndex) (es : List Element) → EnumElements v es → Path enum_plan es v
-  enum_asked (Root i) es s = rw s.2 (refl, accepted_mark false, (refl, accepted_root i s.0 s.1, (refl, ap (λ (j : ℕ). Root j) s.1.reads)))
+  enum_asked (Root i) es s = rw s.2 (refl, accepted_truth false, (refl, accepted_root i s.0 s.1, (refl, ap (λ (j : ℕ). Root j) s.1.reads)))
   enum_asked (Added i) es s =
       let h = small_of i s.0 s.1 in
-      rw s.2 (refl, accepted_mark true, (refl, accepted_small i s.0 h, (refl, ap (λ (j : ℕ). Added j) h.reads)))
+      rw s.2 (refl, accepted_truth true, (refl, accepted_small i s.0 h, (refl, ap (λ (j : ℕ). Added j) h.reads)))
 
   pub follows_enum : Follows EnumElements enum_plan
   follows_enum = record {
     asked = enum_asked;
     spelled = λ v es path.
-        let a = asked kind.mark (λ b. index_plan (first_bit b)) es v path in
+        let a = asked kind.truth (λ b. index_plan (first_bit b)) es v path in
         index_spelled (first_bit a.bits) a.bits a.rest es v a.accepted refl a.path a.elements;
   }
+
+-- ---- open types
+
+abbrev pub open_plan : Plan (List ℕ)
+open_plan = ask kind.open_length (λ b. ask (kind.string_octets (value_of b)) (λ o. done (octets_of o)))
+
+-- what an open type's two elements are cut into
+open_is : (b : List Bool) (os : List ℕ) (es : List Element) → 1 ≤ length os → Length (length os) b → AreOctets os
+    → es ≡ element kind.open_length b ∷ element (kind.string_octets (length os)) (octet_bits os) ∷ [] → OpenElements os es
+open_is b os es some l each e =
+    let cut : es ≡ open_cut os = e ∙ ap (λ (c : List Bool). element kind.open_length c ∷ element (kind.string_octets (length os)) (octet_bits os) ∷ []) l.1 in
+    let bits : bits_of es ≡ (false ∷ digits 7 (length os)) ++ octet_bits os = ap bits_of cut ∙ ap (λ (l : List Bool). (false ∷ digits 7 (length os)) ++ l) (append-nil (octet_bits os)) in
+    (record { some = some; few = l.0; each = each; bits = bits }, cut)
+
+pub follows_open : Follows OpenElements open_plan
+follows_open = record {
+  asked = λ os es s.
+      let h = length_of (length os) (false ∷ digits 7 (length os)) (s.0.few, refl) in
+      rw s.1 (
+        refl,
+        accepted_open_length (length os) (false ∷ digits 7 (length os)) h (λ (e : length os ≡ 0). absurd (omega (arith, e, s.0.some))),
+        (ap kind.string_octets (sym h.reads), accepted_octets (value_of (false ∷ digits 7 (length os))) (octet_bits os) (length_octet_bits os ∙ ap (λ (n : ℕ). 8 * n) (sym h.reads)), (refl, octets_of-octet_bits os s.0.each)),
+      );
+  spelled = λ os es path.
+      let a = asked kind.open_length (λ b. ask (kind.string_octets (value_of b)) (λ o. done (octets_of o))) es os path in
+      let o = asked (kind.string_octets (value_of a.bits)) (λ o. done (octets_of o)) a.rest os a.path in
+      let i = are_octets (value_of a.bits) o.bits (octets_width (value_of a.bits) o.bits o.accepted) in
+      let l = open_length_bits a.bits a.accepted in
+      subst (λ (x : List ℕ). OpenElements x es) o.path.1
+      (open_is a.bits (octets_of o.bits) es (at_least (value_of a.bits) (length (octets_of o.bits)) l.1 i.count) (subst (λ (n : ℕ). Length n a.bits) (sym i.count) l.0) i.each
+      (a.elements ∙ ap (λ (x : List Element). element kind.open_length a.bits ∷ x) (o.elements ∙ string_element (value_of a.bits) o.bits o.rest [] i o.path.0)));
+}
+  where
+    at_least : (n m : ℕ) → n ≢ 0 → m ≡ n → 1 ≤ m
+    at_least n m some e = omega (arith, some)
 
 -- ---- additions
 
@@ -198,7 +235,7 @@ opens_plan (true ∷ present) =
 pub path_last : {X Y : Type 0} (plan : Plan X) (f : X → Y) (es : List Element) (v : X) → Path plan es v → Path (chain plan (λ x. done (f x))) es (f v)
 path_last plan f es v path = subst (λ (a : List Element). Path (chain plan (λ x. done (f x))) a (f v)) (append-nil es) (path_chain plan (λ x. done (f x)) es [] v (f v) path (refl, refl))
 
-opens_asked : (members : List Member) (es : List Element) → OpenElements members es → Path (opens_plan (map is_some members)) es members
+opens_asked : (members : List Member) (es : List Element) → LooseOpens members es → Path (opens_plan (map is_some members)) es members
 opens_asked [] es s = (s, refl)
 opens_asked (None ∷ members) es s = path_last (opens_plan (map is_some members)) (λ ms. None ∷ ms) es members (opens_asked members es s)
 opens_asked (Some os ∷ members) es s =
@@ -215,14 +252,14 @@ opens_asked (Some os ∷ members) es s =
       ),
     )
 
-opens_spelled : (present : List Bool) (es : List Element) (members : List Member) → Path (opens_plan present) es members → OpenElements members es × (map is_some members ≡ present)
+opens_spelled : (present : List Bool) (es : List Element) (members : List Member) → Path (opens_plan present) es members → LooseOpens members es × (map is_some members ≡ present)
 opens_spelled [] es members path = rw (sym path.1) (path.0, refl)
 opens_spelled (false ∷ present) es members path =
     let c = chained (opens_plan present) (λ ms. done (None ∷ ms)) es members path in
     let others = opens_spelled present c.first c.value c.path in
     let same : es ≡ c.first = c.elements ∙ ap (λ (x : List Element). c.first ++ x) c.then.0 ∙ append-nil c.first in
-    subst (λ (ms : List Member). OpenElements ms es × (map is_some ms ≡ false ∷ present)) c.then.1
-    (subst (OpenElements c.value) (sym same) others.0, ap (λ (x : List Bool). false ∷ x) others.1)
+    subst (λ (ms : List Member). LooseOpens ms es × (map is_some ms ≡ false ∷ present)) c.then.1
+    (subst (LooseOpens c.value) (sym same) others.0, ap (λ (x : List Bool). false ∷ x) others.1)
 opens_spelled (true ∷ present) es members path =
     let a = asked kind.open_length (λ b. ask (kind.string_octets (value_of b)) (λ o. chain (opens_plan present) (λ ms. done (Some (octets_of o) ∷ ms)))) es members path in
     let o = asked (kind.string_octets (value_of a.bits)) (λ o. chain (opens_plan present) (λ ms. done (Some (octets_of o) ∷ ms))) a.rest members a.path in
@@ -231,7 +268,7 @@ opens_spelled (true ∷ present) es members path =
     let i = are_octets (value_of a.bits) o.bits (octets_width (value_of a.bits) o.bits o.accepted) in
     let l = open_length_bits a.bits a.accepted in
     let same : o.rest ≡ c.first = c.elements ∙ ap (λ (x : List Element). c.first ++ x) c.then.0 ∙ append-nil c.first in
-    subst (λ (ms : List Member). OpenElements ms es × (map is_some ms ≡ true ∷ present)) c.then.1 (
+    subst (λ (ms : List Member). LooseOpens ms es × (map is_some ms ≡ true ∷ present)) c.then.1 (
       (
         a.bits,
         c.first,
@@ -277,8 +314,8 @@ section_plan = ask kind.small (λ b. ask (kind.additions (value_of b + 1)) (λ p
 count_of : (members : List Member) (n : ℕ) → 1 ≤ length members → n ≡ length members - 1 → length members ≡ n + 1
 count_of members n some e = omega (arith, some, e)
 
-pub follows_section : Follows SectionElements section_plan
-follows_section = record {
+follows_loose : Follows LooseSection section_plan
+follows_loose = record {
   asked = λ members es s.
       let h = small_of (length members - 1) s.0 s.5 in
       let count = count_of members (value_of s.0) s.2 h.reads in
@@ -314,3 +351,9 @@ follows_section = record {
 
     less_one : (m n : ℕ) → m ≡ n + 1 → n ≡ m - 1
     less_one m n e = omega (arith, e)
+
+pub follows_section : Follows SectionElements section_plan
+follows_section = record {
+  asked = λ members es s. follows_loose.asked members es (to_loose members es s);
+  spelled = λ members es path. from_loose members es (follows_loose.spelled members es path);
+}

@@ -14,26 +14,8 @@ use Rattle.per_types.specs.declared.index.EnumIndex.TheVariants.{Root, Added}
 use Rattle.per_types.specs.Kinds as kind
 use Rattle.per_types.specs.Kinds.{Kind, width, fault, Fault, at_once, first_bit, root_width, is_last, oid_fault}
 use Rattle.per_types.specs.Stops.{IsShort}
-use Rattle.per_types.specs.Reading.{Gives, mark_at, small_at, added_at, root_at, enum_at, length_at, octets_at, oid_length_at, oid_at, open_length_at, open_at}
-use Rattle.per_types.proofs.Elementwise.{Prefix, prefix_high, prefix_low, prefix_length, one_bit_value, short_step, ok_step, bad_step, once_step}
-
--- ---- marks
-
-mark_sound : (b : List Bool) → fault kind.mark b ≡ None
-unfolding fault
-mark_sound b = refl
-
-mark_width : width kind.mark ≡ 1
-unfolding width
-mark_width = refl
-
-pub mark_short : (p : Part) (e : Refusal) → IsShort p 1 e → mark_at p ≡ Err (e, p)
-unfolding mark_at
-mark_short p e s = rw (short_step kind.mark p 1 e mark_width s) refl
-
-pub mark_ok : (p : Part) (n : ℕ) → Prefix 1 p n → mark_at p ≡ Ok (eqb n 1, behind p 1)
-unfolding mark_at
-mark_ok p n h = rw (ok_step kind.mark p 1 mark_width h.enough (mark_sound (take 1 p.bits)), h.reads, one_bit_value (take 1 p.bits) (prefix_length 1 p h.enough)) refl
+use Rattle.per_types.specs.inner.Reading.{Gives, truth_at, small_at, added_at, root_at, enum_at, length_at, octets_at, oid_length_at, oid_at, open_length_at, open_at}
+use Rattle.per_types.proofs.Elementwise.{Prefix, prefix_high, prefix_low, short_step, ok_step, bad_step, once_step}
 
 -- ---- enumerations
 
@@ -62,19 +44,19 @@ module _ (roots w : ℕ) (same : w ≡ root_width roots) where
   unfolding root_at
   root_ok p n h lt = rw (ok_step (kind.root roots) p w root_is h.enough (root_low p n h lt), h.reads) refl
 
-pub enum_refused : (roots : ℕ) (p : Part) (e : Refusal) (q : Part) → mark_at p ≡ Err (e, q) → enum_at roots p ≡ Err (e, q)
+pub enum_refused : (roots : ℕ) (p : Part) (e : Refusal) (q : Part) → truth_at p ≡ Err (e, q) → enum_at roots p ≡ Err (e, q)
 unfolding enum_at
 enum_refused roots p e q m = rw m refl
 
-pub enum_added : (roots : ℕ) (p q new : Part) (n : ℕ) → mark_at p ≡ Ok (true, q) → small_at q ≡ Ok (n, new) → enum_at roots p ≡ Ok (Added n, new)
+pub enum_added : (roots : ℕ) (p q new : Part) (n : ℕ) → truth_at p ≡ Ok (true, q) → small_at q ≡ Ok (n, new) → enum_at roots p ≡ Ok (Added n, new)
 unfolding enum_at added_at
 enum_added roots p q new n m s = rw (m, s) refl
 
-pub enum_unadded : (roots : ℕ) (p q : Part) (e : Refusal) (new : Part) → mark_at p ≡ Ok (true, q) → small_at q ≡ Err (e, new) → enum_at roots p ≡ Err (e, new)
+pub enum_unadded : (roots : ℕ) (p q : Part) (e : Refusal) (new : Part) → truth_at p ≡ Ok (true, q) → small_at q ≡ Err (e, new) → enum_at roots p ≡ Err (e, new)
 unfolding enum_at added_at
 enum_unadded roots p q e new m s = rw (m, s) refl
 
-pub enum_root : (roots : ℕ) (p q : Part) (r : Result EnumIndex Refusal) (new : Part) → mark_at p ≡ Ok (false, q) → Gives (λ i. i) r (root_at roots q) new → Gives (λ i. i) r (enum_at roots p) new
+pub enum_root : (roots : ℕ) (p q : Part) (r : Result EnumIndex Refusal) (new : Part) → truth_at p ≡ Ok (false, q) → Gives (λ i. i) r (root_at roots q) new → Gives (λ i. i) r (enum_at roots p) new
 unfolding enum_at
 enum_root roots p q (Ok i) new m g = rw m g
 enum_root roots p q (Err e) new m g = rw m g
@@ -173,7 +155,7 @@ pub open_refused : (p : Part) (e : Refusal) (q : Part) → open_length_at p ≡ 
 unfolding open_at
 open_refused p e q l = rw l refl
 
-pub open_gives : (p q : Part) (n : ℕ) (r : Result Part Refusal) (new : Part) → open_length_at p ≡ Ok (n, q) → IsOctetsTaken q n r new → Gives (λ o. octets_of o.bits) r (open_at p) new
+pub open_gives : (p q : Part) (n : ℕ) (r : Result Part Refusal) (new : Part) → open_length_at p ≡ Ok (n, q) → IsOctetsTaken q n r new → Gives (λ o. o) r (open_at p) new
 unfolding open_at
 open_gives p q n (Ok o) new l t = rw (l, ok_step (kind.string_octets n) q (8 * n) (octets_width n) t.ok.0 (octets_sound n (take (8 * n) q.bits)), t.ok.1, t.ok.2) refl
 open_gives p q n (Err e) new l t = rw (l, short_step (kind.string_octets n) q (8 * n) e (octets_width n) t.short.0, t.short.1) refl
@@ -195,7 +177,7 @@ unfolding fault
 oid_fault_is q n f h = h
 
 pub oid_bad : (p q : Part) (n : ℕ) (f : Fault) → oid_length_at p ≡ Ok (n, q) → 8 * n ≤ length q.bits → oid_fault true 0 (octets_of (take (8 * n) q.bits)) ≡ Some f
-    → oid_at p ≡ Err (record { place = q.start + f.behind; reason = f.reason; value = f.value }, q)
+    → oid_at p ≡ Err (record { place = q.start + f.offset; reason = f.reason; value = f.value }, q)
 unfolding oid_at
 oid_bad p q n f l enough h = rw (l, bad_step (kind.oid_octets n) q (8 * n) f (oid_octets_width n) enough (oid_fault_is q n (Some f) h)) refl
 
@@ -228,7 +210,7 @@ last_is os i count e h =
     none (x ∷ xs) l = absurd (omega arith)
 
 module _ (os : List ℕ) (count i o : ℕ) (begins : Bool) (e : count ≡ length os) (h : i < count) (at : slice_get os i ≡ Some o) where
-  pub break_here : (begins && eqb o 128 || eqb (i + 1) count && leb 128 o) ≡ true → oid_fault begins i (drop i os) ≡ Some (record { behind = 8 * i; reason = BadOid; value = o })
+  pub break_here : (begins && eqb o 128 || eqb (i + 1) count && leb 128 o) ≡ true → oid_fault begins i (drop i os) ≡ Some (record { offset = 8 * i; reason = BadOid; value = o })
   break_here bad = rw (octet_then os i o at, last_is os i count e h, bad) refl
 
   pub break_later : (begins && eqb o 128 || eqb (i + 1) count && leb 128 o) ≡ false → oid_fault begins i (drop i os) ≡ oid_fault (ltb o 128) (i + 1) (drop (i + 1) os)
@@ -254,10 +236,10 @@ ahead_bits : (q f o : Part) (n : ℕ) → IsAhead q f o n → take (8 * n) q.bit
 ahead_bits q f o n a = ap (λ (x : Part). x.bits) (sym (ahead_octets q f o n a))
 
 module _ (p q f o : Part) (n : ℕ) (l : oid_length_at p ≡ Ok (n, q)) (a : IsAhead q f o n) where
-  pub oid_breaks : (place i v w : ℕ) → place ≡ q.start → w ≡ v → oid_fault true 0 (octets_of o.bits) ≡ Some (record { behind = 8 * i; reason = BadOid; value = v })
+  pub oid_breaks : (place i v w : ℕ) → place ≡ q.start → w ≡ v → oid_fault true 0 (octets_of o.bits) ≡ Some (record { offset = 8 * i; reason = BadOid; value = v })
       → oid_at p ≡ Err (record { place = place + 8 * i; reason = BadOid; value = w }, q)
   oid_breaks place i v w e g h =
-      rw (e, g) (oid_bad p q n (record { behind = 8 * i; reason = BadOid; value = v }) l (ahead_enough q f o n a) (ap (λ (b : List Bool). oid_fault true 0 (octets_of b)) (ahead_bits q f o n a) ∙ h))
+      rw (e, g) (oid_bad p q n (record { offset = 8 * i; reason = BadOid; value = v }) l (ahead_enough q f o n a) (ap (λ (b : List Bool). oid_fault true 0 (octets_of b)) (ahead_bits q f o n a) ∙ h))
 
   pub oid_is : n ≢ 0 → oid_fault true 0 (octets_of o.bits) ≡ None → IsOid (octets_of o.bits)
   oid_is some h =

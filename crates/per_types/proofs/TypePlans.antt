@@ -8,14 +8,14 @@ use Rattle.per_types.specs.Kinds as kind
 use Rattle.per_types.specs.Kinds.{first_bit, Element, element}
 use Rattle.per_types.specs.Types.{Tree, truth, number, text, bytes, root, added, record_of, Fields, no_fields, field, absent, Ty, boolean, integer, characters, octet_string, relative_oid, enumerated, format, sequence, Components, no_components, required, optional, default, presence_count}
 use Rattle.per_types.specs.Spelling.{Elements, Present, MoreElements, SectionElements, mark_elements}
-use Rattle.per_types.specs.Reading.{index_tree}
+use Rattle.per_types.specs.inner.Reading.{index_tree}
 use Rattle.per_types.proofs.Plans.{Plan, done, ask, chain, Path, Follows}
-use Rattle.per_types.proofs.Leaves.{asked, chained, path_chain, truth_plan, follows_truth, whole_plan, follows_whole, presence_plan, follows_presence, text_plan, follows_text, format_plan, follows_format, accepted_mark, mark_bit}
+use Rattle.per_types.proofs.Leaves.{asked, chained, path_chain, truth_plan, follows_truth, whole_plan, follows_whole, presence_plan, follows_presence, text_plan, follows_text, format_plan, follows_format, accepted_truth, truth_bit}
 use Rattle.per_types.proofs.Strings.{string_plan, follows_string, oid_plan, follows_oid, EnumElements, enum_plan, follows_enum, section_plan, follows_section, path_last}
 
 abbrev pub extended_plan : Bool → Plan Bool
 extended_plan false = done false
-extended_plan true = ask kind.mark (λ b. done (first_bit b))
+extended_plan true = ask kind.truth (λ b. done (first_bit b))
 
 abbrev pub more_plan : Bool → Plan (Option (List Member))
 more_plan false = done None
@@ -108,7 +108,7 @@ more_asked true (Some members) es s = path_last section_plan (λ ms. Some ms) es
 mark_asked : (marked : Bool) (more : Option (List Member)) (es : List Element) → MoreElements marked more es → Path (extended_plan marked) (mark_elements marked more) (is_some more)
 mark_asked false None es s = (refl, refl)
 mark_asked false (Some members) es s = absurd s
-mark_asked true more es s = (refl, accepted_mark (is_some more), (refl, refl))
+mark_asked true more es s = (refl, accepted_truth (is_some more), (refl, refl))
 
 more_spelled : (marked extended : Bool) (a es : List Element) (more : Option (List Member)) → Path (extended_plan marked) a extended → Path (more_plan extended) es more → MoreElements marked more es × (a ≡ mark_elements marked more)
 more_spelled marked false a es None mark path = (path.0, unmarked marked a mark)
@@ -116,8 +116,8 @@ more_spelled marked false a es None mark path = (path.0, unmarked marked a mark)
     unmarked : (m : Bool) (d : List Element) → Path (extended_plan m) d false → d ≡ mark_elements m None
     unmarked false d p = p.0
     unmarked true d p =
-        let e = asked kind.mark (λ b. done (first_bit b)) d false p in
-        e.elements ∙ rw e.path.0 (ap (λ (x : List Bool). element kind.mark x ∷ []) (mark_bit e.bits e.accepted ∙ ap (λ (x : Bool). x ∷ []) e.path.1))
+        let e = asked kind.truth (λ b. done (first_bit b)) d false p in
+        e.elements ∙ rw e.path.0 (ap (λ (x : List Bool). element kind.truth x ∷ []) (truth_bit e.bits e.accepted ∙ ap (λ (x : Bool). x ∷ []) e.path.1))
 more_spelled marked false a es (Some members) mark path = absurd (let h = path.1 in cc)
 more_spelled false true a es more mark path = absurd (let h = mark.1 in cc)
 more_spelled true true a es None mark path = absurd (none (mapped SectionElements section_plan (λ ms. Some ms) es None follows_section path))
@@ -126,10 +126,10 @@ more_spelled true true a es None mark path = absurd (none (mapped SectionElement
     none m = let h = m.image in cc
 more_spelled true true a es (Some members) mark path =
     let m = mapped SectionElements section_plan (λ ms. Some ms) es (Some members) follows_section path in
-    let e = asked kind.mark (λ b. done (first_bit b)) a true mark in
+    let e = asked kind.truth (λ b. done (first_bit b)) a true mark in
     let same : m.value ≡ members = some_is m.value members m.image in (
       subst (λ (ms : List Member). SectionElements ms es) same m.spelled,
-      e.elements ∙ rw e.path.0 (ap (λ (x : List Bool). element kind.mark x ∷ []) (mark_bit e.bits e.accepted ∙ ap (λ (x : Bool). x ∷ []) e.path.1)),
+      e.elements ∙ rw e.path.0 (ap (λ (x : List Bool). element kind.truth x ∷ []) (truth_bit e.bits e.accepted ∙ ap (λ (x : Bool). x ∷ []) e.path.1)),
     )
   where
     some_is : (x y : List Member) → Some x ≡ Some y → x ≡ y

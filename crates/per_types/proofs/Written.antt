@@ -1,22 +1,23 @@
 -- What writers append is spelled so.
-use Rattle.std.proofs.Common.{◌≡◌, ℕ, suc, ◌+◌, ◌-◌, ◌*◌, ◌/◌, ◌%◌, ◌^◌, ◌<◌, ◌≤◌, Bool, true, false, nat_eq, List, [], ◌∷◌, ◌++◌, length, map, None, Some, Result, Ok, Err, refl, ap, sym, subst, ◌∙◌, add-one, append-nil, append_assoc, arith}
-use Rattle.std.specs.Prelude.{FitsSigned, OnOk, OnErr, is_some, slice_index, ℤ, pos, unsigned_abs, ◌-ℤ◌, ◌+ℤ◌, ◌≤ℤ◌}
+use Rattle.std.proofs.Common.{◌≡◌, ℕ, suc, ◌+◌, ◌-◌, ◌*◌, ◌/◌, ◌%◌, ◌^◌, ◌<◌, ◌≤◌, Bool, true, false, nat_eq, List, [], ◌∷◌, ◌++◌, length, Result, Ok, Err, refl, ap, sym, subst, ◌∙◌, add-one, append-nil, arith}
+use Rattle.std.specs.Prelude.{FitsSigned, OnOk, OnErr, slice_index, ℤ, pos, unsigned_abs, ◌-ℤ◌, ◌+ℤ◌, ◌≤ℤ◌}
 use Rattle.std.specs.List.{Contains}
 use Rattle.std.specs.Int.{from_bool}
 use Rattle.std.proofs.lemmas.Int.{ints}
 use Rattle.std.proofs.Common.{w64}
 use Rattle.std.proofs.Math.Nat.{mod-eq_of_lt, div-eq_of_lt}
 use Rattle.std.proofs.lemmas.List.{length-append}
-use Rattle.per_bits.specs.Bits.{Part, digits, value_of, octet_bits, octets_of}
-use Rattle.per_bits.specs.Parts.{Opens, Member, Section, IsOid}
+use Rattle.per_bits.specs.Bits.{Part, digits, value_of, octet_bits, octets_of, room_bits}
+use Rattle.per_bits.specs.Parts.{Member, Section, IsOid}
 use Rattle.per_bits.proofs.Digits.{length_digits, value_digits, digits_low}
 use Rattle.per_bits.proofs.Octets.{octet_bits_of, are_octets_of}
 use Rattle.per_types.specs.Kinds as kind
-use Rattle.per_types.specs.Kinds.{Element, element, bits_of, alphabet, whole_width, root_width, width_of}
-use Rattle.per_types.specs.Spelling.{TruthElements, WholeElements, PresenceElements, CharacterElements, SmallElements, LengthElements, StringElements, OidElements, RootElements, AddedElements, FormatElements, OpenElements, SectionElements}
-use Rattle.per_types.specs.Writing.{Writes, MarkElements}
+use Rattle.per_types.specs.Kinds.{Element, element, bits_of, alphabet, span, whole_width, root_width, width_of}
+use Rattle.per_types.specs.Spelling.{TruthElements, WholeElements, PresenceElements, CharacterElements, SmallElements, LengthElements, StringElements, OidElements, RootElements, AddedElements, FormatElements, section_cut, SectionElements}
+use Rattle.per_types.specs.Writing.{AppendsSpelling}
+use Rattle.per_types.proofs.Cuts.{section_bits_of, section_is_spelled}
 use Rattle.per_types.proofs.Elementwise.{span_is}
-use Rattle.per_types.proofs.Widths.{width_enough, width_least}
+use Rattle.per_types.proofs.Widths.{width_enough, width_least, has_width}
 use Rattle.std.proofs.lemmas.Grind.{pow_more}
 
 -- elements that spell something have these bits
@@ -27,7 +28,7 @@ pub record Spelled (Is : List Element → Type 0) (b : List Bool) : Type 0 where
 
 -- What appends the bits of such elements, or nothing where they don't fit, writes them.
 pub written : {X E : Type 0} (Is : List Element → Type 0) (old new b : List Bool) (n : ℕ) (r : Result X E) → Spelled Is b → length b ≡ n
-    → OnOk r ((length old + n ≤ 1120) × (new ≡ old ++ b)) → OnErr r ((1120 < length old + n) × (new ≡ old)) → Writes Is old r new
+    → OnOk r ((length old + n ≤ room_bits) × (new ≡ old ++ b)) → OnErr r ((room_bits < length old + n) × (new ≡ old)) → AppendsSpelling Is old r new
 written Is old new b n (Ok x) s long ok full =
     let same : length (bits_of s.elements) ≡ length b = ap length s.bits in
     (s.elements, s.spell, omega arith, ok.1 ∙ ap (λ l. old ++ l) (sym s.bits))
@@ -54,9 +55,6 @@ one_bit false n e = rw e refl
 
 pub truth_spelled : (b : Bool) (n : ℕ) → n ≡ from_bool b → Spelled (TruthElements b) (digits 1 n)
 truth_spelled b n e = record { elements = element kind.truth (b ∷ []) ∷ []; spell = refl; bits = sym (one_bit b n e) }
-
-pub mark_spelled : (b : Bool) (n : ℕ) → n ≡ from_bool b → Spelled (MarkElements b) (digits 1 n)
-mark_spelled b n e = record { elements = element kind.mark (b ∷ []) ∷ []; spell = refl; bits = sym (one_bit b n e) }
 
 pub small_spelled : (n m : ℕ) → m ≡ n → n ≤ 63 → Spelled (SmallElements n) (digits 7 m)
 small_spelled n m e few =
@@ -105,7 +103,7 @@ whole_spelled low high v width n wide above below e small = record {
     record {
       above = above;
       below = below;
-      width = length_digits width n ∙ wide;
+      width = has_width (span low high) (length (digits width n)) (length_digits width n ∙ wide);
       reads = ap (λ k. low +ℤ pos k) (value_digits width n ∙ mod-eq_of_lt small ∙ e) ∙ whole_sum_is low v above;
     },
     refl,
@@ -127,17 +125,17 @@ format_spelled known v m e small there =
     let reads : value_of (digits 8 v) ≡ v = value_digits 8 v ∙ mod-eq_of_lt small in
     let P : ℕ → Type 0 = λ k. Contains known k in
     record {
-      elements = element (kind.identifier known) (digits 8 v) ∷ [];
+      elements = element (kind.format known) (digits 8 v) ∷ [];
       spell = (digits 8 v, length_digits 8 v, subst P (sym reads) there, sym reads, refl);
-      bits = alone (kind.identifier known) (digits 8 v) ∙ ap (digits 8) (sym e);
+      bits = alone (kind.format known) (digits 8 v) ∙ ap (digits 8) (sym e);
     }
 
 pub root_spelled : (roots i width m : ℕ) → width ≡ root_width roots → i < roots → i < 2 ^ width → m ≡ i → Spelled (RootElements roots i) (digits (width + 1) m)
 root_spelled roots i width m wide known small e = record {
-  elements = element kind.mark (false ∷ []) ∷ element (kind.root roots) (digits width i) ∷ [];
+  elements = element kind.truth (false ∷ []) ∷ element (kind.root roots) (digits width i) ∷ [];
   spell = (
     digits width i,
-    record { width = length_digits width i ∙ wide; known = known; reads = value_digits width i ∙ mod-eq_of_lt small },
+    record { width = has_width (roots - 1) (length (digits width i)) (length_digits width i ∙ wide); known = known; reads = value_digits width i ∙ mod-eq_of_lt small },
     refl,
   );
   bits =
@@ -157,7 +155,7 @@ added_bits i few =
 
 pub added_spelled : (i m : ℕ) → i ≤ 63 → m ≡ 128 + i → Spelled (AddedElements i) (digits 8 m)
 added_spelled i m few e = record {
-  elements = element kind.mark (true ∷ []) ∷ element kind.small (false ∷ digits 6 i) ∷ [];
+  elements = element kind.truth (true ∷ []) ∷ element kind.small (false ∷ digits 6 i) ∷ [];
   spell = (false ∷ digits 6 i, (few, refl), refl);
   bits = ap (λ l. true ∷ l) (append-nil (false ∷ digits 6 i)) ∙ sym (added_bits i few) ∙ ap (digits 8) (sym e);
 }
@@ -193,7 +191,7 @@ string_long p q count m e whole = length-append (digits 8 m) p.bits ∙ omega (a
 -- the index of a root fits in the width of roots
 pub root_fits : (roots i width : ℕ) → roots < 256 → width ≡ root_width roots → i < roots → (i < 2 ^ width) × (width ≤ 8)
 root_fits roots i width small wide known =
-    let enough : roots - 1 < 2 ^ width_of (roots - 1) = width_enough (roots - 1) (omega arith) in
+    let enough : roots - 1 < 2 ^ width_of (roots - 1) = width_enough (roots - 1) in
     let least : width_of (roots - 1) ≤ 8 = width_least (roots - 1) 8 (omega arith) in
     (omega (arith, ap (λ k. 2 ^ k) wide), omega arith)
 
@@ -206,27 +204,7 @@ pub never_full : {X E : Type 0} (r : Result X E) (P Q : Type 0) → (P → ⊥) 
 never_full (Ok x) P Q never h = tt
 never_full (Err e) P Q never h = absurd (never h)
 
--- the elements of the open types of members
-pub opens_elements : (members : List Member) (b : List Bool) → Opens members b → Spelled (OpenElements members) b
-opens_elements [] b h = record { elements = []; spell = refl; bits = sym h }
-opens_elements (None ∷ members) b h = let more = opens_elements members b h in record { elements = more.elements; spell = more.spell; bits = more.bits }
-opens_elements (Some octets ∷ members) b (a, c, spelled, opens, is) =
-    let more = opens_elements members c opens in
-    record {
-      elements = element kind.open_length (false ∷ digits 7 (length octets)) ∷ element (kind.string_octets (length octets)) (octet_bits octets) ∷ more.elements;
-      spell = (false ∷ digits 7 (length octets), more.elements, spelled.some, (spelled.few, refl), spelled.each, more.spell, refl);
-      bits =
-          sym (append_assoc (false ∷ digits 7 (length octets)) (octet_bits octets) (bits_of more.elements))
-          ∙ ap (λ l. l ++ bits_of more.elements) (sym spelled.bits) ∙ ap (λ l. a ++ l) more.bits ∙ sym is;
-    }
-
+-- the elements of a section
 pub section_elements : (members : List Member) (b : List Bool) → Section members b → Spelled (SectionElements members) b
 section_elements members b h =
-    let more = opens_elements members h.spelled.1 h.spelled.3 in
-    record {
-      elements = element kind.small h.spelled.0 ∷ element (kind.additions (length members)) (map is_some members) ∷ more.elements;
-      spell = (h.spelled.0, more.elements, h.some, h.few, h.present, h.spelled.2, more.spell, refl);
-      bits =
-          sym (append_assoc h.spelled.0 (map is_some members) (bits_of more.elements))
-          ∙ ap (λ l. h.spelled.0 ++ map is_some members ++ l) more.bits ∙ sym h.spelled.4;
-    }
+    record { elements = section_cut members; spell = section_is_spelled members b h; bits = section_bits_of members b h }

@@ -2,5 +2,5 @@ pub mod Kinds
 pub mod Types
 pub mod Spelling
 pub mod Stops
-pub mod Reading
 pub mod Writing
+pub mod inner

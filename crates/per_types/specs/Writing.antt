@@ -1,22 +1,20 @@
--- What a writer of one kind does to a buffer: it appends the bits of the elements that spell its value, or
--- it appends nothing where they don't fit in 1120 bits, which is this project's size of a set of data.
--- Cited by each writer.
-use Rattle.std.specs.Prelude.{◌≡◌, ℕ, ◌+◌, ◌<◌, ◌≤◌, Bool, List, [], ◌∷◌, ◌++◌, length, Result, Ok, Err}
+-- What a writer of one kind does to a buffer: it appends the bits of the elements that spell its value, or it
+-- appends nothing where they don't fit in the room of a set of data, which is this project's profile. Cited by
+-- each writer.
+use Rattle.std.specs.Prelude.{◌≡◌, ℕ, ◌+◌, ◌<◌, ◌≤◌, Bool, List, ◌++◌, length, Result, Ok, Err}
 use Rattle.per_types.specs.declared.index.EnumIndex.{EnumIndex}
 use Rattle.per_types.specs.declared.index.EnumIndex.TheVariants.{Root, Added}
-use Rattle.per_types.specs.Kinds as kind
-use Rattle.per_types.specs.Kinds.{Element, element, bits_of}
+use Rattle.per_bits.specs.Bits.{room_bits}
+use Rattle.per_types.specs.Kinds.{Element, bits_of}
 use Rattle.per_types.specs.Spelling.{RootElements, AddedElements}
 
 -- On Ok the bits of such elements stand behind the old ones. On Err they would be too many, and the old
 -- ones stand as they stood.
-abbrev pub Writes : {X E : Type 0} → (List Element → Type 0) → List Bool → Result X E → List Bool → Type 0
-Writes Spelled old (Ok x) new = (es : List Element) × Spelled es × (length old + length (bits_of es) ≤ 1120) × (new ≡ old ++ bits_of es)
-Writes Spelled old (Err e) new = (es : List Element) × Spelled es × (1120 < length old + length (bits_of es)) × (new ≡ old)
-
--- an extension mark
-abbrev pub MarkElements : Bool → List Element → Type 0
-MarkElements v es = es ≡ element kind.mark (v ∷ []) ∷ []
+abbrev pub AppendsSpelling : {X E : Type 0} → (List Element → Type 0) → List Bool → Result X E → List Bool → Type 0
+AppendsSpelling Spelled old (Ok x) new =
+    (es : List Element) × Spelled es × (length old + length (bits_of es) ≤ room_bits) × (new ≡ old ++ bits_of es)
+AppendsSpelling Spelled old (Err e) new =
+    (es : List Element) × Spelled es × (room_bits < length old + length (bits_of es)) × (new ≡ old)
 
 -- an index of an extensible enumeration with so many roots
 abbrev pub EnumElements : ℕ → EnumIndex → List Element → Type 0

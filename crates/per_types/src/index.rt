@@ -1,4 +1,4 @@
-/// The value of an extensible enumeration (ITU-T X.691, clause 14).
+/// The value of an extensible enumeration (ITU-T X.691 (02/2021), clause 14).
 #[derive(Clone, Copy, PartialEq, Eq, Debug)]
 pub enum EnumIndex {
     /// The index of a root, counted from 0.

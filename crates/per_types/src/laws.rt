@@ -1,14 +1,12 @@
 //! What holds of all spellings and readings. Each function here does nothing: its contract is the law.
-ghost use Rattle.std.specs.Prelude.{◌≡◌, ◌↔◌, ℕ, ◌+◌, ◌-◌, ◌*◌, ◌^◌, ◌<◌, ◌≤◌, ℤ, ◌≤ℤ◌, Bool, true, false, List, [], ◌++◌, length, Ok};
+ghost use Rattle.std.specs.Prelude.{◌≡◌, ℕ, ◌<◌, ◌≤◌, ℤ, ◌≤ℤ◌, Bool, false, List, [], ◌++◌};
 ghost use Rattle.std.specs.List.{Contains};
-ghost use Rattle.per_bits.specs.Bits.{Part, front, behind, octets_of};
-ghost use Rattle.per_bits.specs.Parts.{Member, Section};
-ghost use Rattle.per_types.specs.Kinds.{Element, bits_of, width_of};
+ghost use Rattle.per_types.specs.Kinds.{IsLeastWidth, width_of};
 ghost use Rattle.per_types.specs.Types.{Ty, Tree};
-ghost use Rattle.per_types.specs.Spelling.{Elements, Spells, Canonical, TruthElements, WholeElements, PresenceElements, CharacterElements, SmallElements, LengthElements, StringElements, OidElements, FormatElements, SectionElements};
-ghost use Rattle.per_types.specs.Writing.{MarkElements, EnumElements};
-ghost use Rattle.per_types.specs.Stops.{Read, IsOnlyReading, HasValues};
-ghost use Rattle.per_types.specs.Reading.{truth_at, mark_at, enum_at, whole_at, presence_at, character_at, small_at, length_at, octets_at, oid_at, format_at, members_at, section_at, tree_at, string_at, object_at};
+ghost use Rattle.per_types.specs.Spelling.{Elements, Spells, Canonical, TruthElements, WholeElements, PresenceElements, CharacterElements, SmallElements, LengthElements, StringElements, OidElements, FormatElements, OpenElements, SectionElements};
+ghost use Rattle.per_types.specs.Writing.{EnumElements};
+ghost use Rattle.per_types.specs.Stops.{IsOnlyReading, HasValues};
+ghost use Rattle.per_types.specs.inner.Reading.{truth_at, enum_at, whole_at, presence_at, character_at, small_at, length_at, format_at, content_at, members_at, tree_at, string_at, object_at};
 
 /// No spelling begins another one of its type, and each stands for one value.
 pub fn spellings_are_apart()
@@ -28,11 +26,9 @@ pub fn types_are_read()
     ensures { (t : Ty) → HasValues t → IsOnlyReading (Elements false t) (tree_at t) }
 {}
 
-/// The same for each kind on its own. The octets of strings and object identifiers are those of the part
-/// that is read.
+/// The same for each kind on its own.
 pub fn kinds_are_read()
     ensures truth { IsOnlyReading TruthElements truth_at }
-    ensures mark { IsOnlyReading MarkElements mark_at }
     ensures enumeration { (roots : ℕ) → 1 ≤ roots → IsOnlyReading (EnumElements roots) (enum_at roots) }
     ensures whole { (low high : ℤ) → low ≤ℤ high → IsOnlyReading (WholeElements low high) (whole_at low high) }
     ensures presence { (n : ℕ) → IsOnlyReading (PresenceElements n) (presence_at n) }
@@ -42,20 +38,11 @@ pub fn kinds_are_read()
     ensures string { IsOnlyReading StringElements string_at }
     ensures object { IsOnlyReading OidElements object_at }
     ensures format { (known : List ℕ) (id : ℕ) → id < 256 → Contains known id → IsOnlyReading (FormatElements known) (format_at known) }
+    ensures open_type { IsOnlyReading OpenElements content_at }
     ensures section { IsOnlyReading SectionElements members_at }
-{}
-
-/// A part that a reader hands out stands where it was spelled: octets behind their length of eight bits,
-/// and a section at the cursor. Its bits are the octets or the section that were read.
-pub fn parts_are_in_place()
-    ensures string { (p o q : Part) → octets_at p ≡ Ok (o, q) → (string_at p ≡ Ok (octets_of o.bits, q)) × (o ≡ front (behind p 8) (length o.bits)) × (q ≡ behind p (8 + length o.bits)) }
-    ensures object { (p o q : Part) → oid_at p ≡ Ok (o, q) → (object_at p ≡ Ok (octets_of o.bits, q)) × (o ≡ front (behind p 8) (length o.bits)) × (q ≡ behind p (8 + length o.bits)) }
-    ensures section { (p o q : Part) → section_at p ≡ Ok (o, q) → (members : List Member) × (members_at p ≡ Ok (members, q)) × Section members o.bits × (o ≡ front p (length o.bits)) × (q ≡ behind p (length o.bits)) }
 {}
 
 /// A number needs the width that a reader asks for, and no less.
 pub fn widths_are_least()
-    ensures enough { (n : ℕ) → n < 2 ^ 64 → n < 2 ^ width_of n }
-    ensures least { (n w : ℕ) → n < 2 ^ w → width_of n ≤ w }
-    ensures most { (n : ℕ) → width_of n ≤ 64 }
+    ensures { (n : ℕ) → IsLeastWidth n (width_of n) }
 {}

@@ -1,5 +1,5 @@
 //! Readings worked out by hand from the encoding rules.
-ghost use Rattle.std.specs.Prelude.{◌≤◌};
+ghost use Rattle.std.specs.Prelude.{◌≤◌, length};
 
 use crate::{
     EnumIndex, read_additions, read_bool, read_char, read_enum, read_format, read_length,
@@ -60,7 +60,9 @@ fn character(octets: &[u8], len: u32) -> (Result<u8, Refusal>, u32) {
     (answer, c.place())
 }
 
-fn format(octets: &[u8], known: &[u8]) -> (Result<u8, Refusal>, u32) {
+fn format(octets: &[u8], known: &[u8]) -> (Result<u8, Refusal>, u32)
+    requires { 1 ≤ length known.now }
+{
     let mut c = Cursor::of(front(octets, 8));
     let answer = read_format(&mut c, known);
     (answer, c.place())
@@ -207,7 +209,7 @@ fn characters_and_formats(rt: HostRuntime) -> Result<(), Fail> {
     );
     // formats
     assert_eq!(rt; format(&[2], &[1, 2]), (Ok(2), 8));
-    assert_eq!(rt; format(&[3], &[1, 2]), (refused(0, Reason::Version, 3), 0));
+    assert_eq!(rt; format(&[3], &[1, 2]), (refused(0, Reason::Format, 3), 0));
     assert_eq!(rt; format(&[], &[2]), (refused(0, Reason::Short, 8), 0));
     Ok(())
 }

@@ -1,9 +1,10 @@
-//! Readers of strings of octets.
+//! Readers of strings of octets. The part that one hands out stands behind the eight bits of its length.
 ghost use Rattle.std.specs.Prelude.{◌≡◌, ◌*◌, ◌<◌, ◌≤◌, ◌≢◌, ◌==◌, ◌&&◌, ◌||◌, nat_le, true, IfOk, IfErr, IfSome, MatchOption, length};
 ghost use Rattle.per_bits.specs.Bits.{behind, front, octets_of};
 ghost use Rattle.per_types.specs.Kinds.{oid_fault};
-ghost use Rattle.per_types.specs.Stops.{IsShort};
-ghost use Rattle.per_types.specs.Reading.{Gives, octets_at, oid_at, oid_length_at, open_at, open_length_at};
+ghost use Rattle.per_types.specs.Spelling.{StringElements, OidElements, OpenElements};
+ghost use Rattle.per_types.specs.Stops.{IsShort, Reads};
+ghost use Rattle.per_types.specs.inner.Reading.{Gives, octets_at, oid_at, oid_length_at, open_at, open_length_at};
 
 use crate::readers::elements::{look, refusal, short, skip};
 use crate::readers::numbers::read_length;
@@ -11,7 +12,9 @@ use per_bits::{Cursor, Octs, Oid, Reason, Refusal};
 
 /// An octet string.
 pub fn read_octets<'a>(c: &mut Cursor<'a>) -> Result<Octs<'a>, Refusal>
-    ensures { Gives (λ o. o) result (octets_at c.old) c.new }
+    ensures reads { Reads StringElements (λ o. octets_of o.bits) c.old result c.new }
+    ensures part { IfOk result (λ o. o ≡ front (behind c.old 8) (length o.bits)) }
+    ensures exact { Gives (λ o. o) result (octets_at c.old) c.new }
 {
     let count = read_length(c)?;
     octets(c, count)
@@ -19,7 +22,9 @@ pub fn read_octets<'a>(c: &mut Cursor<'a>) -> Result<Octs<'a>, Refusal>
 
 /// A relative object identifier.
 pub fn read_oid<'a>(c: &mut Cursor<'a>) -> Result<Oid<'a>, Refusal>
-    ensures { Gives (λ o. o) result (oid_at c.old) c.new }
+    ensures reads { Reads OidElements (λ o. octets_of o.bits) c.old result c.new }
+    ensures part { IfOk result (λ o. o ≡ front (behind c.old 8) (length o.bits)) }
+    ensures exact { Gives (λ o. o) result (oid_at c.old) c.new }
 {
     let count = oid_length(c)?;
     let mut ahead = c.fork();
@@ -32,12 +37,14 @@ pub fn read_oid<'a>(c: &mut Cursor<'a>) -> Result<Oid<'a>, Refusal>
         });
     }
     skip(c, 8 * u32::from(count));
-    Ok(Oid::of(octs).unwrap())
+    Ok(Oid::known(octs))
 }
 
 /// The octets of an open type.
 pub fn read_open<'a>(c: &mut Cursor<'a>) -> Result<Octs<'a>, Refusal>
-    ensures { Gives (λ o. octets_of o.bits) result (open_at c.old) c.new }
+    ensures reads { Reads OpenElements (λ o. octets_of o.bits) c.old result c.new }
+    ensures part { IfOk result (λ o. o ≡ front (behind c.old 8) (length o.bits)) }
+    ensures exact { Gives (λ o. o) result (open_at c.old) c.new }
 {
     let count = open_length(c)?;
     octets(c, count)
@@ -50,7 +57,7 @@ fn octets<'a>(c: &mut Cursor<'a>, count: u8) -> Result<Octs<'a>, Refusal>
     ensures short { IfErr result (λ e. IsShort c.old (8 * count) e × (c.new ≡ c.old)) }
 {
     match c.take(8 * u32::from(count)) {
-        Ok(bits) => Ok(Octs::of(bits).unwrap()),
+        Ok(bits) => Ok(Octs::known(bits)),
         Err(e) => Err(short(e)),
     }
 }
@@ -89,7 +96,7 @@ fn open_length(c: &mut Cursor<'_>) -> Result<u8, Refusal>
 
 // The first octet that breaks the rule of object identifiers, with its index.
 fn first_break(octs: &Octs<'_>) -> Option<(u32, u8)>
-    ensures fault { MatchOption result (oid_fault true 0 (octets_of octs.now.bits) ≡ None) (λ x. oid_fault true 0 (octets_of octs.now.bits) ≡ Some (record { behind = 8 * x.0; reason = Reason.BadOid; value = x.1 })) }
+    ensures fault { MatchOption result (oid_fault true 0 (octets_of octs.now.bits) ≡ None) (λ x. oid_fault true 0 (octets_of octs.now.bits) ≡ Some (record { offset = 8 * x.0; reason = Reason.BadOid; value = x.1 })) }
     ensures within { IfSome result (λ x. x.0 < 127) }
 {
     let count = octs.count();

@@ -6,8 +6,8 @@ ghost use Rattle.per_types.specs.Writing.{IsIndex};
 
 use super::*;
 use crate::{
-    read_additions, read_bool, read_char, read_enum, read_format, read_length, read_mark,
-    read_octets, read_oid, read_presence, read_small, read_whole,
+    read_additions, read_bool, read_char, read_enum, read_format, read_length, read_octets,
+    read_oid, read_presence, read_small, read_whole,
 };
 use per_bits::{Cursor, Refusal};
 use std::test::Fail;
@@ -20,7 +20,7 @@ fn begun() -> BitBuf {
 }
 
 // What stands in the buffer behind these.
-fn behind(buffer: &BitBuf) -> Cursor<'_> {
+fn written(buffer: &BitBuf) -> Cursor<'_> {
     let mut c = Cursor::of(Bits::of(buffer.octets()));
     let _ = c.take(3);
     c
@@ -29,31 +29,31 @@ fn behind(buffer: &BitBuf) -> Cursor<'_> {
 fn any(value: i64) -> (Result<i64, Refusal>, u32) {
     let mut buffer = begun();
     let _ = write_whole(&mut buffer, value, i64::MIN, i64::MAX, 64);
-    let read = read_whole(&mut behind(&buffer), i64::MIN, i64::MAX, 64);
+    let read = read_whole(&mut written(&buffer), i64::MIN, i64::MAX, 64);
     (read, buffer.len())
 }
 
 fn way(value: i16) -> (Result<i64, Refusal>, u32) {
     let mut buffer = begun();
     let _ = write_whole(&mut buffer, i64::from(value), -32768, 32767, 16);
-    let read = read_whole(&mut behind(&buffer), -32768, 32767, 16);
+    let read = read_whole(&mut written(&buffer), -32768, 32767, 16);
     (read, buffer.len())
 }
 
 fn only_five() -> (Result<i64, Refusal>, u32) {
     let mut buffer = begun();
     let _ = write_whole(&mut buffer, 5, 5, 5, 0);
-    let read = read_whole(&mut behind(&buffer), 5, 5, 0);
+    let read = read_whole(&mut written(&buffer), 5, 5, 0);
     (read, buffer.len())
 }
 
 fn truth(value: bool) -> (Result<bool, Refusal>, Result<bool, Refusal>, u32) {
     let mut buffer = begun();
     let _ = write_bool(&mut buffer, value);
-    let _ = write_mark(&mut buffer, !value);
-    let mut c = behind(&buffer);
+    let _ = write_bool(&mut buffer, !value);
+    let mut c = written(&buffer);
     let first = read_bool(&mut c);
-    let second = read_mark(&mut c);
+    let second = read_bool(&mut c);
     (first, second, buffer.len())
 }
 
@@ -62,7 +62,7 @@ fn small(value: u8) -> (Result<u8, Refusal>, u32)
 {
     let mut buffer = begun();
     let _ = write_small(&mut buffer, value);
-    (read_small(&mut behind(&buffer)), buffer.len())
+    (read_small(&mut written(&buffer)), buffer.len())
 }
 
 fn count(value: u8) -> (Result<u8, Refusal>, u32)
@@ -70,7 +70,7 @@ fn count(value: u8) -> (Result<u8, Refusal>, u32)
 {
     let mut buffer = begun();
     let _ = write_length(&mut buffer, value);
-    (read_length(&mut behind(&buffer)), buffer.len())
+    (read_length(&mut written(&buffer)), buffer.len())
 }
 
 fn presence(value: u16, n: u32) -> (Result<u16, Refusal>, u32)
@@ -79,7 +79,7 @@ fn presence(value: u16, n: u32) -> (Result<u16, Refusal>, u32)
 {
     let mut buffer = begun();
     let _ = write_presence(&mut buffer, value, n);
-    (read_presence(&mut behind(&buffer), n), buffer.len())
+    (read_presence(&mut written(&buffer), n), buffer.len())
 }
 
 fn character(value: u8) -> (Result<u8, Refusal>, u32)
@@ -87,7 +87,7 @@ fn character(value: u8) -> (Result<u8, Refusal>, u32)
 {
     let mut buffer = begun();
     let _ = write_char(&mut buffer, value);
-    (read_char(&mut behind(&buffer)), buffer.len())
+    (read_char(&mut written(&buffer)), buffer.len())
 }
 
 fn last_character() -> (Result<u8, Refusal>, u32) {
@@ -99,13 +99,13 @@ fn kind(value: EnumIndex) -> (Result<EnumIndex, Refusal>, u32)
 {
     let mut buffer = begun();
     let _ = write_enum(&mut buffer, value, 13, 4);
-    (read_enum(&mut behind(&buffer), 13, 4), buffer.len())
+    (read_enum(&mut written(&buffer), 13, 4), buffer.len())
 }
 
 fn format(value: u8) -> (Result<u8, Refusal>, u32) {
     let mut buffer = begun();
     let _ = write_format(&mut buffer, value, &[value]);
-    (read_format(&mut behind(&buffer), &[value]), buffer.len())
+    (read_format(&mut written(&buffer), &[value]), buffer.len())
 }
 
 #[test]
@@ -143,7 +143,7 @@ fn strings_are_read_as_written(rt: HostRuntime) -> Result<(), Fail> {
     let all = Octs::of(Bits::of(&octets)).ok_or("127 octets")?;
     assert_eq!(rt; write_octets(&mut buffer, all), Ok(()));
     assert_eq!(rt; buffer.len(), 1027);
-    let read = read_octets(&mut behind(&buffer)).ok().ok_or("a string")?;
+    let read = read_octets(&mut written(&buffer)).ok().ok_or("a string")?;
     assert!(rt; read.bits().octets_equal(&octets));
     let more = Octs::of(Bits::of(&[7; 11])).ok_or("11 octets")?;
     assert_eq!(rt; write_octets(&mut buffer, more), Err(Full));
@@ -152,7 +152,7 @@ fn strings_are_read_as_written(rt: HostRuntime) -> Result<(), Fail> {
     let oid = Oid::of(octs).ok_or("an oid")?;
     let mut buffer = begun();
     assert_eq!(rt; write_oid(&mut buffer, oid), Ok(()));
-    let read = read_oid(&mut behind(&buffer)).ok().ok_or("an oid")?;
+    let read = read_oid(&mut written(&buffer)).ok().ok_or("an oid")?;
     assert!(rt; read.octs().bits().octets_equal(&[0x81, 0x05]));
     Ok(())
 }
@@ -169,7 +169,7 @@ fn sections_are_read_as_written(rt: HostRuntime) -> Result<(), Fail> {
     let mut buffer = begun();
     assert_eq!(rt; write_additions(&mut buffer, additions), Ok(()));
     assert_eq!(rt; buffer.len(), 90);
-    let read = read_additions(&mut behind(&buffer))
+    let read = read_additions(&mut written(&buffer))
         .ok()
         .ok_or("additions")?;
     assert_eq!(rt; read.count(), 64);

@@ -1,14 +1,10 @@
-use Rattle.std.proofs.Common.{◌≡◌, ◌-◌, ◌+◌, ◌∙◌, arith}
-use Rattle.per_bits.proofs.Places.{number_step, shifted_or, shifted_below}
+use Rattle.std.proofs.Common.{take, drop, ap, ◌∙◌, ◌%◌}
+use Rattle.per_bits.specs.Bits.{digits, value_of}
+use Rattle.per_bits.proofs.Places.{window_value}
 use Rattle.per_bits.proofs.numbers.number_at.Goals as goal
 
-pub loop-at-preserved : goal.loop-at-preserved
-loop-at-preserved c =
-    let far : (c.loop-at.at - c.args.start) + c.min-n.result ≡ c.loop-at.at + c.min-n.result - c.args.start = omega arith in
-    let joined = shifted_or c.loop-at.value (c.loop-at.at - c.args.start) c.min-n.result c.field.result (c.loop-at.invariant.3) (omega arith) c.field.ensures.below in
-    let below = shifted_below c.loop-at.value (c.loop-at.at - c.args.start) c.min-n.result c.field.result (c.loop-at.invariant.3) c.field.ensures.below in (
-      omega arith,
-      omega arith,
-      joined ∙ rw c.field.ensures.value (number_step c.args.octets.now c.args.start c.loop-at.at c.min-n.result c.loop-at.value (omega arith) (omega arith) (omega arith) (c.loop-at.invariant.2)),
-      rw (joined, ← far) below,
-    )
+pub returns-then-at-octets-clause-value : goal.returns-then-at-octets-clause-value
+returns-then-at-octets-clause-value c =
+    c.window_field.ensures.value
+    ∙ ap (λ w. value_of (take c.args.width (drop (c.args.start % 8) (digits 64 w)))) c.window_at.ensures.value
+    ∙ window_value c.args.octets.now c.args.start c.args.width c.if-at-octets.true c.if-width-le-WINDOW_WIDTH.true

@@ -9,11 +9,11 @@ use Rattle.per_bits.proofs.sections.is_section.Goals.{then-bit+in-Some, else-bit
 refused : {A : Type 0} → (A → ⊥) → (IsTrue false → A) × (A → IsTrue false)
 refused never = (λ h. absurd (cc), λ s. absurd (never s))
 
-pub returns-then-len-lt7 : goal.returns-then-len-lt7
-returns-then-len-lt7 c = refused (λ s. omega (arith, (section_parts s.0 c.args.bits.now.bits s.1).long))
+pub returns-then-len-lt-COUNT_BITS : goal.returns-then-len-lt-COUNT_BITS
+returns-then-len-lt-COUNT_BITS c = refused (λ s. omega (arith, (section_parts s.0 c.args.bits.now.bits s.1).long))
 
-pub returns-then-count-gt64 : goal.returns-then-count-gt64
-returns-then-count-gt64 c = refused (λ s. omega (arith, (section_parts s.0 c.args.bits.now.bits s.1).count, s.1.few))
+pub returns-then-count-gt-MOST_ADDITIONS : goal.returns-then-count-gt-MOST_ADDITIONS
+returns-then-count-gt-MOST_ADDITIONS c = refused (λ s. omega (arith, (section_parts s.0 c.args.bits.now.bits s.1).count, s.1.few))
 
 pub returns-then-len-count : goal.returns-then-len-count
 returns-then-len-count c = refused (λ s. omega (arith, (section_parts s.0 c.args.bits.now.bits s.1).count, (section_parts s.0 c.args.bits.now.bits s.1).long))

@@ -4,16 +4,16 @@ use Rattle.per_bits.specs.Bits.{Part, value_of, octets_of}
 use Rattle.per_bits.proofs.SectionLaws.{open_front, open_in_front}
 use Rattle.per_bits.proofs.sections.open_end.Goals as goal
 
-pub returns-then-len-lt8-clause-none : goal.returns-then-len-lt8-clause-none
-returns-then-len-lt8-clause-none c octets a rest h e =
+pub returns-then-len-lt-LENGTH_BITS-clause-none : goal.returns-then-len-lt-LENGTH_BITS-clause-none
+returns-then-len-lt-LENGTH_BITS-clause-none c octets a rest h e =
     omega (arith, (open_front octets a rest (drop c.args.place c.args.bits.now.bits) h e).long, ap (λ (p : Part). length p.bits) c.behind-rest.ensures.value)
 
 pub returns-then-octets-eq0-clause-none : goal.returns-then-octets-eq0-clause-none
 returns-then-octets-eq0-clause-none c octets a rest h e =
     omega (arith, (open_front octets a rest (drop c.args.place c.args.bits.now.bits) h e).some, ap (λ (p : Part). value_of (take 8 p.bits)) c.behind-rest.ensures.value)
 
-pub returns-then-octets-gt127-clause-none : goal.returns-then-octets-gt127-clause-none
-returns-then-octets-gt127-clause-none c octets a rest h e =
+pub returns-then-octets-gt-MOST_OCTETS-clause-none : goal.returns-then-octets-gt-MOST_OCTETS-clause-none
+returns-then-octets-gt-MOST_OCTETS-clause-none c octets a rest h e =
     omega (arith, (open_front octets a rest (drop c.args.place c.args.bits.now.bits) h e).few, ap (λ (p : Part). value_of (take 8 p.bits)) c.behind-rest.ensures.value)
 
 pub returns-then-len-size-clause-none : goal.returns-then-len-size-clause-none

@@ -1,4 +1,4 @@
-use Rattle.per_types.proofs.Decided.{only_truth, only_whole, only_presence, only_character, only_small, only_length, only_string, only_object, only_format, only_members, only_mark, only_enum}
+use Rattle.per_types.proofs.Decided.{only_truth, only_whole, only_presence, only_character, only_small, only_length, only_string, only_object, only_format, only_open, only_members, only_enum}
 use Rattle.per_types.proofs.laws.kinds_are_read.Goals as goal
 
 pub returns-clause-truth : goal.returns-clause-truth
@@ -28,11 +28,11 @@ returns-clause-object c = only_object
 pub returns-clause-format : goal.returns-clause-format
 returns-clause-format c = only_format
 
+pub returns-clause-open_type : goal.returns-clause-open_type
+returns-clause-open_type c = only_open
+
 pub returns-clause-section : goal.returns-clause-section
 returns-clause-section c = only_members
-
-pub returns-clause-mark : goal.returns-clause-mark
-returns-clause-mark c = only_mark
 
 pub returns-clause-enumeration : goal.returns-clause-enumeration
 returns-clause-enumeration c = only_enum

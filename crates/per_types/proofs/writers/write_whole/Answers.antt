@@ -9,7 +9,9 @@ use Rattle.per_types.proofs.Written.{written, whole_spelled, whole_fits, span_be
 use Rattle.per_types.proofs.writers.write_whole.Goals as goal
 
 pub put-requires-clause-narrow : goal.put-requires-clause-narrow
-put-requires-clause-narrow c = rw c.requires.width (width_most (unsigned_abs (c.args.high -ℤ c.args.low)))
+put-requires-clause-narrow c =
+    let span = span_below c.args.low c.args.high (ordered_by c.args.low c.args.value c.args.high c.requires.above c.requires.below) c.ranges.low c.ranges.high in
+    rw c.requires.width (width_most (unsigned_abs (c.args.high -ℤ c.args.low)) span)
 
 pub put-requires-clause-fits : goal.put-requires-clause-fits
 put-requires-clause-fits c =
@@ -18,8 +20,7 @@ put-requires-clause-fits c =
     let high = to_z-of_z w64 c.args.high c.ranges.high in
     let gap : c.abs_diff.result ≡ unsigned_abs (c.args.value -ℤ c.args.low) = c.abs_diff.ensures ∙ rw (value, low) refl in
     let within = whole_fits c.args.low c.args.high c.args.value c.requires.above c.requires.below in
-    let span = span_below c.args.low c.args.high (ordered_by c.args.low c.args.value c.args.high c.requires.above c.requires.below) c.ranges.low c.ranges.high in
-    let enough = width_enough (unsigned_abs (c.args.high -ℤ c.args.low)) span in
+    let enough = width_enough (unsigned_abs (c.args.high -ℤ c.args.low)) in
     rw c.requires.width (omega (arith, gap, within, enough))
 
 pub returns : goal.returns

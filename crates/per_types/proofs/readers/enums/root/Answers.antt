@@ -5,7 +5,7 @@ use Rattle.per_types.proofs.Stringwise.{root_short, root_above, root_ok}
 use Rattle.per_types.proofs.readers.enums.root.Goals as goal
 
 pub look-requires : goal.look-requires
-look-requires c = rw c.requires (width_most (c.args.roots - 1))
+look-requires c = rw c.requires (width_most (c.args.roots - 1) (omega arith))
 
 pub returns-in_err-n : goal.returns-in_err-n
 returns-in_err-n c =

@@ -1,5 +1,9 @@
 use Rattle.std.proofs.lemmas.Result.{err_from_is_err_and}
 use Rattle.per_types.proofs.Elementwise.{length_short, length_large, length_ok}
+use Rattle.std.proofs.Common.{Ok, Err}
+use Rattle.per_types.proofs.Decided.{gives_reads, only_length}
+use Rattle.per_types.specs.Spelling.{LengthElements}
+use Rattle.per_types.specs.inner.Reading.{length_at}
 use Rattle.per_types.proofs.readers.numbers.read_length.Goals as goal
 
 pub returns-in_err-n-clause-exact : goal.returns-in_err-n-clause-exact
@@ -12,3 +16,15 @@ returns-then-n-ge128-clause-exact c = rw c.refusal.ensures (length_large c.args.
 
 pub returns-clause-exact : goal.returns-clause-exact
 returns-clause-exact c = rw c.skip.ensures (length_ok c.args.c.now c.in_ok-n.n (record { enough = c.in_ok-n.ensures.ok.0; reads = c.in_ok-n.ensures.ok.1 }) c.if-n-ge128.false)
+
+pub returns-in_err-n-clause-reads : goal.returns-in_err-n-clause-reads
+returns-in_err-n-clause-reads c =
+    gives_reads LengthElements length_at only_length (λ v. v) c.args.c.now c.from_residual.result _ (returns-in_err-n-clause-exact c)
+
+pub returns-then-n-ge128-clause-reads : goal.returns-then-n-ge128-clause-reads
+returns-then-n-ge128-clause-reads c =
+    gives_reads LengthElements length_at only_length (λ v. v) c.args.c.now (Err _) _ (returns-then-n-ge128-clause-exact c)
+
+pub returns-clause-reads : goal.returns-clause-reads
+returns-clause-reads c =
+    gives_reads LengthElements length_at only_length (λ v. v) c.args.c.now (Ok _) _ (returns-clause-exact c)

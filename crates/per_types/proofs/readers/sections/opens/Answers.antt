@@ -10,7 +10,7 @@ returns-in_err-member c =
 
 pub loop-i-preserved : goal.loop-i-preserved
 loop-i-preserved c =
-    goes_more c.args.present.now.bits c.args.c.now c.loop-i.c c.member.new.c c.loop-i.i c.bit.result c.in_ok-member.ensures.0 c.bit.ensures.value c.in_ok-member.ensures.1 c.loop-i.invariant
+    goes_more c.args.present.now.bits c.args.c.now c.loop-i.c c.member.new.c c.loop-i.i c.bit.result _ c.bit.ensures.value c.in_ok-member.ensures c.loop-i.invariant
 
 pub returns : goal.returns
 returns c =

@@ -1,9 +1,10 @@
--- Reading as functions on bits, for the readers' contracts: each is a chain of judged elements. The laws
--- say that they give exactly what is spelled, and refuse exactly where nothing is. After ITU-T X.691,
--- unaligned variant, in this project's profile. Cited by each reader and by the laws.
+-- Reading as functions on bits: each is a chain of judged elements. Scaffolding, by which the proofs of the codec go
+-- on from one reader to the next: what a reader does is said by its clause `reads`, and the laws say that these
+-- functions answer exactly what is spelled, and refuse exactly where nothing is. Cited by the clauses `exact` of the
+-- readers and by the laws.
 use Rattle.std.specs.Prelude.{◌≡◌, ℕ, zero, suc, ◌+◌, ◌-◌, ◌*◌, ℤ, pos, ◌+ℤ◌, Bool, true, false, List, [], ◌∷◌, length, slice_index, Option, Some, None, Result, Ok, Err, if◌then◌else◌}
 use Rattle.per_bits.specs.Bits.{Part, value_of, octets_of, front}
-use Rattle.per_bits.specs.Parts.{Member}
+use Rattle.per_bits.specs.Parts.{Member, members_of}
 use Rattle.per_bits.specs.declared.refusals.Refusal.{Refusal}
 use Rattle.per_types.specs.declared.index.EnumIndex.{EnumIndex}
 use Rattle.per_types.specs.declared.index.EnumIndex.TheVariants.{Root, Added}
@@ -21,11 +22,6 @@ abbrev pub ◌>>=◌ : {A B : Type 0} → Read A → (A × Part → Read B) → 
 abbrev pub Gives : {X Y : Type 0} → (X → Y) → Result X Refusal → Read Y → Part → Type 0
 Gives view (Ok x) read new = read ≡ Ok (view x, new)
 Gives view (Err e) read new = read ≡ Err (e, new)
-
-unfoldable pub mark_at : Part → Read Bool
-mark_at p = do
-  b ← element_at kind.mark p
-  Ok (first_bit b.0, b.1)
 
 unfoldable pub truth_at : Part → Read Bool
 truth_at p = do
@@ -97,12 +93,12 @@ root_at roots p = do
 
 unfoldable pub enum_at : ℕ → Part → Read EnumIndex
 enum_at roots p = do
-  extended ← mark_at p
+  extended ← truth_at p
   if extended.0 then added_at extended.1 else root_at roots extended.1
 
 unfoldable pub format_at : List ℕ → Part → Read ℕ
 format_at known p = do
-  b ← element_at (kind.identifier known) p
+  b ← element_at (kind.format known) p
   Ok (value_of b.0, b.1)
 
 unfoldable pub open_length_at : Part → Read ℕ
@@ -110,35 +106,40 @@ open_length_at p = do
   b ← element_at kind.open_length p
   Ok (value_of b.0, b.1)
 
--- an open type's octets
-unfoldable pub open_at : Part → Read (List ℕ)
+-- the part that has the octets of an open type
+unfoldable pub open_at : Part → Read Part
 open_at p = do
   n ← open_length_at p
   b ← element_at (kind.string_octets n.0) n.1
-  Ok (octets_of b.0, b.1)
+  Ok (front n.1 (8 * n.0), b.1)
+
+-- its octets
+unfoldable pub content_at : Part → Read (List ℕ)
+content_at p = do
+  o ← open_at p
+  Ok (octets_of o.0.bits, o.1)
 
 -- the presence bits of a section of n additions
 unfoldable pub additions_at : ℕ → Part → Read (List Bool)
 additions_at n p = element_at (kind.additions n) p
 
--- an addition, which is there where its presence bit is 1
-unfoldable pub member_at : Bool → Part → Read Member
-member_at false p = Ok (None, p)
+-- goes over an addition, which is there where its presence bit is 1
+unfoldable pub member_at : Bool → Part → Read (Unit {0})
+member_at false p = Ok (tt, p)
 member_at true p = do
-  os ← open_at p
-  Ok (Some os.0, os.1)
+  o ← open_at p
+  Ok (tt, o.1)
 
--- the additions with these presence bits
-unfoldable pub opens_at : List Bool → Part → Read (List Member)
-opens_at [] p = Ok ([], p)
+-- goes over the additions with these presence bits
+unfoldable pub opens_at : List Bool → Part → Read (Unit {0})
+opens_at [] p = Ok (tt, p)
 opens_at (present ∷ others) p = do
   member ← member_at present p
-  members ← opens_at others member.1
-  Ok (member.0 ∷ members.0, members.1)
+  opens_at others member.1
 
--- the additions of a section
-unfoldable pub members_at : Part → Read (List Member)
-members_at p = do
+-- goes over a section
+unfoldable pub over_at : Part → Read (Unit {0})
+over_at p = do
   last ← small_at p
   present ← additions_at (last.0 + 1) last.1
   opens_at present.0 present.1
@@ -146,8 +147,14 @@ members_at p = do
 -- the part that has all bits of a section
 unfoldable pub section_at : Part → Read Part
 section_at p = do
-  members ← members_at p
-  Ok (front p (length p.bits - length members.1.bits), members.1)
+  over ← over_at p
+  Ok (front p (length p.bits - length over.1.bits), over.1)
+
+-- the additions that they spell
+unfoldable pub members_at : Part → Read (List Member)
+members_at p = do
+  o ← section_at p
+  Ok (members_of o.0.bits, o.1)
 
 unfoldable pub text_at : ℕ → Part → Read (List ℕ)
 text_at zero p = Ok ([], p)
@@ -159,7 +166,7 @@ text_at (suc n) p = do
 -- the extension mark, where there is one; else it counts as 0
 unfoldable pub extended_at : Bool → Part → Read Bool
 extended_at false p = Ok (false, p)
-extended_at true p = mark_at p
+extended_at true p = truth_at p
 
 -- the additions of a SEQUENCE, which are there where its mark is 1
 unfoldable pub more_at : Bool → Part → Read (Option (List Member))
