@@ -10,14 +10,14 @@ use Rattle.per_bits.specs.Bits.{Part, value_of}
 use Rattle.per_bits.specs.declared.refusals.Refusal.{Refusal}
 use Rattle.per_types.specs.Types.{Tree, text, characters}
 use Rattle.per_types.specs.Stops.{Read}
-use Rattle.per_types.specs.Reading.{◌>>=◌, character_at, text_at, tree_at}
+use Rattle.per_types.specs.inner.Reading.{◌>>=◌, character_at, text_at, tree_at}
 use Rattle.per_types.proofs.Plans.{next_ok}
 use Rattle.per_types.proofs.Decided.{only_character}
 use Rattle.msd_values.specs.Alphabet.{alphabet, is_vin_character}
 use Rattle.msd_codec.specs.Module.{vehicle_identification}
 use Rattle.msd_codec.specs.Trees.{vin_tree}
 use Rattle.msd_values.specs.Vin.{IsVin}
-use Rattle.msd_codec.specs.Places.{MovesOn}
+use Rattle.msd_codec.specs.inner.Reading.{MovesOn}
 use Rattle.msd_codec.proofs.Steps.{ok_same, tree_moves, plain_is, required_is, required_err, none_is}
 
 -- ---- a character at a time
@@ -114,15 +114,14 @@ unfolding tree_at
 text_err n p e h = rw h refl
 
 -- the cut of four texts that stand one behind the other
-cut : (a b c d : List ℕ) → length a ≡ 3 → length b ≡ 6 → length c ≡ 1 → length d ≡ 7 → (let v = a ++ (b ++ (c ++ d)) in (take 3 v ≡ a) × (take 6 (drop 3 v) ≡ b) × (take 1 (drop 9 v) ≡ c) × (take 7 (drop 10 v) ≡ d))
+pub cut : (a b c d : List ℕ) → length a ≡ 3 → length b ≡ 6 → length c ≡ 1 → length d ≡ 7 → (let v = a ++ (b ++ (c ++ d)) in (take 3 v ≡ a) × (take 6 (drop 3 v) ≡ b) × (take 1 (drop 9 v) ≡ c) × (drop 10 v ≡ d))
 cut a b c d la lb lc ld =
     let second : drop 3 (a ++ (b ++ (c ++ d))) ≡ b ++ (c ++ d) = drop_at a (b ++ (c ++ d)) 3 la in
     let third : drop 9 (a ++ (b ++ (c ++ d))) ≡ c ++ d =
     ap (drop 9) (sym (append_assoc a b (c ++ d))) ∙ drop_at (a ++ b) (c ++ d) 9 (omega (arith, length-append a b)) in
     let last : drop 10 (a ++ (b ++ (c ++ d))) ≡ d =
     ap (drop 10) (sym (append_assoc a b (c ++ d)) ∙ sym (append_assoc (a ++ b) c d)) ∙ drop_at ((a ++ b) ++ c) d 10 (omega (arith, length-append (a ++ b) c, length-append a b)) in
-    let end : take 7 d ≡ d = whole_text d 7 ld in
-    (take_at a (b ++ (c ++ d)) 3 la, ap (take 6) second ∙ take_at b (c ++ d) 6 lb, ap (take 1) third ∙ take_at c d 1 lc, ap (take 7) last ∙ end)
+    (take_at a (b ++ (c ++ d)) 3 la, ap (take 6) second ∙ take_at b (c ++ d) 6 lb, ap (take 1) third ∙ take_at c d 1 lc, last)
 
 abbrev seen : Read (List ℕ) → Read Tree
 seen r = r >>= λ v. Ok (vin_tree v.0, v.1)

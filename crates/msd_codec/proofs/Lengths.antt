@@ -1,34 +1,32 @@
 -- How many bits the canonical spelling of a value has, one component behind the other.
-use Rattle.std.proofs.Common.{◌≡◌, ℕ, suc, ◌+◌, ◌*◌, ◌^◌, ◌<◌, ◌≤◌, Bool, true, false, List, [], ◌∷◌, ◌++◌, length, take, drop, Option, Some, None, Result, Ok, Err, refl, sym, ap, subst, ◌∙◌, arith, append-nil, lit<, w32}
-use Rattle.std.specs.Prelude.{is_some, IfSome, ℤ, pos, neg_ℤ, ◌-ℤ◌, ◌≤ℤ◌, unsigned_abs}
+use Rattle.std.proofs.Common.{◌≡◌, ℕ, suc, ◌+◌, ◌*◌, ◌^◌, ◌<◌, ◌≤◌, Bool, true, false, List, [], ◌∷◌, ◌++◌, length, take, drop, Option, Some, None, Result, refl, sym, ap, subst, ◌∙◌, arith, lit<, w32}
+use Rattle.std.specs.Prelude.{is_some, ℤ, pos, neg_ℤ, ◌-ℤ◌, ◌≤ℤ◌, unsigned_abs}
 use Rattle.std.specs.Int.{from_bool}
 use Rattle.std.specs.Option.{option_map}
 use Rattle.std.specs.List.{AllPass}
 use Rattle.std.proofs.lemmas.Int.{ints}
-use Rattle.std.proofs.lemmas.List.{length-append, length-take, length-drop, drop_at}
+use Rattle.std.proofs.lemmas.List.{length-append, length-take, length-drop}
 use Rattle.std.proofs.lemmas.List.Elements.{All-head, All-tail, All-take, All-drop}
 use Rattle.std.proofs.lemmas.Grind.{get_or_default_zero}
-use Rattle.per_bits.specs.Bits.{Part, digits, octets_of, behind}
-use Rattle.per_bits.specs.Parts.{Member, Section, IsOid}
+use Rattle.per_bits.specs.Bits.{Part, digits, octets_of}
+use Rattle.per_bits.specs.Parts.{Member, Section, IsOid, members_of}
+use Rattle.per_bits.proofs.SectionLaws.{members_read}
 use Rattle.per_bits.proofs.Digits.{length_digits}
 use Rattle.per_types.specs.Kinds as kind
 use Rattle.per_types.specs.Kinds.{Element, element, bits_of, alphabet, whole_width, width_of, width_from}
 use Rattle.per_types.specs.Types.{Tree, truth, number, text, bytes, record_of, Fields, no_fields, field, Ty, boolean, integer, characters, octet_string, relative_oid, format, sequence, Components, no_components, required, optional, presence_count}
 use Rattle.per_types.specs.Spelling.{Elements, Present, MoreElements, SectionElements, TextElements}
-use Rattle.per_types.specs.Stops.{Read, Takes}
-use Rattle.per_types.specs.Reading.{members_at}
 use mir.Val.{SFits}
 use Rattle.per_types.proofs.Written.{Spelled, whole_spelled, character_spelled, section_elements, format_spelled, string_spelled, string_long, oid_spelled}
-use Rattle.per_types.proofs.Decided.{only_members}
 use Rattle.per_types.proofs.Canonicals.{one_section}
-use Rattle.per_types.specs.Writing.{Writes}
+use Rattle.per_types.specs.Writing.{AppendsSpelling}
 use Rattle.msd_values.specs.Alphabet.{is_vin_character}
 use Rattle.msd_values.specs.Position.{Way, IsDelta}
 use Rattle.msd_values.specs.Vin.{IsVin}
 use Rattle.msd_values.specs.declared.msd.Extra.{Extra}
 use Rattle.msd_codec.specs.Module.{angle, angle_delta, location_delta, vehicle_identification, additional_data}
-use Rattle.msd_codec.specs.Trees.{optional_field, members_of, more_of, way_tree, vin_tree, extra_tree}
-use Rattle.msd_codec.specs.Writing.{Puts, HasLength, Canon, Optional, Flag}
+use Rattle.msd_codec.specs.Trees.{optional_field, more_of, way_tree, vin_tree, extra_tree}
+use Rattle.msd_codec.specs.inner.Writing.{Puts, HasLength, Canon, Optional, Flag}
 use Rattle.msd_codec.proofs.Puts.{bits_long, put_of, optional_join, flag_join, Flags}
 use Rattle.msd_codec.proofs.Texts.{is_known, text_long}
 
@@ -86,7 +84,7 @@ plain_length {cs} {fs} {n} r = record {
 
 pub marked_length : {cs : Components} {fs : Fields} {more : Option (List Member)} {ps : List Bool} {n : ℕ} → RestHasLength true cs fs more ps n → HasLength (Canon (sequence true cs) (record_of fs more)) (suc (length ps + n))
 marked_length {cs} {fs} {more} {ps} {n} r = record {
-  elements = element kind.mark (is_some more ∷ []) ∷ element (kind.presence (presence_count cs)) ps ∷ (r.parts ++ r.sect);
+  elements = element kind.truth (is_some more ∷ []) ∷ element (kind.presence (presence_count cs)) ps ∷ (r.parts ++ r.sect);
   spelled = record { spelled = (ps, r.parts, r.sect, r.present, r.additions, refl) };
   count = ap suc (omega (arith, r.count, bits_long r.parts r.sect, length-append ps (bits_of (r.parts ++ r.sect))));
 }
@@ -161,7 +159,7 @@ vin_length v vin =
     (required_length (text_length 3 (take 3 v) (piece_long 3 0 v vin.0 (omega arith)) (piece_passes 3 0 v vin.1))
     (required_length (text_length 6 (take 6 (drop 3 v)) (piece_long 6 3 v vin.0 (omega arith)) (piece_passes 6 3 v vin.1))
     (required_length (text_length 1 (take 1 (drop 9 v)) (piece_long 1 9 v vin.0 (omega arith)) (piece_passes 1 9 v vin.1))
-    (required_length (text_length 7 (take 7 (drop 10 v)) (piece_long 7 10 v vin.0 (omega arith)) (piece_passes 7 10 v vin.1)) rest_none))))
+    (required_length (text_length 7 (drop 10 v) (omega (arith, length-drop 10 v, vin.0)) (All-drop (λ x. is_vin_character x ≡ true) 10 v vin.1)) rest_none))))
 
 -- ---- additional data
 
@@ -185,20 +183,10 @@ extra_length o x p m n e is counted_oid oid counted_content =
 
 -- ---- additions
 
-pub section_members : (a : Part) (members : List Member) → Section members a.bits → members_of a ≡ members
-unfolding members_of
-section_members a members h =
-    let s = section_elements members a.bits h in
-    let q = behind a (length (bits_of s.elements)) in
-    let rest : drop (length (bits_of s.elements)) a.bits ≡ [] = ap (drop (length (bits_of s.elements))) (sym s.bits ∙ sym (append-nil (bits_of s.elements))) ∙ drop_at (bits_of s.elements) [] (length (bits_of s.elements)) refl in
-    let takes : Takes SectionElements a members q = (s.elements, s.spell, sym s.bits ∙ sym (append-nil (bits_of s.elements)) ∙ ap (λ (l : List Bool). bits_of s.elements ++ l) (sym rest), refl) in
-    let read : members_at a ≡ Ok (members, q) = sym ((only_members a (Ok (members, q))).1 takes) in
-    ap (λ (r : Read (List Member)). elim r as (λ _. List Member) [ Ok x ↦ x.0 | Err e ↦ [] ]) read
-
-pub more_length : (a : Part) (members : List Member) → Section members a.bits → HasLength (MoreElements true (Some (members_of a))) (length a.bits)
+pub more_length : (a : Part) (members : List Member) → Section members a.bits → HasLength (MoreElements true (Some (members_of a.bits))) (length a.bits)
 more_length a members h =
     let s = section_elements members a.bits h in
-    record { elements = s.elements; spelled = subst (λ (ms : List Member). SectionElements ms s.elements) (sym (section_members a members h)) s.spell; count = sym (ap length s.bits) }
+    record { elements = s.elements; spelled = subst (λ (ms : List Member). SectionElements ms s.elements) (sym (members_read members a.bits h)) s.spell; count = sym (ap length s.bits) }
 
 pub more_some_length : (o : Option Part) (a : Part) → o ≡ Some a → ((members : List Member) × Section members a.bits) → HasLength (MoreElements true (more_of o)) (length a.bits)
 more_some_length o a e s = subst (λ (x : Option Part). HasLength (MoreElements true (more_of x)) (length a.bits)) (sym e) (more_length a s.0 s.1)
@@ -208,15 +196,7 @@ more_none_length = record { elements = []; spelled = refl; count = refl }
 
 -- ---- a section that is written
 
-unwrapped : (o : Option Part) (a b : Part) → o ≡ Some a → IfSome o (λ x. x ≡ b) → a ≡ b
-unwrapped None a b e h = absurd cc
-unwrapped (Some x) a b e h = let same : x ≡ a = cc e in sym same ∙ h
-
-pub more_put : {X E : Type 0} (o found : Option Part) (a p q : Part) (old new : List Bool) (r : Result X E) → o ≡ Some a → p ≡ a → found ≡ Some q → IfSome found (λ x. x ≡ p) → ((members : List Member) × Section members a.bits)
-    → ((members : List Member) → Section members q.bits → Writes (SectionElements members) old r new) → Puts (MoreElements true (more_of o)) old r new
-more_put o found a p q old new r e is f h s write =
-    let same : q ≡ a = unwrapped found q p f h ∙ is in
-    let here : Section s.0 q.bits = subst (λ (x : Part). Section s.0 x.bits) (sym same) s.1 in
-    let put = put_of (SectionElements s.0) old new r (λ b d x y. ap bits_of (one_section s.0 b d x y)) (write s.0 here) in
-    let members : members_of a ≡ s.0 = section_members a s.0 s.1 in
-    subst (λ (x : Option Part). Puts (MoreElements true (more_of x)) old r new) (sym e) (subst (λ (ms : List Member). Puts (SectionElements ms) old r new) (sym members) put)
+pub more_put : {X E : Type 0} (o : Option Part) (a p : Part) (old new : List Bool) (r : Result X E) → o ≡ Some a → p ≡ a → AppendsSpelling (SectionElements (members_of p.bits)) old r new → Puts (MoreElements true (more_of o)) old r new
+more_put o a p old new r e same write =
+    let here : AppendsSpelling (SectionElements (members_of a.bits)) old r new = subst (λ (x : Part). AppendsSpelling (SectionElements (members_of x.bits)) old r new) same write in
+    subst (λ (x : Option Part). Puts (MoreElements true (more_of x)) old r new) (sym e) (put_of (SectionElements (members_of a.bits)) old new r (λ b d x y. ap bits_of (one_section (members_of a.bits) b d x y)) here)

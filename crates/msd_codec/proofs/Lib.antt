@@ -4,6 +4,8 @@ pub mod Parts
 pub mod VehicleTypes
 pub mod Identification
 pub mod Rest
+pub mod Values
+pub mod Alike
 pub mod SetLaws
 pub mod Puts
 pub mod Texts

@@ -1,29 +1,28 @@
 -- Where the parts lie that readers hand out, and what they spell.
-use Rattle.std.proofs.Common.{◌≡◌, ℕ, ◌+◌, ◌-◌, ◌*◌, ◌≤◌, Bool, true, false, List, [], ◌∷◌, ◌++◌, length, take, drop, Some, None, Ok, Err, refl, sym, ap, subst, ◌∙◌, arith, append-nil}
-use Rattle.std.proofs.lemmas.List.{length-append, length-take, take_at, drop_at}
-use Rattle.per_bits.specs.Bits.{Part, IsInPlace, behind, front, octets_of, value_of}
-use Rattle.per_bits.specs.Parts.{Member}
+use Rattle.std.proofs.Common.{◌≡◌, ℕ, ◌+◌, ◌-◌, ◌*◌, ◌≤◌, Bool, true, false, List, [], ◌∷◌, ◌++◌, length, take, drop, Some, None, Ok, Err, refl, sym, ap, subst, ◌∙◌, arith}
+use Rattle.std.proofs.lemmas.List.{length-append, length-take}
+use Rattle.per_bits.specs.Bits.{Part, IsInPlace, front, octets_of, value_of}
+use Rattle.per_bits.specs.Parts.{members_of}
 use Rattle.per_bits.specs.declared.refusals.Refusal.{Refusal}
 use Rattle.per_types.specs.Kinds as kind
 use Rattle.per_types.specs.Kinds.{Kind, Element, bits_of, width}
 use Rattle.per_types.specs.Types.{bytes, octet_string, relative_oid}
-use Rattle.per_types.specs.Spelling.{SectionElements}
-use Rattle.per_types.specs.Stops.{Read, element_at, Takes}
-use Rattle.per_types.specs.Reading.{◌>>=◌, octets_at, oid_at, length_at, oid_length_at, members_at, section_at, more_at, string_at, object_at, tree_at}
+use Rattle.per_types.specs.Stops.{element_at}
+use Rattle.per_types.specs.inner.Reading.{◌>>=◌, octets_at, oid_at, length_at, oid_length_at, over_at, members_at, section_at, more_at, string_at, object_at, tree_at}
 use Rattle.per_types.proofs.Plans.{next_ok, element_taken}
 use Rattle.per_types.proofs.Decided.{only_members}
-use Rattle.msd_codec.specs.Trees.{members_of}
-use Rattle.msd_codec.specs.Places.{LieBetween, MovesOn}
+use Rattle.msd_codec.specs.Places.{LieBetween}
+use Rattle.msd_codec.specs.inner.Reading.{MovesOn}
 use Rattle.msd_codec.proofs.Steps.{ok_same, behind_moves, moves_on, tree_moves}
 
--- o lies between the places of p and q
+-- o lies between the places of p and q, and q begins where it ends
 pub record Lies (p o q : Part) : Type 0 where
   pub all : o.all ≡ p.all
   pub from : p.start ≤ o.start
-  pub to : o.start + length o.bits ≤ q.start
+  pub to : q.start ≡ o.start + length o.bits
 
 pub lie_between : (p o q : Part) → IsInPlace o → Lies p o q → LieBetween p.all p.start (o ∷ []) q.start
-lie_between p o q place lies = (lies.all, place.bits ∙ ap (λ (l : List Bool). take (length o.bits) (drop o.start l)) lies.all, lies.from, lies.to)
+lie_between p o q place lies = (lies.all, place.bits ∙ ap (λ (l : List Bool). take (length o.bits) (drop o.start l)) lies.all, lies.from, omega (arith, lies.to))
 
 pub join : (all : List Bool) (a b c : ℕ) (ps qs : List Part) → LieBetween all a ps b → LieBetween all b qs c → LieBetween all a (ps ++ qs) c
 join all a b c [] [] h k = omega (arith, h, k)
@@ -40,72 +39,38 @@ earlier all a b c (p ∷ ps) h k = (k.0, k.1, k.2, earlier all (p.start + length
 
 -- ---- sections
 
-record IsSection (p a q : Part) : Type 0 where
-  members : List Member
-  es : List Element
-  spelled : SectionElements members es
-  reads : members_at p ≡ Ok (members, q)
-  part : a ≡ front p (length (bits_of es))
-  bits : p.bits ≡ bits_of es ++ q.bits
-  left : q ≡ behind p (length (bits_of es))
-
-is_section : (p a q : Part) → section_at p ≡ Ok (a, q) → IsSection p a q
-unfolding section_at
-is_section p a q e =
-    let found = next_ok (members_at p) (λ ms. Ok (front p (length p.bits - length ms.1.bits), ms.1)) (a, q) e in
-    let same = ok_same (front p (length p.bits - length found.0.1.bits), found.0.1) (a, q) found.2 in
-    let takes = (only_members p (Ok found.0)).0 (sym found.1) in
-    let long : length p.bits - length found.0.1.bits ≡ length (bits_of takes.0) = omega (arith, ap length takes.2, length-append (bits_of takes.0) found.0.1.bits) in
-    record {
-      members = found.0.0;
-      es = takes.0;
-      spelled = takes.1;
-      reads = found.1 ∙ ap (λ (x : Part). Ok (found.0.0, x)) same.1;
-      part = sym same.0 ∙ ap (front p) long;
-      bits = takes.2 ∙ ap (λ (x : Part). bits_of takes.0 ++ x.bits) same.1;
-      left = sym same.1 ∙ takes.3;
-    }
-
-part_bits : (p a q : Part) (s : IsSection p a q) → a.bits ≡ bits_of s.es
-part_bits p a q s = ap (λ (x : Part). x.bits) s.part ∙ ap (take (length (bits_of s.es))) s.bits ∙ take_at (bits_of s.es) q.bits (length (bits_of s.es)) refl
-
-members_are : (p a q : Part) (s : IsSection p a q) → members_of a ≡ s.members
-unfolding members_of
-members_are p a q s =
-    let b = part_bits p a q s in
-    let rest : drop (length (bits_of s.es)) a.bits ≡ [] = ap (drop (length (bits_of s.es))) (b ∙ sym (append-nil (bits_of s.es))) ∙ drop_at (bits_of s.es) [] (length (bits_of s.es)) refl in
-    let takes : Takes SectionElements a s.members (behind a (length (bits_of s.es))) = (s.es, s.spelled, b ∙ sym (append-nil (bits_of s.es)) ∙ ap (λ (l : List Bool). bits_of s.es ++ l) (sym rest), refl) in
-    let read : members_at a ≡ Ok (s.members, behind a (length (bits_of s.es))) = sym ((only_members a (Ok (s.members, behind a (length (bits_of s.es))))).1 takes) in
-    ap (λ (r : Read (List Member)). elim r as (λ _. List Member) [ Ok x ↦ x.0 | Err e ↦ [] ]) read
-
-pub section_members : (p a q : Part) → section_at p ≡ Ok (a, q) → members_at p ≡ Ok (members_of a, q)
-section_members p a q e =
-    let s = is_section p a q e in
-    s.reads ∙ ap (λ (m : List Member). Ok (m, q)) (sym (members_are p a q s))
+pub section_members : (p a q : Part) → section_at p ≡ Ok (a, q) → members_at p ≡ Ok (members_of a.bits, q)
+unfolding members_at
+section_members p a q e = rw e refl
 
 pub section_lies : (p a q : Part) → section_at p ≡ Ok (a, q) → Lies p a q
+unfolding section_at
 section_lies p a q e =
-    let s = is_section p a q e in
-    let there : a.start ≡ p.start = ap (λ (x : Part). x.start) s.part in
-    let end : q.start ≡ p.start + length (bits_of s.es) = ap (λ (x : Part). x.start) s.left in
-    record { all = ap (λ (x : Part). x.all) s.part; from = omega arith; to = omega (arith, ap length (part_bits p a q s)) }
+    let takes = (only_members p (Ok (members_of a.bits, q))).0 (sym (section_members p a q e)) in
+    let found = next_ok (over_at p) (λ over. Ok (front p (length p.bits - length over.1.bits), over.1)) (a, q) e in
+    let same = ok_same (front p (length p.bits - length found.0.1.bits), found.0.1) (a, q) found.2 in
+    let there : p.start ≡ a.start = ap (λ (x : Part). x.start) same.0 in
+    let end : q.start ≡ p.start + length (bits_of takes.0) = ap (λ (x : Part). x.start) takes.3 in
+    let long : length (take (length p.bits - length found.0.1.bits) p.bits) ≡ length a.bits = ap (λ (x : Part). length x.bits) same.0 in
+    let left : length found.0.1.bits ≡ length q.bits = ap (λ (x : Part). length x.bits) same.1 in
+    record {
+      all = sym (ap (λ (x : Part). x.all) same.0);
+      from = omega (arith, there);
+      to = omega (arith, there, end, long, left, length-take (length p.bits - length found.0.1.bits) p.bits, ap length takes.2, length-append (bits_of takes.0) q.bits);
+    }
 
 pub section_moves : (p a q : Part) → section_at p ≡ Ok (a, q) → MovesOn p q
-section_moves p a q e = behind_moves p q _ (is_section p a q e).left
+section_moves p a q e = behind_moves p q _ ((only_members p (Ok (members_of a.bits, q))).0 (sym (section_members p a q e))).3
 
 section_none : (p : Part) (e : Refusal × Part) → section_at p ≡ Err e → members_at p ≡ Err e
-unfolding section_at
-section_none p e h =
-    elim (members_at p) as (λ (r : Read (List Member)). (r >>= λ ms. Ok (front p (length p.bits - length ms.1.bits), ms.1)) ≡ Err e → r ≡ Err e) [
-      | Ok x ↦ λ g. absurd (cc g)
-      | Err d ↦ λ g. ap (λ (y : Refusal × Part). Err y) (let s : d ≡ e = cc g in s)
-    ] h
+unfolding members_at
+section_none p e h = rw h refl
 
 pub more_none : (extended : Bool) (p : Part) → extended ≡ false → more_at extended p ≡ Ok (None, p)
 unfolding more_at
 more_none extended p e = rw e refl
 
-pub more_some : (extended : Bool) (p a q : Part) → extended ≡ true → section_at p ≡ Ok (a, q) → more_at extended p ≡ Ok (Some (members_of a), q)
+pub more_some : (extended : Bool) (p a q : Part) → extended ≡ true → section_at p ≡ Ok (a, q) → more_at extended p ≡ Ok (Some (members_of a.bits), q)
 unfolding more_at
 more_some extended p a q e h = rw (e, section_members p a q h) refl
 
@@ -122,7 +87,7 @@ front_lies : (k : Kind) (n : ℕ) (p m q : Part) (b : List Bool) → width k ≡
 front_lies k n p m q b wide moved e =
     let taken = element_taken k m (b, q) e in
     let end : q.start ≡ m.start + length b = ap (λ (x : Part). x.start) taken.left in
-    record { all = moved.all; from = moved.on; to = omega (arith, length-take n m.bits, taken.accepted.width, wide, end) }
+    record { all = moved.all; from = moved.on; to = omega (arith, length-take n m.bits, taken.accepted.width, wide, end, ap length taken.parts, length-append b q.bits) }
 
 lies_same : (p o q a b : Part) → o ≡ a → q ≡ b → Lies p o q → Lies p a b
 lies_same p o q a b s t h = subst (λ (x : Part). Lies p a x) t (subst (λ (x : Part). Lies p x q) s h)
@@ -138,6 +103,20 @@ octets_lie p o q e =
     let moved = subst (λ (x : Part). MovesOn p x) first.1 (element_moves kind.string_length p n.0.1 n.0.0 n.1) in
     lies_same p _ _ o q same.0 same.1 (front_lies (kind.string_octets count.0.0) (8 * count.0.0) p count.0.1 octets.0.1 octets.0.0 refl moved octets.1)
 
+-- octets begin behind their length
+pub octets_start : (p o q : Part) → octets_at p ≡ Ok (o, q) → o.start ≡ p.start + 8
+unfolding octets_at length_at width
+octets_start p o q e =
+    let count = next_ok (length_at p) (λ n. element_at (kind.string_octets n.0) n.1 >>= λ b. Ok (front n.1 (8 * n.0), b.1)) (o, q) e in
+    let n = next_ok (element_at kind.string_length p) (λ b. Ok (value_of b.0, b.1)) count.0 count.1 in
+    let first = ok_same (value_of n.0.0, n.0.1) count.0 n.2 in
+    let octets = next_ok (element_at (kind.string_octets count.0.0) count.0.1) (λ b. Ok (front count.0.1 (8 * count.0.0), b.1)) (o, q) count.2 in
+    let same = ok_same (front count.0.1 (8 * count.0.0), octets.0.1) (o, q) octets.2 in
+    let taken = element_taken kind.string_length p n.0 n.1 in
+    let there : n.0.1.start ≡ p.start + length n.0.0 = ap (λ (x : Part). x.start) taken.left in
+    let here : count.0.1.start ≡ o.start = ap (λ (x : Part). x.start) same.0 in
+    omega (arith, there, here, taken.accepted.width, ap (λ (x : Part). x.start) first.1)
+
 pub oid_lies : (p o q : Part) → oid_at p ≡ Ok (o, q) → Lies p o q
 unfolding oid_at oid_length_at width
 oid_lies p o q e =
@@ -148,6 +127,9 @@ oid_lies p o q e =
     let same = ok_same (front count.0.1 (8 * count.0.0), octets.0.1) (o, q) octets.2 in
     let moved = subst (λ (x : Part). MovesOn p x) first.1 (element_moves kind.oid_length p n.0.1 n.0.0 n.1) in
     lies_same p _ _ o q same.0 same.1 (front_lies (kind.oid_octets count.0.0) (8 * count.0.0) p count.0.1 octets.0.1 octets.0.0 refl moved octets.1)
+
+pub content_follows : (p a m b q : Part) → oid_at p ≡ Ok (a, m) → octets_at m ≡ Ok (b, q) → b.start ≡ a.start + length a.bits + 8
+content_follows p a m b q e h = omega (arith, (oid_lies p a m e).to, octets_start m b q h)
 
 pub lies_moves : (p o q : Part) → q.all ≡ p.all → Lies p o q → MovesOn p q
 lies_moves p o q same h = record { all = same; on = omega (arith, h.from, h.to) }

@@ -7,8 +7,8 @@ use Rattle.per_bits.specs.Bits.{value_of, digits}
 use Rattle.per_bits.proofs.Digits.{value_append, digits_value}
 use Rattle.per_types.specs.Kinds.{bits_of}
 use Rattle.per_types.specs.Spelling.{PresenceElements}
-use Rattle.per_types.specs.Writing.{Writes}
-use Rattle.msd_codec.specs.Writing.{Puts}
+use Rattle.per_types.specs.Writing.{AppendsSpelling}
+use Rattle.msd_codec.specs.inner.Writing.{Puts}
 use Rattle.msd_codec.proofs.Puts.{put_of}
 
 one_value : (b : Bool) → value_of (b ∷ []) ≡ from_bool b
@@ -25,7 +25,7 @@ presence_more ps i n b h is low e =
     let value : value_of (take (i + 1) ps) ≡ value_of (take i ps) * 2 + from_bool bit = ap value_of (take_more ps i false h) ∙ value_append (take i ps) (bit ∷ []) ∙ ap (λ k. value_of (take i ps) * 2 + k) (one_value bit) in
     (omega (arith, value, is, e), omega (arith, low, e, one_below bit, pow_more 2 i))
 
-pub presence_put : {X E : Type 0} (ps : List Bool) (n : ℕ) (old new : List Bool) (r : Result X E) → n ≡ value_of ps → Writes (PresenceElements (length ps) (digits (length ps) n)) old r new → Puts (PresenceElements (length ps) ps) old r new
+pub presence_put : {X E : Type 0} (ps : List Bool) (n : ℕ) (old new : List Bool) (r : Result X E) → n ≡ value_of ps → AppendsSpelling (PresenceElements (length ps) (digits (length ps) n)) old r new → Puts (PresenceElements (length ps) ps) old r new
 presence_put ps n old new r is w =
     let same : digits (length ps) n ≡ ps = ap (digits (length ps)) is ∙ digits_value ps in
-    put_of (PresenceElements (length ps) ps) old new r (λ a b s t. ap bits_of (s.1 ∙ sym t.1)) (subst (λ (qs : List Bool). Writes (PresenceElements (length ps) qs) old r new) same w)
+    put_of (PresenceElements (length ps) ps) old new r (λ a b s t. ap bits_of (s.1 ∙ sym t.1)) (subst (λ (qs : List Bool). AppendsSpelling (PresenceElements (length ps) qs) old r new) same w)

@@ -8,11 +8,11 @@ use Rattle.per_bits.specs.Parts.{Member}
 use Rattle.per_types.specs.Kinds as kind
 use Rattle.per_types.specs.Kinds.{Element, element, bits_of}
 use Rattle.per_types.specs.Types.{Tree, truth, number, record_of, Fields, no_fields, field, absent, Ty, boolean, integer, sequence, Components, no_components, required, optional, default, presence_count}
-use Rattle.per_types.specs.Spelling.{Elements, Present, MoreElements, PresenceElements, WholeElements}
-use Rattle.per_types.specs.Writing.{Writes, MarkElements}
+use Rattle.per_types.specs.Spelling.{Elements, Present, MoreElements, TruthElements, PresenceElements, WholeElements}
+use Rattle.per_types.specs.Writing.{AppendsSpelling}
 use Rattle.per_types.proofs.Canonicals.{one_canonical}
 use Rattle.msd_codec.specs.Trees.{optional_field, pair_tree}
-use Rattle.msd_codec.specs.Writing.{Puts, Canon, Optional, Flag}
+use Rattle.msd_codec.specs.inner.Writing.{Puts, Canon, Optional, Flag}
 
 pub bits_append : (a b : List Element) → bits_of (a ++ b) ≡ bits_of a ++ bits_of b
 bits_append [] b = refl
@@ -30,18 +30,18 @@ AreSame Spelled = (a b : List Element) → Spelled a → Spelled b → bits_of a
 pub canon_same : (t : Ty) (v : Tree) → AreSame (Canon t v)
 canon_same t v a b s r = one_canonical t v (bits_of a) (bits_of b) (a, s.spelled, refl) (b, r.spelled, refl)
 
-pub put_of : {X E : Type 0} (Spelled : List Element → Type 0) (old new : List Bool) (r : Result X E) → AreSame Spelled → Writes Spelled old r new → Puts Spelled old r new
+pub put_of : {X E : Type 0} (Spelled : List Element → Type 0) (old new : List Bool) (r : Result X E) → AreSame Spelled → AppendsSpelling Spelled old r new → Puts Spelled old r new
 put_of Spelled old new (Ok x) same w = record { ok = (w.0, w.1, w.3); full = tt }
 put_of Spelled old new (Err e) same w =
     record { ok = tt; full = λ es s. let long : length (bits_of w.0) ≡ length (bits_of es) = ap length (same w.0 es w.1 s) in omega (arith, w.2, long) }
 
-pub put_canon : {X E : Type 0} (t : Ty) (v : Tree) (old new : List Bool) (r : Result X E) → Writes (Elements true t v) old r new → Puts (Canon t v) old r new
+pub put_canon : {X E : Type 0} (t : Ty) (v : Tree) (old new : List Bool) (r : Result X E) → AppendsSpelling (Elements true t v) old r new → Puts (Canon t v) old r new
 put_canon t v old new (Ok x) w = record { ok = (w.0, record { spelled = w.1 }, w.3); full = tt }
 put_canon t v old new (Err e) w =
     record { ok = tt; full = λ es s. let long : length (bits_of w.0) ≡ length (bits_of es) = ap length (canon_same t v w.0 es (record { spelled = w.1 }) s) in omega (arith, w.2, long) }
 
-pub put_whole : {X E : Type 0} (low high u v : ℤ) (old new : List Bool) (r : Result X E) → u ≡ v → Writes (WholeElements low high u) old r new → Puts (Canon (integer low high) (number v)) old r new
-put_whole low high u v old new r e w = put_canon (integer low high) (number v) old new r (subst (λ (z : ℤ). Writes (WholeElements low high z) old r new) e w)
+pub put_whole : {X E : Type 0} (low high u v : ℤ) (old new : List Bool) (r : Result X E) → u ≡ v → AppendsSpelling (WholeElements low high u) old r new → Puts (Canon (integer low high) (number v)) old r new
+put_whole low high u v old new r e w = put_canon (integer low high) (number v) old new r (subst (λ (z : ℤ). AppendsSpelling (WholeElements low high z) old r new) e w)
 
 optional_same : (t : Ty) (o : Option Tree) → AreSame (Optional t o)
 optional_same t None a b s r = ap bits_of (s.none ∙ sym r.none)
@@ -198,17 +198,17 @@ plain {X} {E} {r} {cs} {fs} {old} {new} none p =
       | Err e ↦ λ p. record { ok = tt; full = λ es c. let s = c.spelled in omega (arith, p.full s.0 s.1 s.2 s.3 s.4, plain_long (presence_count cs) s.0 s.1 s.2 es s.5) }
     ] p
 
-marked_long : (n : ℕ) (m : Bool) (qs : List Bool) (parts sect : List Element) (es : List Element) → es ≡ element kind.mark (m ∷ []) ∷ element (kind.presence n) qs ∷ (parts ++ sect) → length (bits_of es) ≡ suc (length qs + length (bits_of (parts ++ sect)))
+marked_long : (n : ℕ) (m : Bool) (qs : List Bool) (parts sect : List Element) (es : List Element) → es ≡ element kind.truth (m ∷ []) ∷ element (kind.presence n) qs ∷ (parts ++ sect) → length (bits_of es) ≡ suc (length qs + length (bits_of (parts ++ sect)))
 marked_long n m qs parts sect es e = ap (λ (l : List Element). length (bits_of l)) e ∙ ap suc (length-append qs (bits_of (parts ++ sect)))
 
-marked_put : (old mark mid new : List Bool) (m : Bool) (ps : List Bool) (a b parts : List Element) (n : ℕ) → mark ≡ old ++ bits_of a → a ≡ element kind.mark (m ∷ []) ∷ [] → mid ≡ mark ++ bits_of b → b ≡ element (kind.presence n) ps ∷ [] → new ≡ mid ++ bits_of parts
+marked_put : (old mark mid new : List Bool) (m : Bool) (ps : List Bool) (a b parts : List Element) (n : ℕ) → mark ≡ old ++ bits_of a → a ≡ element kind.truth (m ∷ []) ∷ [] → mid ≡ mark ++ bits_of b → b ≡ element (kind.presence n) ps ∷ [] → new ≡ mid ++ bits_of parts
     → new ≡ old ++ (m ∷ (ps ++ bits_of parts))
 marked_put old mark mid new m ps a b parts n e is f are g =
     g ∙ ap (λ (l : List Bool). l ++ bits_of parts) (f ∙ rw (are, append-nil ps) refl ∙ ap (λ (l : List Bool). l ++ ps) (e ∙ rw is refl))
     ∙ append_assoc (old ++ (m ∷ [])) ps (bits_of parts) ∙ append_assoc old (m ∷ []) (ps ++ bits_of parts)
 
 abbrev mark_alone : Bool → List Element
-mark_alone m = element kind.mark (m ∷ []) ∷ []
+mark_alone m = element kind.truth (m ∷ []) ∷ []
 
 abbrev presence_alone : ℕ → List Bool → List Element
 presence_alone n ps = element (kind.presence n) ps ∷ []
@@ -220,13 +220,13 @@ presence_room : (qs : List Bool) (b : List Element) (n : ℕ) → b ≡ presence
 presence_room qs b n is long = ap (λ (l : List Element). length (bits_of l)) is ∙ ap length (append-nil qs) ∙ long
 
 pub marked : {X E Y Z : Type 0} {r : Result X E} {cs : Components} {fs : Fields} {more : Option (List Member)} {ps qs : List Bool} {n : ℕ} {m : Bool} {old mark mid new : List Bool} {y : Y} {z : Z}
-    → presence_count cs ≡ n → m ≡ is_some more → qs ≡ ps → (let first : Result Y E = Ok y in Puts (MarkElements m) old first mark) → (let second : Result Z E = Ok z in Puts (PresenceElements n qs) mark second mid) → PutsRest true cs fs more ps mid r new
+    → presence_count cs ≡ n → m ≡ is_some more → qs ≡ ps → (let first : Result Y E = Ok y in Puts (TruthElements m) old first mark) → (let second : Result Z E = Ok z in Puts (PresenceElements n qs) mark second mid) → PutsRest true cs fs more ps mid r new
     → Puts (Canon (sequence true cs) (record_of fs more)) old r new
 marked {X} {E} {Y} {Z} {r} {cs} {fs} {more} {ps} {qs} {n} {m} {old} {mark} {mid} {new} {y} {z} count is_marked are first second p =
     elim r as (λ s. PutsRest true cs fs more ps mid s new → Puts (Canon (sequence true cs) (record_of fs more)) old s new) [
       | Ok x ↦ λ p. record {
         ok = (
-          element kind.mark (is_some more ∷ []) ∷ element (kind.presence (presence_count cs)) ps ∷ (p.ok.0 ++ p.ok.1),
+          element kind.truth (is_some more ∷ []) ∷ element (kind.presence (presence_count cs)) ps ∷ (p.ok.0 ++ p.ok.1),
           record { spelled = (ps, p.ok.0, p.ok.1, p.ok.2, p.ok.3, refl) },
           marked_put old mark mid new (is_some more) ps first.ok.0 second.ok.0 (p.ok.0 ++ p.ok.1) n first.ok.2 (first.ok.1 ∙ ap mark_alone is_marked) second.ok.2 (second.ok.1.1 ∙ ap (presence_alone n) are) p.ok.4,
         );
@@ -242,13 +242,13 @@ marked {X} {E} {Y} {Z} {r} {cs} {fs} {more} {ps} {qs} {n} {m} {old} {mark} {mid}
     ] p
 
 pub mark_stop : {X E Y : Type 0} {r : Result X E} {m : Bool} {old mark new : List Bool} {e : E} (P : E → Type 0) (cs : Components) (fs : Fields) (more : Option (List Member))
-    → IsErrAnd r P → (let first : Result Y E = Err e in Puts (MarkElements m) old first mark) → Puts (Canon (sequence true cs) (record_of fs more)) old r new
+    → IsErrAnd r P → (let first : Result Y E = Err e in Puts (TruthElements m) old first mark) → Puts (Canon (sequence true cs) (record_of fs more)) old r new
 mark_stop {X} {E} {Y} {r} {m} {old} {mark} {new} {e} P cs fs more is first =
     errs P r is (λ s. Puts (Canon (sequence true cs) (record_of fs more)) old s new)
-    (λ d. record { ok = tt; full = λ es c. let s = c.spelled in let h = first.full (element kind.mark (m ∷ []) ∷ []) refl in omega (arith, h, marked_long (presence_count cs) (is_some more) s.0 s.1 s.2 es s.5) })
+    (λ d. record { ok = tt; full = λ es c. let s = c.spelled in let h = first.full (element kind.truth (m ∷ []) ∷ []) refl in omega (arith, h, marked_long (presence_count cs) (is_some more) s.0 s.1 s.2 es s.5) })
 
 pub presence_stop : {X E Y Z : Type 0} {r : Result X E} {qs : List Bool} {n : ℕ} {m : Bool} {old mark mid new : List Bool} {y : Y} {e : E} (P : E → Type 0) (cs : Components) (fs : Fields) (more : Option (List Member))
-    → presence_count cs ≡ n → length qs ≡ n → IsErrAnd r P → (let first : Result Y E = Ok y in Puts (MarkElements m) old first mark) → (let second : Result Z E = Err e in Puts (PresenceElements n qs) mark second mid)
+    → presence_count cs ≡ n → length qs ≡ n → IsErrAnd r P → (let first : Result Y E = Ok y in Puts (TruthElements m) old first mark) → (let second : Result Z E = Err e in Puts (PresenceElements n qs) mark second mid)
     → Puts (Canon (sequence true cs) (record_of fs more)) old r new
 presence_stop {X} {E} {Y} {Z} {r} {qs} {n} {m} {old} {mark} {mid} {new} {y} {e} P cs fs more count long is first second =
     errs P r is (λ s. Puts (Canon (sequence true cs) (record_of fs more)) old s new)

@@ -1,6 +1,6 @@
 -- The reading of a list of octets is what they show, or where they stop.
 use Rattle.std.proofs.Common.{◌≡◌, ℕ, zero, suc, ◌+◌, ◌-◌, ◌*◌, ◌/◌, ◌<◌, ◌≤◌, Bool, true, false, List, [], ◌∷◌, ◌++◌, length, take, drop, replicate, Option, Some, None, Result, Ok, Err, refl, sym, ap, subst, ◌∙◌, arith, append_assoc, append-nil, ◌⊎◌, inl, inr, lit<}
-use Rattle.std.specs.Prelude.{◌==◌, ◌||◌, nat_lt, min, ◌↔◌}
+use Rattle.std.specs.Prelude.{◌==◌, ◌||◌, nat_lt, min, ◌↔◌, if◌then◌else◌}
 use Rattle.std.proofs.lemmas.Bool.Decides.{nat_tests}
 use Rattle.std.proofs.lemmas.Bool.{cases_lt}
 use Rattle.std.proofs.lemmas.Int.{ints}
@@ -8,7 +8,7 @@ use Rattle.std.proofs.lemmas.Grind.{flat_map-append}
 use Rattle.std.proofs.lemmas.Result.{err_from_is_err_and}
 use Rattle.std.specs.Result.{IsErrAnd, IfErr}
 use Rattle.std.proofs.lemmas.List.{length-append, length-take, length-replicate, take_at, drop_at, take-append-drop}
-use Rattle.per_bits.specs.Bits.{Part, octet_bits, octets_of, padding, padded, whole, behind}
+use Rattle.per_bits.specs.Bits.{Part, octet_bits, octets_of, padding, padded, all_bits, behind}
 use Rattle.per_bits.specs.Parts.{AreOctets}
 use Rattle.per_bits.specs.declared.refusals.Refusal.{Refusal}
 use Rattle.per_bits.specs.declared.refusals.Reason.TheVariants.{Size}
@@ -18,12 +18,17 @@ use Rattle.per_types.specs.Kinds.{Element, bits_of, width}
 use Rattle.per_types.specs.Types.{Tree}
 use Rattle.per_types.specs.Spelling.{Elements, Spells, Canonical}
 use Rattle.per_types.specs.Stops.{Read, IsOnlyReading, HasValues, Takes, element_at}
-use Rattle.per_types.specs.Reading.{tree_at, format_at}
+use Rattle.per_types.specs.inner.Reading.{tree_at, format_at}
 use Rattle.per_types.proofs.Decided.{only_type}
 use Rattle.per_types.proofs.Canonicals.{canonical_spells, one_canonical}
 use Rattle.msd_codec.specs.Module.{octet, timestamp, angle, angle_delta, vehicle_type, control_type, vehicle_identification, storages, propulsion_storage, vehicle_location, location_delta, msd_structure, additional_data, msd_message, ecall_message}
-use Rattle.msd_codec.specs.Sets.{HasSize, ShowsTree, StopsAtPadding, StopsAtAppended, StopsAt, at_size, at_element, at_padding, at_appended, AreCanonical}
-use Rattle.msd_codec.specs.Reading.{reading_of, rest_fault, finished, unless, pad_fault, appended_fault, pad_count, IsAnswer, Answers}
+use Rattle.msd_codec.specs.Sets.{HasSize, Shows, ShowsTree, StopsAtPadding, StopsAtAppended, StopsAt, at_size, at_element, at_padding, at_appended, AreCanonical}
+use Rattle.msd_codec.specs.inner.Reading.{rest_fault, pad_fault, appended_fault, pad_count}
+use Rattle.msd_values.specs.declared.msd.Msd.{Msd}
+use Rattle.msd_values.specs.Description.{description}
+use Rattle.msd_codec.specs.Trees.{tree}
+use Rattle.msd_codec.proofs.Values.{set_of}
+use Rattle.msd_codec.proofs.Alike.{AreAlike, are_alike, described}
 use Rattle.msd_codec.proofs.Steps.{ok_same, plain_is, required_err, format_err}
 use Rattle.msd_codec.proofs.Rest.{pads_whole, pads_zero, pads_at, all_zero, FirstOne, first_one, appended_zero, appended_at, all_appended_zero, FirstSome, first_some, padding_refusal, appended_refusal}
 
@@ -73,6 +78,29 @@ has_values = ((2, lit< tt, (0, lit< tt, refl)), (has_message, tt))
 
 only_set : IsOnlyReading (Elements false ecall_message) (tree_at ecall_message)
 only_set = only_type ecall_message has_values
+
+-- ---- the reading of octets
+
+-- the value, unless something is refused
+abbrev unless : {X : Type 0} → Option Refusal → X → Result X Refusal
+unless None v = Ok v
+unless (Some refusal) v = Err refusal
+
+abbrev finished : List ℕ → Read Tree → Result Tree Refusal
+finished octets (Ok x) = unless (rest_fault octets x.1.start) x.0
+finished octets (Err e) = Err e.0
+
+-- the value that the octets show, or their refusal
+pub reading_of : List ℕ → Result Tree Refusal
+reading_of octets =
+    if (length octets == 0) || nat_lt 140 (length octets)
+    then Err (record { place = 0; reason = Size; value = min 141 (length octets) })
+    else finished octets (tree_at ecall_message (all_bits octets))
+
+-- a reading's answer is the value that the octets show, or where they stop
+abbrev pub IsAnswer : List ℕ → Result Tree Refusal → Type 0
+IsAnswer octets (Ok v) = ShowsTree octets v
+IsAnswer octets (Err refusal) = StopsAt octets refusal
 
 -- ---- a spelling in octets, and what follows it
 
@@ -207,13 +235,13 @@ after octets v es rest small size spelled e =
           ] refl)
     ] refl
 
-finished_is : (octets : List ℕ) → AreOctets octets → HasSize octets → (r : Read Tree) → r ≡ tree_at ecall_message (whole octets) → IsAnswer octets (finished octets r)
+finished_is : (octets : List ℕ) → AreOctets octets → HasSize octets → (r : Read Tree) → r ≡ tree_at ecall_message (all_bits octets) → IsAnswer octets (finished octets r)
 finished_is octets small size (Ok x) e =
-    let takes = (only_set (whole octets) (Ok x)).0 e in
+    let takes = (only_set (all_bits octets) (Ok x)).0 e in
     let there : length (bits_of takes.0) ≡ x.1.start = sym (ap (λ (p : Part). p.start) takes.3 ∙ (let none : 0 + length (bits_of takes.0) ≡ length (bits_of takes.0) = omega arith in none)) in
     subst (λ n. IsAnswer octets (unless (rest_fault octets n) x.0)) there (after octets x.0 takes.0 x.1.bits small size takes.1 takes.2)
 finished_is octets small size (Err d) e =
-    at_element (record { size = size; left = d.1; stops = (only_set (whole octets) (Err d)).0 e })
+    at_element (record { size = size; left = d.1; stops = (only_set (all_bits octets) (Err d)).0 e })
 
 -- ---- the size
 
@@ -231,7 +259,7 @@ unsized : (n : ℕ) → (n ≡ 0) ⊎ (140 < n) → ((n == 0) || nat_lt 140 n) �
 unsized n (inl e) = grind (arith, nat_tests)
 unsized n (inr h) = grind (arith, nat_tests)
 
-pub read_sized : (octets : List ℕ) → HasSize octets → reading_of octets ≡ finished octets (tree_at ecall_message (whole octets))
+pub read_sized : (octets : List ℕ) → HasSize octets → reading_of octets ≡ finished octets (tree_at ecall_message (all_bits octets))
 unfolding reading_of
 read_sized octets size = rw (sized (length octets) size.0 size.1) refl
 
@@ -242,7 +270,7 @@ read_unsized octets h = rw (unsized (length octets) h) refl
 pub reading_is : (octets : List ℕ) → AreOctets octets → IsAnswer octets (reading_of octets)
 reading_is octets small =
     elim (size_known (length octets)) [
-      | inl size ↦ subst (IsAnswer octets) (sym (read_sized octets size)) (finished_is octets small size (tree_at ecall_message (whole octets)) refl)
+      | inl size ↦ subst (IsAnswer octets) (sym (read_sized octets size)) (finished_is octets small size (tree_at ecall_message (all_bits octets)) refl)
       | inr h ↦ subst (IsAnswer octets) (sym (read_unsized octets h)) (at_size (record { size = h; refused = refl }))
     ]
 
@@ -253,11 +281,11 @@ pub read_spelled : (octets : List ℕ) (v : Tree) (b rest : List Bool) → HasSi
 read_spelled octets v b rest size spells e =
     let es = spells.0 in
     let behind_it : drop (length (bits_of es)) (octet_bits octets) ≡ rest = ap (λ (l : List Bool). drop (length l) (octet_bits octets)) (sym spells.2) ∙ begins octets b rest e in
-    let takes : Takes (Elements false ecall_message) (whole octets) v (behind (whole octets) (length (bits_of es))) =
+    let takes : Takes (Elements false ecall_message) (all_bits octets) v (behind (all_bits octets) (length (bits_of es))) =
     (es, spells.1, e ∙ ap (λ (l : List Bool). l ++ rest) spells.2 ∙ ap (λ (l : List Bool). bits_of es ++ l) (sym behind_it), refl) in
     let none : 0 + length (bits_of es) ≡ length b = omega (arith, ap length spells.2) in
     read_sized octets size
-    ∙ ap (finished octets) (sym ((only_set (whole octets) (Ok (v, behind (whole octets) (length (bits_of es))))).1 takes))
+    ∙ ap (finished octets) (sym ((only_set (all_bits octets) (Ok (v, behind (all_bits octets) (length (bits_of es))))).1 takes))
     ∙ ap (λ n. unless (rest_fault octets n) v) none
 
 octet_bits_append : (a b : List ℕ) → octet_bits (a ++ b) ≡ octet_bits a ++ octet_bits b
@@ -310,7 +338,7 @@ appended_read octets refusal s =
 
 stops_read : (octets : List ℕ) (refusal : Refusal) → StopsAt octets refusal → Err refusal ≡ reading_of octets
 stops_read octets refusal (at_size s) = sym (read_unsized octets s.size ∙ ap (λ (r : Refusal). Err r) (sym s.refused))
-stops_read octets refusal (at_element s) = sym (read_sized octets s.size ∙ ap (finished octets) (sym ((only_set (whole octets) (Err (refusal, s.left))).1 s.stops)))
+stops_read octets refusal (at_element s) = sym (read_sized octets s.size ∙ ap (finished octets) (sym ((only_set (all_bits octets) (Err (refusal, s.left))).1 s.stops)))
 stops_read octets refusal (at_padding s) = sym (padding_read octets refusal s)
 stops_read octets refusal (at_appended s) = sym (appended_read octets refusal s)
 
@@ -323,12 +351,24 @@ answer_is octets answer small e = subst (IsAnswer octets) (sym e) (reading_is oc
 
 -- ---- the laws
 
-pub decided : (octets : List ℕ) → AreOctets octets → ((v : Tree) × ShowsTree octets v) ⊎ ((refusal : Refusal) × StopsAt octets refusal)
+pub decided : (octets : List ℕ) → AreOctets octets → ((msd : Msd) × Shows octets msd) ⊎ ((refusal : Refusal) × StopsAt octets refusal)
 decided octets small =
-    elim (reading_of octets) as (λ (r : Result Tree Refusal). IsAnswer octets r → ((v : Tree) × ShowsTree octets v) ⊎ ((refusal : Refusal) × StopsAt octets refusal)) [
-      | Ok v ↦ λ s. inl (v, s)
+    elim (reading_of octets) as (λ (r : Result Tree Refusal). IsAnswer octets r → ((msd : Msd) × Shows octets msd) ⊎ ((refusal : Refusal) × StopsAt octets refusal)) [
+      | Ok v ↦ λ s. let msd = set_of v s.spells.0 s.spells.1 in inl (msd.0, subst (ShowsTree octets) (sym msd.1) s)
       | Err refusal ↦ λ s. inr (refusal, s)
     ] (reading_is octets small)
+
+pub one_shown : (octets : List ℕ) (v w : Tree) → ShowsTree octets v → ShowsTree octets w → v ≡ w
+one_shown octets v w s r = let e = shows_read octets v s ∙ sym (shows_read octets w r) in cc e
+
+pub one_stop : (octets : List ℕ) (r s : Refusal) → StopsAt octets r → StopsAt octets s → r ≡ s
+one_stop octets r s a b = let e = stops_read octets r a ∙ sym (stops_read octets s b) in cc e
+
+pub shown_alike : (octets : List ℕ) (v w : Msd) → Shows octets v → Shows octets w → AreAlike v w
+shown_alike octets v w s r = are_alike v w (one_shown octets (tree v) (tree w) s r)
+
+pub one_text : (octets : List ℕ) (v w : Msd) → Shows octets v → Shows octets w → description v ≡ description w
+one_text octets v w s r = described v w (shown_alike octets v w s r)
 
 pub apart : (octets : List ℕ) (v : Tree) (refusal : Refusal) → ShowsTree octets v → StopsAt octets refusal → ⊥
 apart octets v refusal shows stops = let e = shows_read octets v shows ∙ sym (stops_read octets refusal stops) in cc e
@@ -365,8 +405,9 @@ canonical_shows octets v c few =
       made = c.made ∙ sym (append-nil (padded c.spelling));
     }
 
-pub canonical_again : (octets : List ℕ) (v : Tree) → AreCanonical octets v → length octets ≤ 140 → reading_of octets ≡ Ok v
-canonical_again octets v c few = sym (shows_read octets v (canonical_shows octets v c few))
+-- what was written is what is read
+pub read_again : (octets : List ℕ) (v w : Tree) → AreCanonical octets v → ShowsTree octets w → w ≡ v
+read_again octets v w c s = one_shown octets w v s (canonical_shows octets v c s.size.1)
 
 -- two spellings that begin the same bits are one
 spelled_once : (v w : Tree) (b c x y : List Bool) → Spells ecall_message v b → Spells ecall_message w c → b ++ x ≡ c ++ y → v ≡ w
@@ -392,7 +433,7 @@ canonical_one v w o p c d = (same_value, same_octets)
 
 -- ---- what `decode` answers
 
-module _ (octets : List ℕ) (p : Part) (size : HasSize octets) (is : p ≡ whole octets) where
+module _ (octets : List ℕ) (p : Part) (size : HasSize octets) (is : p ≡ all_bits octets) where
   pub refused : (e : Refusal) (q : Part) → tree_at ecall_message p ≡ Err (e, q) → reading_of octets ≡ Err e
   refused e q h = read_sized octets size ∙ ap (λ (x : Part). finished octets (tree_at ecall_message x)) (sym is) ∙ ap (finished octets) h
 
@@ -403,9 +444,6 @@ module _ (octets : List ℕ) (p : Part) (size : HasSize octets) (is : p ≡ whol
   pub passed : (q : Part) (v : Tree) (place : ℕ) → tree_at ecall_message p ≡ Ok (v, q) → place ≡ q.start → rest_fault octets place ≡ None → reading_of octets ≡ Ok v
   passed q v place h there f =
       read_sized octets size ∙ ap (λ (x : Part). finished octets (tree_at ecall_message x)) (sym is) ∙ ap (finished octets) h ∙ ap (λ n. unless (rest_fault octets n) v) (sym there) ∙ ap (λ o. unless o v) f
-
-pub exit_answer : {X : Type 0} (view : X → Tree) (r : Result X Refusal) (e : Refusal) (read : Result Tree Refusal) → IsErrAnd r (λ y. y ≡ e) → read ≡ Err e → Answers view r read
-exit_answer view r e read is same = let p = err_from_is_err_and r is in rw (p.1, p.2) same
 
 pub exit_stopped : {X : Type 0} (octets : List ℕ) (r : Result X Refusal) (e : Refusal) → AreOctets octets → IsErrAnd r (λ y. y ≡ e) → reading_of octets ≡ Err e → IfErr r (λ refusal. StopsAt octets refusal)
 exit_stopped octets r e small is same = let p = err_from_is_err_and r is in rw (p.1, p.2) (answer_is octets (Err e) small (sym same))

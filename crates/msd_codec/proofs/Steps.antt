@@ -12,13 +12,13 @@ use Rattle.per_types.specs.Kinds.{Element, width, fault, first_bit}
 use Rattle.per_types.specs.Types.{Tree, truth, number, record_of, Fields, no_fields, field, absent, Ty, boolean, integer, format, sequence, Components, no_components, required, optional, default, presence_count}
 use Rattle.per_types.specs.Spelling.{Elements, PresenceElements, TruthElements, WholeElements, FormatElements}
 use Rattle.per_types.specs.Stops.{Read, IsOnlyReading, HasValues, element_at}
-use Rattle.per_types.specs.Reading.{◌>>=◌, Gives, mark_at, truth_at, whole_at, format_at, extended_at, presence_at, more_at, tree_at, fields_at}
+use Rattle.per_types.specs.inner.Reading.{◌>>=◌, Gives, truth_at, truth_at, whole_at, format_at, extended_at, presence_at, more_at, tree_at, fields_at}
 use Rattle.per_types.proofs.Plans.{element_accepted, element_taken, next_ok}
 use Rattle.per_types.proofs.Decided.{only_type, only_presence, only_truth, only_whole, only_format}
 use Rattle.msd_codec.specs.Module.{octet, timestamp, control_type, vehicle_identification, propulsion_storage, vehicle_location, location_delta, msd_structure}
 use Rattle.msd_codec.specs.Trees.{optional_field, pair_tree}
-use Rattle.msd_codec.specs.Places.{MovesOn}
-use Rattle.msd_codec.specs.Reading.{default_at, optional_at}
+use Rattle.msd_codec.specs.inner.Reading.{MovesOn}
+use Rattle.msd_codec.specs.inner.Reading.{default_at, optional_at}
 
 -- two answers are equal in their values and in what is left
 pub ok_same : {X : Type 0} (x y : X × Part) → (let r : Read X = Ok x in r ≡ Ok y) → (x.0 ≡ y.0) × (x.1 ≡ y.1)
@@ -40,12 +40,12 @@ tree_moves t has p q v e = moves (Elements false t) (tree_at t) (only_type t has
 pub presence_moves : (n : ℕ) (p q : Part) (v : List Bool) → presence_at n p ≡ Ok (v, q) → MovesOn p q
 presence_moves n p q v e = moves (PresenceElements n) (presence_at n) (only_presence n) p q v e
 
-pub mark_moves : (p q : Part) (v : Bool) → mark_at p ≡ Ok (v, q) → MovesOn p q
-unfolding mark_at
+pub mark_moves : (p q : Part) (v : Bool) → truth_at p ≡ Ok (v, q) → MovesOn p q
+unfolding truth_at
 mark_moves p q v e =
-    let taken = next_ok (element_at kind.mark p) (λ b. Ok (first_bit b.0, b.1)) (v, q) e in
+    let taken = next_ok (element_at kind.truth p) (λ b. Ok (first_bit b.0, b.1)) (v, q) e in
     let same = (ok_same _ (v, q) taken.2).1 in
-    behind_moves p q _ (sym same ∙ (element_taken kind.mark p taken.0 taken.1).left)
+    behind_moves p q _ (sym same ∙ (element_taken kind.truth p taken.0 taken.1).left)
 
 pub moves_on : (p q r : Part) → MovesOn p q → MovesOn q r → MovesOn p r
 moves_on p q r a b = record { all = b.all ∙ a.all; on = omega (arith, a.on, b.on) }
@@ -141,15 +141,15 @@ unfolding tree_at extended_at more_at
 plain_is cs p r none h =
     rw (none, no_presence p, h) (elim r as (λ s. (s >>= λ x. Ok (record_of x.0 None, x.1)) ≡ plain s) [ Ok x ↦ refl | Err d ↦ refl ])
 
-pub marked_is : (cs : Components) (n : ℕ) (p q s : Part) (extended : Bool) (ps : List Bool) (r : Read Fields) → presence_count cs ≡ n → mark_at p ≡ Ok (extended, q) → presence_at n q ≡ Ok (ps, s) → fields_at cs ps s ≡ r → tree_at (sequence true cs) p ≡ with_more extended r
+pub marked_is : (cs : Components) (n : ℕ) (p q s : Part) (extended : Bool) (ps : List Bool) (r : Read Fields) → presence_count cs ≡ n → truth_at p ≡ Ok (extended, q) → presence_at n q ≡ Ok (ps, s) → fields_at cs ps s ≡ r → tree_at (sequence true cs) p ≡ with_more extended r
 unfolding tree_at extended_at
 marked_is cs n p q s extended ps r count e f h = rw (count, e, f, h) refl
 
-pub marked_err : (cs : Components) (p : Part) (e : Refusal × Part) → mark_at p ≡ Err e → tree_at (sequence true cs) p ≡ Err e
+pub marked_err : (cs : Components) (p : Part) (e : Refusal × Part) → truth_at p ≡ Err e → tree_at (sequence true cs) p ≡ Err e
 unfolding tree_at extended_at
 marked_err cs p e h = rw h refl
 
-pub presence_err : (cs : Components) (n : ℕ) (p q : Part) (extended : Bool) (e : Refusal × Part) → presence_count cs ≡ n → mark_at p ≡ Ok (extended, q) → presence_at n q ≡ Err e → tree_at (sequence true cs) p ≡ Err e
+pub presence_err : (cs : Components) (n : ℕ) (p q : Part) (extended : Bool) (e : Refusal × Part) → presence_count cs ≡ n → truth_at p ≡ Ok (extended, q) → presence_at n q ≡ Err e → tree_at (sequence true cs) p ≡ Err e
 unfolding tree_at extended_at
 presence_err cs n p q extended e count f h = rw (count, f, h) refl
 
@@ -185,7 +185,7 @@ truth_moves r p q e = on_ok (λ v. v) r (truth_at p) p q (λ v h. moves TruthEle
 
 -- ---- the format
 
-only_two : (v : ℕ) → Contains (2 ∷ []) v → v ≡ 2
+pub only_two : (v : ℕ) → Contains (2 ∷ []) v → v ≡ 2
 only_two v (k, below, is) = sym is ∙ ap (λ n. get_or (2 ∷ []) n v) (let zero_is : k ≡ 0 = omega arith in zero_is)
 
 pub format_tree : (p q : Part) (v : ℕ) → format_at (2 ∷ []) p ≡ Ok (v, q) → Contains (2 ∷ []) v → tree_at (format (2 ∷ [])) p ≡ Ok (number (pos 2), q)
@@ -206,7 +206,7 @@ pair_is t p m q a b x y e h f g =
     plain_is _ _ _ refl (required_is _ _ _ _ _ _ _ e (required_is _ _ _ _ _ _ _ h (none_is _ _))) ∙ rw (f, g) refl
 
 pub structure_is : (p c1 c2 c3 c4 c5 c6 c7 c8 c9 c10 c11 c12 q : Part) (extended : Bool) (b1 b2 b3 : Bool) (message control vin storage time heading : Tree) (a b x y : ℤ) (before1 before2 passengers : Option Tree) (more : Option (List Member))
-    → mark_at p ≡ Ok (extended, c1) → presence_at 3 c1 ≡ Ok (b1 ∷ b2 ∷ b3 ∷ [], c2) → tree_at octet c2 ≡ Ok (message, c3) → tree_at control_type c3 ≡ Ok (control, c4) → tree_at vehicle_identification c4 ≡ Ok (vin, c5)
+    → truth_at p ≡ Ok (extended, c1) → presence_at 3 c1 ≡ Ok (b1 ∷ b2 ∷ b3 ∷ [], c2) → tree_at octet c2 ≡ Ok (message, c3) → tree_at control_type c3 ≡ Ok (control, c4) → tree_at vehicle_identification c4 ≡ Ok (vin, c5)
     → tree_at propulsion_storage c5 ≡ Ok (storage, c6) → tree_at timestamp c6 ≡ Ok (time, c7) → tree_at vehicle_location c7 ≡ Ok (pair_tree a b, c8) → tree_at octet c8 ≡ Ok (heading, c9)
     → optional_at b1 location_delta c9 ≡ Ok (before1, c10) → optional_at b2 location_delta c10 ≡ Ok (before2, c11) → optional_at b3 octet c11 ≡ Ok (passengers, c12) → more_at extended c12 ≡ Ok (more, q) → x ≡ a → y ≡ b
     → tree_at msd_structure p ≡ Ok (record_of (field message (field control (field vin (field storage (field time (field (pair_tree x y) (field heading (optional_field before1 (optional_field before2 (optional_field passengers no_fields)))))))))) more, q)

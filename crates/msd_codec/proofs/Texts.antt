@@ -12,7 +12,7 @@ use Rattle.per_types.specs.Types.{text, characters}
 use Rattle.per_types.specs.Spelling.{CharacterElements, TextElements}
 use Rattle.msd_values.specs.Alphabet.{is_vin_character}
 use Rattle.msd_values.specs.Vin.{IsVin}
-use Rattle.msd_codec.specs.Writing.{Puts, Canon}
+use Rattle.msd_codec.specs.inner.Writing.{Puts, Canon}
 use Rattle.msd_codec.proofs.Puts.{bits_append, bits_long, errs}
 
 pub is_known : (c : ℕ) → is_vin_character c ≡ true → Contains alphabet c
@@ -71,16 +71,14 @@ cut_type {t} {v} n off within e vin =
     ap characters (length-take n (drop off t) ∙ omega (arith, length-drop off t, long))
 
 -- the last seven characters
-last_cut : {t v : List ℕ} → t ≡ v → IsVin v → take (length t - 10) (drop 10 t) ≡ take 7 (drop 10 v)
-last_cut {t} {v} e vin =
-    let seven : length t - 10 ≡ 7 = omega (arith, ap length e, vin.0) in
-    ap (λ n. take n (drop 10 t)) seven ∙ ap (λ (l : List ℕ). take 7 (drop 10 l)) e
+last_cut : {t v : List ℕ} → t ≡ v → take (length t - 10) (drop 10 t) ≡ drop 10 v
+last_cut {t} {v} e = take_all (length t - 10) (drop 10 t) (omega (arith, length-drop 10 t)) ∙ ap (drop 10) e
 
 pub last_type : {t v : List ℕ} → t ≡ v → IsVin v → characters (length (take (length t - 10) (drop 10 t))) ≡ characters 7
-last_type {t} {v} e vin = ap (λ (l : List ℕ). characters (length l)) (last_cut e vin) ∙ cut_type 7 10 (omega arith) refl vin
+last_type {t} {v} e vin = ap characters (ap length (last_cut e) ∙ omega (arith, length-drop 10 v, vin.0))
 
-pub last_text : {t v : List ℕ} → t ≡ v → IsVin v → text (take (length t - 10) (drop 10 t)) ≡ text (take 7 (drop 10 v))
-last_text {t} {v} e vin = ap text (last_cut e vin)
+pub last_text : {t v : List ℕ} → t ≡ v → text (take (length t - 10) (drop 10 t)) ≡ text (drop 10 v)
+last_text {t} {v} e = ap text (last_cut e)
 
 pub piece_passes : {t v : List ℕ} (n off : ℕ) → t ≡ v → IsVin v → AllPass is_vin_character (take n (drop off t))
 piece_passes {t} {v} n off e vin = subst (λ (l : List ℕ). AllPass is_vin_character (take n (drop off l))) (sym e) (All-take (λ x. is_vin_character x ≡ true) n (drop off v) (All-drop (λ x. is_vin_character x ≡ true) off v vin.1))

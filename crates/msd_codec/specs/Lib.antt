@@ -2,5 +2,4 @@ pub mod Module
 pub mod Trees
 pub mod Sets
 pub mod Places
-pub mod Reading
-pub mod Writing
+pub mod inner

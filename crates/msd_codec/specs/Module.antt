@@ -1,6 +1,6 @@
 -- The module of a minimum set of data in format 2, as a tree of types: this project's profile, after
 -- EN 15722, in the kinds of ITU-T X.691, unaligned variant. Cited by the definitions of which octets show a
--- set and by every reader and writer of this crate.
+-- set, by the laws, and by every reader and writer of this crate.
 use Rattle.std.specs.Prelude.{pos, neg_ℤ, true, false, [], ◌∷◌}
 use Rattle.per_types.specs.Types.{truth, Ty, boolean, integer, characters, octet_string, relative_oid, enumerated, format, sequence, Components, no_components, required, optional, default}
 
@@ -26,11 +26,21 @@ vehicle_type = enumerated 13
 
 -- automatic activation, test call, whether the position can be trusted, and the vehicle's type
 unfoldable pub control_type : Ty
-control_type = sequence false (required boolean (required boolean (required boolean (required vehicle_type no_components))))
+control_type =
+    sequence false
+    (required boolean
+    (required boolean
+    (required boolean
+    (required vehicle_type no_components))))
 
 -- the manufacturer, the vehicle, its model year, and its number
 unfoldable pub vehicle_identification : Ty
-vehicle_identification = sequence false (required (characters 3) (required (characters 6) (required (characters 1) (required (characters 7) no_components))))
+vehicle_identification =
+    sequence false
+    (required (characters 3)
+    (required (characters 6)
+    (required (characters 1)
+    (required (characters 7) no_components))))
 
 -- gasoline, diesel, compressed natural gas, liquid propane gas, electric, hydrogen, other
 unfoldable pub storages : Components

@@ -4,7 +4,7 @@
 -- elements of the spelling in their order, then the bits that pad, then the appended octets. Cited by
 -- `decode`, `encode` and `spelling_laws`.
 use Rattle.std.specs.Prelude.{◌≡◌, ◌≢◌, ℕ, ◌+◌, ◌*◌, ◌<◌, ◌≤◌, Bool, true, false, List, ◌∷◌, ◌++◌, length, replicate, min, ◌⊎◌}
-use Rattle.per_bits.specs.Bits.{Part, octet_bits, padding, padded, whole}
+use Rattle.per_bits.specs.Bits.{Part, octet_bits, padding, padded, all_bits, room_bits, room_octets}
 use Rattle.per_bits.specs.declared.refusals.Refusal.{Refusal}
 use Rattle.per_bits.specs.declared.refusals.Reason.TheVariants.{PadBits, Trailing, Size}
 use Rattle.per_types.specs.Types.{Tree}
@@ -15,7 +15,7 @@ use Rattle.msd_codec.specs.Module.{ecall_message}
 use Rattle.msd_codec.specs.Trees.{tree}
 
 abbrev pub HasSize : List ℕ → Type 0
-HasSize octets = (1 ≤ length octets) × (length octets ≤ 140)
+HasSize octets = (1 ≤ length octets) × (length octets ≤ room_octets)
 
 -- the octets are the padded bits of a spelling of the value, and any number of octets 0
 pub record ShowsTree (octets : List ℕ) (v : Tree) : Type 0 where
@@ -31,16 +31,16 @@ Shows octets msd = ShowsTree octets (tree msd)
 
 -- there is no octet, or there are more than 140
 pub record StopsAtSize (octets : List ℕ) (refusal : Refusal) : Type 0 where
-  pub size : (length octets ≡ 0) ⊎ (140 < length octets)
+  pub size : (length octets ≡ 0) ⊎ (room_octets < length octets)
   pub refused : refusal ≡ record { place = 0; reason = Size; value = min 141 (length octets) }
 
--- an element of the module is the first that is refused
+-- some element of the spelling is the first that is refused
 pub record StopsAtElement (octets : List ℕ) (refusal : Refusal) : Type 0 where
   pub size : HasSize octets
   pub left : Part
-  pub stops : Stops (Elements false ecall_message) (whole octets) refusal left
+  pub stops : Stops (Elements false ecall_message) (all_bits octets) refusal left
 
--- behind a whole spelling the first bit 1 is one of those that pad
+-- behind a spelling the first bit 1 is one of those that pad
 pub record StopsAtPadding (octets : List ℕ) (refusal : Refusal) : Type 0 where
   pub size : HasSize octets
   pub value : Tree
@@ -52,7 +52,7 @@ pub record StopsAtPadding (octets : List ℕ) (refusal : Refusal) : Type 0 where
   pub bits : octet_bits octets ≡ spelling ++ replicate zeros false ++ true ∷ rest
   pub refused : refusal ≡ record { place = length spelling + zeros; reason = PadBits; value = 1 }
 
--- behind a whole spelling, padded with zero bits, the first octet that isn't 0
+-- behind a spelling, padded with zero bits, the first octet that isn't 0
 pub record StopsAtAppended (octets : List ℕ) (refusal : Refusal) : Type 0 where
   pub size : HasSize octets
   pub value : Tree
@@ -79,8 +79,8 @@ pub record AreCanonical (octets : List ℕ) (v : Tree) : Type 0 where
   pub made : octets ≡ padded spelling
 
 -- the canonical spelling of the value has so many bits, which are more than 140 octets have
-pub record IsTooLong (v : Tree) (bits : ℕ) : Type 0 where
+pub record NeedsMoreBits (v : Tree) (bits : ℕ) : Type 0 where
   pub spelling : List Bool
   pub canonical : Canonical ecall_message v spelling
-  pub long : 1120 < length spelling
+  pub long : room_bits < length spelling
   pub count : bits ≡ length spelling

@@ -1,12 +1,12 @@
 -- The value trees of a set of data: what its fields are in the module of format 2, after EN 15722. The
--- identification number is cut in 3, 6, 1 and 7 characters, a root of the vehicle's type counts from 0,
--- and a borrowed part is read as its octets or its additions. Cited by every contract of this crate.
-use Rattle.std.specs.Prelude.{ℕ, ◌-◌, ℤ, pos, Bool, List, [], take, drop, Option, Some, None, Ok, Err}
+-- identification number is cut behind 3, 6 and 1 characters and stands in the tree whole, a root of the
+-- vehicle's type counts from 0, and a borrowed part is read as its octets or its additions. Cited by the
+-- definitions of which octets show a set and which are the canonical ones, and by each reader and writer.
+use Rattle.std.specs.Prelude.{ℕ, ◌-◌, ℤ, pos, Bool, List, take, drop, Option, Some, None}
 use Rattle.std.specs.Option.{option_map}
 use Rattle.per_bits.specs.Bits.{Part, octets_of}
-use Rattle.per_bits.specs.Parts.{Member}
+use Rattle.per_bits.specs.Parts.{Member, members_of}
 use Rattle.per_types.specs.Types.{Tree, truth, number, text, bytes, root, added, record_of, Fields, no_fields, field, absent}
-use Rattle.per_types.specs.Reading.{members_at}
 use Rattle.msd_values.specs.Position.{Way}
 use Rattle.msd_values.specs.declared.kind.VehicleKind.{VehicleKind}
 use Rattle.msd_values.specs.declared.kind.VehicleKind.TheVariants.{Root, Added}
@@ -22,12 +22,12 @@ abbrev pub optional_field : Option Tree → Fields → Fields
 optional_field None fields = absent fields
 optional_field (Some v) fields = field v fields
 
--- the additions that the bits of a section spell
-unfoldable pub members_of : Part → List Member
-members_of section = elim (members_at section) as (λ _. List Member) [ Ok x ↦ x.0 | Err e ↦ [] ]
+-- the additions of a section, and of one that may be absent
+abbrev pub additions_of : Part → List Member
+additions_of section = members_of section.bits
 
 abbrev pub more_of : Option Part → Option (List Member)
-more_of more = option_map members_of more
+more_of more = option_map additions_of more
 
 abbrev pub kind_tree : VehicleKind → Tree
 kind_tree (Root n) = root (n - 1)
@@ -35,11 +35,21 @@ kind_tree (Added n) = added n
 
 abbrev pub control_tree : Bool → Bool → Bool → VehicleKind → Tree
 control_tree automatic test trusted kind =
-    record_of (field (truth automatic) (field (truth test) (field (truth trusted) (field (kind_tree kind) no_fields)))) None
+    record_of
+    (field (truth automatic)
+    (field (truth test)
+    (field (truth trusted)
+    (field (kind_tree kind) no_fields))))
+    None
 
 abbrev pub vin_tree : List ℕ → Tree
 vin_tree vin =
-    record_of (field (text (take 3 vin)) (field (text (take 6 (drop 3 vin))) (field (text (take 1 (drop 9 vin))) (field (text (take 7 (drop 10 vin))) no_fields)))) None
+    record_of
+    (field (text (take 3 vin))
+    (field (text (take 6 (drop 3 vin)))
+    (field (text (take 1 (drop 9 vin)))
+    (field (text (drop 10 vin)) no_fields))))
+    None
 
 abbrev pub marks_fields : Marks → Fields
 marks_fields fuel =
@@ -61,7 +71,11 @@ abbrev pub way_tree : Way → Tree
 way_tree way = pair_tree way.latitude way.longitude
 
 abbrev pub extra_tree : Extra → Tree
-extra_tree extra = record_of (field (bytes (octets_of extra.oid.bits)) (field (bytes (octets_of extra.content.bits)) no_fields)) None
+extra_tree extra =
+    record_of
+    (field (bytes (octets_of extra.oid.bits))
+    (field (bytes (octets_of extra.content.bits)) no_fields))
+    None
 
 abbrev pub structure_tree : Msd → Tree
 structure_tree msd =
@@ -79,7 +93,11 @@ structure_tree msd =
     (more_of msd.set_more)
 
 abbrev pub message_tree : Msd → Tree
-message_tree msd = record_of (field (structure_tree msd) (optional_field (option_map extra_tree msd.extra) no_fields)) (more_of msd.message_more)
+message_tree msd =
+    record_of
+    (field (structure_tree msd)
+    (optional_field (option_map extra_tree msd.extra) no_fields))
+    (more_of msd.message_more)
 
 -- the value tree of a set, in format 2
 abbrev pub tree : Msd → Tree

@@ -1,10 +1,8 @@
 //! Reading a set of data.
-ghost use Rattle.std.specs.Prelude.{◌≡◌, ◌+◌, ◌≤◌, ℕ, List, length, IfOk, IfErr};
+ghost use Rattle.std.specs.Prelude.{length, IfOk, IfErr, IfSome};
 ghost use Rattle.per_bits.specs.Bits.{octet_bits};
-ghost use Rattle.msd_codec.specs.Trees.{tree};
 ghost use Rattle.msd_codec.specs.Sets.{Shows, StopsAt};
-ghost use Rattle.msd_codec.specs.Places.{LieBetween, parts_of};
-ghost use Rattle.msd_codec.specs.Reading.{Answers, reading_of};
+ghost use Rattle.msd_codec.specs.Places.{LieBetween, ContentFollows, parts_of};
 
 mod elements;
 mod message;
@@ -16,22 +14,25 @@ use crate::reading::rest::check_rest;
 use msd_values::Msd;
 use per_bits::{Bits, Cursor, Reason, Refusal};
 
+// How many octets a set has at most.
+const MOST_OCTETS: usize = 140;
+
 /// The set of data that the octets show, in format 2. It borrows the parts of variable length, and copies
 /// none of them. The places of a refusal are in bits.
 pub fn decode(octets: &[u8]) -> Result<Msd<'_>, Refusal>
-    // What is accepted is shown, and what is refused stops so.
+    // What is accepted is shown, and what is refused stops so. By the laws there is one answer.
     ensures shown { IfOk result (λ msd. Shows octets.now msd) }
     ensures stopped { IfErr result (λ refusal. StopsAt octets.now refusal) }
-    // No octets show a set and stop, or show two, or stop in two ways.
-    ensures exact { Answers tree result (reading_of octets.now) }
     // Each part has the bits of the octets from its start on, and they lie one behind the other.
     ensures parts { IfOk result (λ msd. LieBetween (octet_bits octets.now) 0 (parts_of msd) (length (octet_bits octets.now))) }
+    // Where the content of additional data has no octets, its bits say nothing of its place.
+    ensures content { IfOk result (λ msd. IfSome msd.extra ContentFollows) }
 {
-    if octets.is_empty() || octets.len() > 140 {
+    if octets.is_empty() || octets.len() > MOST_OCTETS {
         return Err(Refusal {
             place: 0,
             reason: Reason::Size,
-            value: octets.len().min(141) as u64,
+            value: octets.len().min(MOST_OCTETS + 1) as u64,
         });
     }
     let mut cursor = Cursor::of(Bits::of(octets));

@@ -2,13 +2,15 @@
 ghost use Rattle.std.specs.Prelude.{◌≤◌, length};
 
 use crate::{TooLong, decode, encode};
-use msd_values::{Extra, Msd};
-use per_bits::{Bits, Octs, Oid, Reason};
+use msd_values::{Extra, Msd, VehicleKind};
+use per_bits::{Additions, Bits, Octs, Oid, Reason};
 use std::test::Fail;
 
 mod vectors;
 
-use vectors::{Answer, SMALLEST, VECTORS, WITH_ADDITIONS, WITH_EVERYTHING, WITH_GASOLINE};
+use vectors::{
+    Answer, SMALLEST, VECTORS, WITH_ADDITIONS, WITH_EVERYTHING, WITH_GASOLINE, WITH_OTHER_ADDITIONS,
+};
 
 // Where and why the octets stop being a set, if they do.
 fn stop(octets: &[u8]) -> Option<(u32, Reason, u64)> {
@@ -110,6 +112,57 @@ fn parts_stand_in_place(rt: HostRuntime) -> Result<(), Fail> {
         (0, 260, 24)
     );
     assert!(rt; octets.bits().octets_equal(b"\xab\xcd\xef"));
+    Ok(())
+}
+
+// How many additions there are, and of the one that is present its index, its place and whether these are its
+// octets.
+fn only_addition(more: &Option<Additions<'_>>, octets: &[u8]) -> Option<(u8, u8, u32, bool)> {
+    let Some(additions) = more else {
+        return None;
+    };
+    let mut present = additions.iter();
+    let Some((index, content)) = present.next() else {
+        return None;
+    };
+    if present.next().is_some() {
+        return None;
+    }
+    let bits = content.bits();
+    Some((
+        additions.count(),
+        index,
+        bits.start(),
+        bits.octets_equal(octets),
+    ))
+}
+
+// The number of a category that was added.
+fn added_number(kind: VehicleKind) -> Option<u8> {
+    match kind {
+        VehicleKind::Added(added) => Some(added.number()),
+        VehicleKind::Root(_) => None,
+    }
+}
+
+#[test]
+fn additions_and_an_added_category_are_read_and_written(rt: HostRuntime) -> Result<(), Fail> {
+    let Ok(msd) = decode(WITH_OTHER_ADDITIONS) else {
+        return Err(Fail::from("refused"));
+    };
+    assert_eq!(rt; added_number(msd.kind), Some(5));
+    assert_eq!(rt;
+        only_addition(&msd.fuel_more, b"\xa5"),
+        Some((2, 1, 161, true))
+    );
+    assert_eq!(rt;
+        only_addition(&msd.message_more, b"\x12\x34"),
+        Some((1, 0, 289, true))
+    );
+    let Ok(written) = encode(&msd) else {
+        return Err(Fail::from("too long"));
+    };
+    assert_eq!(rt; written.as_slice(), WITH_OTHER_ADDITIONS.as_slice());
     Ok(())
 }
 

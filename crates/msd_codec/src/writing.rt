@@ -1,7 +1,8 @@
 //! Writing a set of data.
-ghost use Rattle.std.specs.Prelude.{IfOk, IfErr};
+ghost use Rattle.std.specs.Prelude.{◌≤◌, length, IfOk, IfErr};
+ghost use Rattle.per_bits.specs.Bits.{room_octets};
 ghost use Rattle.msd_codec.specs.Trees.{tree};
-ghost use Rattle.msd_codec.specs.Sets.{AreCanonical, IsTooLong};
+ghost use Rattle.msd_codec.specs.Sets.{AreCanonical, NeedsMoreBits};
 
 mod elements;
 mod lengths;
@@ -25,12 +26,14 @@ pub struct TooLong {
 /// long additions and additional data make.
 pub fn encode(msd: &Msd<'_>) -> Result<ArrayVec<u8, 140>, TooLong>
     ensures canonical { IfOk result (λ octets. AreCanonical octets.items (tree msd.now)) }
-    ensures long { IfErr result (λ e. IsTooLong (tree msd.now) e.bits) }
+    ensures few { IfOk result (λ octets. length octets.items ≤ room_octets) }
+    ensures long { IfErr result (λ e. NeedsMoreBits (tree msd.now) e.bits) }
 {
-    let bits = message_len(msd);
     let mut to = BitBuf::new();
     if write_message(&mut to, msd).is_err() {
-        return Err(TooLong { bits });
+        return Err(TooLong {
+            bits: message_len(msd),
+        });
     }
     let mut octets = ArrayVec::new();
     octets.try_extend_from_slice(to.octets()).unwrap();

@@ -1,6 +1,6 @@
 -- How appends one after another are one.
 use Rattle.std.proofs.Common.{ℕ, List, ◌++◌, ap, ◌∙◌, append_assoc}
-use Rattle.msd_values.specs.Waiting.{Appends}
+use Rattle.msd_values.specs.inner.Waiting.{Appends}
 
 -- a text, and then another
 pub joined : {old mid new a b : List ℕ} → Appends old mid a → Appends mid new b → Appends old new (a ++ b)

@@ -8,7 +8,7 @@ use Rattle.jiff_core.specs.Time.{time_nanos, time_seconds}
 use Rattle.jiff_core.specs.declared.civil.datetime.DateTime.{DateTime}
 use Rattle.jiff_core.specs.Calendar.{days_from_civil, days_in_year, days_in_month, day_count, IsCivilDate, IsYear}
 use Rattle.jiff_core.proofs.CalendarLemmas.{days_from_civil-day_count, day_count-epoch, day_count-next_year, day_count-year_is, day_count-next_month, day_count-lt_month, day_count-day, days_in_year_bounds}
-use Rattle.msd_values.specs.Clock.{IsCivilTime}
+use Rattle.msd_values.specs.inner.Clock.{IsCivilTime}
 use borrow.Author.Differences.{up, down}
 use Rattle.msd_values.specs.Civil.{year_of, month_of, date_of}
 

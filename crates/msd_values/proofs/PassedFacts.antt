@@ -7,7 +7,7 @@ use Rattle.std.proofs.lemmas.List.{append-nil}
 use Rattle.std.proofs.lemmas.List.Concat.{flat_map-append}
 use Rattle.call_io.specs.Bytes.{Grew, GrewPartly}
 use Rattle.call_io.proofs.BytesLemmas.{Grew-nothing, Grew-append, GrewPartly-after, GrewPartly-longer}
-use Rattle.msd_values.specs.Waiting.{Appends, Passed, Passes}
+use Rattle.msd_values.specs.inner.Waiting.{Appends, Passed, Passes}
 
 -- what is put on the page waits there
 pub Passed-put : (told : Option (List ℕ)) {waited waits text : List ℕ} → Appends waited waits text → Passed told told waited waits text

@@ -1,26 +1,20 @@
--- How a section of extension additions is written for people: this project's profile. The section's own
--- bits say how many additions it has a presence bit for, which of them are present, and their octets.
--- Cited by the definition of a set's description.
-use Rattle.std.specs.Prelude.{ℕ, ◌+◌, List, ◌∷◌, ◌++◌, take, drop, decimal}
+-- How a section of additions is written for people: this project's profile. The members of the section are read by
+-- `members_of`, after ITU-T X.691 (02/2021), and nothing else of it is written. Cited by the definition of a set's
+-- description.
+use Rattle.std.specs.Prelude.{ℕ, List, ◌++◌, length, codes, decimal}
 use Rattle.std.specs.List.{flat_map}
 use Rattle.hex.specs.Hex.{encode_lower}
-use Rattle.per_bits.specs.Bits.{Part, value_of, octets_of, behind}
-use Rattle.per_bits.specs.Parts.{open_parts}
+use Rattle.per_bits.specs.Bits.{Part}
+use Rattle.per_bits.specs.Parts.{Member, members_of, present_members}
 
--- how many additions the section has a presence bit for
-abbrev pub addition_count : Part → ℕ
-addition_count section = value_of (take 7 section.bits) + 1
+-- a space, the index from 0, a colon, and the octets in hexadecimal digits
+abbrev pub addition_text : ℕ × List ℕ → List ℕ
+addition_text addition = codes " " ++ (decimal addition.0 ++ (codes ":" ++ encode_lower addition.1))
 
--- the present additions, each with its index from 0
-abbrev pub present_additions : Part → List (ℕ × Part)
-present_additions section =
-    let count = addition_count section in
-    open_parts 0 (take count (drop 7 section.bits)) (behind section (7 + count))
+-- how many additions there is a presence bit for, and each present one
+abbrev pub members_text : List Member → List ℕ
+members_text members = decimal (length members) ++ flat_map addition_text (present_members 0 members)
 
--- a space, the index, a colon, and the octets in hexadecimal digits
-abbrev pub addition_text : ℕ × Part → List ℕ
-addition_text addition = 32 ∷ decimal addition.0 ++ 58 ∷ encode_lower (octets_of addition.1.bits)
-
--- the number of presence bits, and each present addition
+-- the same of the members of a section
 abbrev pub additions_text : Part → List ℕ
-additions_text section = decimal (addition_count section) ++ flat_map addition_text (present_additions section)
+additions_text section = members_text (members_of section.bits)

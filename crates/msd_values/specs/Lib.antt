@@ -1,10 +1,9 @@
 pub mod Additions
 pub mod Alphabet
 pub mod Civil
-pub mod Clock
 pub mod Description
+pub mod inner
 pub mod Position
 pub mod Remarks
 pub mod Texts
 pub mod Vin
-pub mod Waiting

@@ -11,7 +11,8 @@ unknown_angle = pos 2147483647
 
 -- an angle that is known, and lies beyond the limit to either side, in milliarcseconds
 abbrev pub is_beyond : ℕ → ℤ → Bool
-is_beyond limit angle = (int_lt angle (neg_ℤ (pos limit)) || int_lt (pos limit) angle) && not (int_eq angle unknown_angle)
+is_beyond limit angle =
+    (int_lt angle (neg_ℤ (pos limit)) || int_lt (pos limit) angle) && not (int_eq angle unknown_angle)
 
 -- a heading that is known, and is no step of 2 degrees of one turn
 abbrev pub is_past_a_turn : ℕ → Bool

@@ -1,7 +1,8 @@
 -- How each kind of value of a set is written for people: this project's profile. A number is written in
 -- decimal digits, octets in hexadecimal digits, and what is absent as `none`. Cited by the definition of
 -- a set's description.
-use Rattle.std.specs.Prelude.{ℕ, ◌-◌, ◌==◌, Bool, true, false, ◌||◌, ℤ, List, [], ◌∷◌, ◌++◌, slice_index_or, codes, decimal, Option, None, Some, if◌then◌else◌}
+use Rattle.std.specs.Prelude.{ℕ, ◌-◌, ◌==◌, Bool, true, false, ℤ, List, [], ◌∷◌, ◌++◌, slice_index, slice_index_or, codes, decimal, Option, None, Some, if◌then◌else◌}
+use Rattle.std.specs.List.{join_with_byte}
 use Rattle.std.specs.Fmt.{signed_decimal}
 use Rattle.std.specs.Ordering.{int_eq}
 use Rattle.hex.specs.Hex.{encode_lower}
@@ -25,7 +26,9 @@ truth_text false = codes "no"
 
 -- the categories of vehicles, from number 1 on
 abbrev pub root_names : List (List ℕ)
-root_names = codes "M1" ∷ codes "M2" ∷ codes "M3" ∷ codes "N1" ∷ codes "N2" ∷ codes "N3" ∷ codes "L1e" ∷ codes "L2e" ∷ codes "L3e" ∷ codes "L4e" ∷ codes "L5e" ∷ codes "L6e" ∷ codes "L7e" ∷ []
+root_names =
+    codes "M1" ∷ codes "M2" ∷ codes "M3" ∷ codes "N1" ∷ codes "N2" ∷ codes "N3"
+    ∷ codes "L1e" ∷ codes "L2e" ∷ codes "L3e" ∷ codes "L4e" ∷ codes "L5e" ∷ codes "L6e" ∷ codes "L7e" ∷ []
 
 abbrev pub root_name : ℕ → List ℕ
 root_name number = slice_index_or root_names (number - 1) []
@@ -34,10 +37,14 @@ abbrev pub kind_text : VehicleKind → List ℕ
 kind_text (Root number) = root_name number
 kind_text (Added number) = codes "added " ++ decimal number
 
+-- the code of a text of one character
+abbrev pub character : List ℕ → ℕ
+character text = slice_index text 0
+
 -- the digit 1 for a mark that is set
 abbrev pub mark_digit : Bool → ℕ
-mark_digit true = 49
-mark_digit false = 48
+mark_digit true = character (codes "1")
+mark_digit false = character (codes "0")
 
 -- seven digits
 abbrev pub marks_text : Marks → List ℕ
@@ -54,7 +61,7 @@ heading_text heading = if heading == 255 then codes "unknown" else decimal headi
 
 -- the two numbers, latitude first
 abbrev pub way_text : Way → List ℕ
-way_text way = signed_decimal way.latitude ++ 32 ∷ signed_decimal way.longitude
+way_text way = signed_decimal way.latitude ++ (codes " " ++ signed_decimal way.longitude)
 
 -- the octets, or a hyphen where there are none
 abbrev pub content_text : List ℕ → List ℕ
@@ -63,19 +70,24 @@ content_text (octet ∷ octets) = encode_lower (octet ∷ octets)
 
 -- the object identifier and the data
 abbrev pub extra_text : Extra → List ℕ
-extra_text extra = encode_lower (octets_of extra.oid.bits) ++ 32 ∷ content_text (octets_of extra.content.bits)
+extra_text extra = encode_lower (octets_of extra.oid.bits) ++ (codes " " ++ content_text (octets_of extra.content.bits))
 
--- those that apply, with a space in front of each
-abbrev pub word_if : Bool → List ℕ → List ℕ
-word_if true word = 32 ∷ word
+-- the word, where it applies
+abbrev pub word_if : Bool → List ℕ → List (List ℕ)
+word_if true word = word ∷ []
 word_if false word = []
 
-abbrev pub words_of : Remarks → List ℕ
-words_of remarks = word_if remarks.latitude (codes "latitude") ++ word_if remarks.longitude (codes "longitude") ++ word_if remarks.heading (codes "heading")
+-- the names of the values that are remarked, in this order
+abbrev pub words_of : Remarks → List (List ℕ)
+words_of remarks =
+    word_if remarks.latitude (codes "latitude")
+    ++ word_if remarks.longitude (codes "longitude")
+    ++ word_if remarks.heading (codes "heading")
 
-abbrev pub is_remarked : Remarks → Bool
-is_remarked remarks = remarks.latitude || remarks.longitude || remarks.heading
+-- some words with single spaces between them
+abbrev pub words_text : List (List ℕ) → List ℕ
+words_text [] = codes "none"
+words_text (word ∷ words) = join_with_byte (character (codes " ")) (word ∷ words)
 
--- the remarks, or ` none` where there are none
 abbrev pub remarks_text : Remarks → List ℕ
-remarks_text remarks = if is_remarked remarks then words_of remarks else codes " none"
+remarks_text remarks = words_text (words_of remarks)

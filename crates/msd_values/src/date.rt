@@ -1,6 +1,6 @@
 //! The civil date and time of day of a set.
 ghost use Rattle.std.specs.Prelude.{◌≡◌, ◌+◌, ◌*◌, ◌/◌, ◌%◌, ◌<◌, pos, ◌*ℤ◌};
-ghost use Rattle.msd_values.specs.Clock.{IsCivilTime};
+ghost use Rattle.msd_values.specs.inner.Clock.{IsCivilTime};
 ghost use Rattle.msd_values.specs.Civil.{two_digits, instant_text};
 
 use jiff::Timestamp;

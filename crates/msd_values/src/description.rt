@@ -1,7 +1,8 @@
 //! The description of a set for people.
-ghost use Rattle.std.specs.Prelude.{◌≤◌, OnOk, OnErr};
+ghost use Rattle.std.specs.Prelude.{◌≡◌, ◌≤◌, OnOk, OnErr};
 ghost use Rattle.call_io.specs.Bytes.{Grew, GrewPartly};
 ghost use Rattle.call_io.specs.Counts.{Rose};
+ghost use Rattle.call_io.specs.Ways.{Onward};
 ghost use Rattle.msd_values.specs.Description.{description};
 
 use crate::additions::write_additions;
@@ -11,14 +12,15 @@ use crate::msd::Msd;
 use crate::page::Page;
 use call_io::{Failed, Sink, write_all};
 
-/// Writes the description of a set: twenty lines, a name and its value each. It takes no memory, and
-/// writes a description of up to 512 bytes, as almost all are, at once. After a failure a front of the
-/// description was written.
+/// Writes the description of a set: twenty lines, a name and its value each. It takes no memory.
+/// After a failure a front of the description was written.
 pub fn describe<O: Sink>(msd: &Msd<'_>, out: &mut O) -> Result<(), Failed>
     ensures ok { OnOk result (Grew (O.held out.old) (O.held out.new) (description msd.now)) }
     ensures partly { OnErr result (GrewPartly (O.held out.old) (O.held out.new) (description msd.now)) }
     ensures cause { OnErr result (Rose (O.faults out.old) (O.faults out.new)) }
+    ensures stood { OnOk result (O.faults out.new ≡ O.faults out.old) }
     ensures counted { O.faults out.old ≤ O.faults out.new }
+    ensures onward { Onward (O.way out.old) (O.way out.new) }
 {
     let mut page = Page::new();
     put_vehicle_lines(&mut page, msd);

@@ -1,22 +1,23 @@
 //! The lines of the additional data and of the remarks.
-ghost use Rattle.std.specs.Prelude.{◌+◌, ◌≤◌, ◌∷◌, [], ◌++◌, length, codes};
+ghost use Rattle.std.specs.Prelude.{◌+◌, ◌≤◌, ◌<◌, ◌++◌, length, codes};
 ghost use Rattle.arrayvec.specs.ArrayVec.{array_vec_len};
 ghost use Rattle.per_bits.specs.Bits.{octets_of};
-ghost use Rattle.msd_values.specs.Description.{line, remarks_line};
-ghost use Rattle.msd_values.specs.Texts.{or_none, content_text, extra_text, word_if, remarks_text};
-ghost use Rattle.msd_values.specs.Waiting.{Appends};
+ghost use Rattle.msd_values.specs.Description.{line};
+ghost use Rattle.msd_values.specs.Texts.{or_none, content_text, extra_text};
+ghost use Rattle.msd_values.specs.inner.Groups.{spaced_if, spaced_remarks, remarks_line};
+ghost use Rattle.msd_values.specs.inner.Waiting.{Appends};
 
 use crate::msd::{Extra, Msd};
 use crate::octets::put_hex;
-use crate::page::{PAGE, Page, put};
+use crate::page::{EXTRA, EXTRA_LINE, LINE, OCTETS, PAGE, Page, WORD, put};
 use crate::remarks::{Remarks, find_remarks};
 use per_bits::Octs;
 
 // Puts the data, or a hyphen where there are none.
 fn put_content(page: &mut Page, content: &Octs<'_>)
-    requires { array_vec_len page.old + 254 ≤ PAGE }
+    requires { array_vec_len page.old + OCTETS ≤ PAGE }
     ensures items { Appends page.old.items page.new.items (content_text (octets_of content.now.bits)) }
-    ensures len { array_vec_len page.new ≤ array_vec_len page.old + 254 }
+    ensures len { array_vec_len page.new ≤ array_vec_len page.old + OCTETS }
 {
     if content.count() == 0 {
         put(page, b"-");
@@ -27,9 +28,9 @@ fn put_content(page: &mut Page, content: &Octs<'_>)
 
 // Puts the object identifier and the data.
 fn put_extra_text(page: &mut Page, extra: &Extra<'_>)
-    requires { array_vec_len page.old + 509 ≤ PAGE }
+    requires { array_vec_len page.old + EXTRA ≤ PAGE }
     ensures items { Appends page.old.items page.new.items (extra_text extra.now) }
-    ensures len { array_vec_len page.new ≤ array_vec_len page.old + 509 }
+    ensures len { array_vec_len page.new ≤ array_vec_len page.old + EXTRA }
 {
     put_hex(page, &extra.oid.octs());
     put(page, b" ");
@@ -38,9 +39,9 @@ fn put_extra_text(page: &mut Page, extra: &Extra<'_>)
 
 /// Puts the line of the additional data.
 pub fn put_extra(page: &mut Page, extra: &Option<Extra<'_>>)
-    requires { array_vec_len page.old ≤ 640 }
+    requires { array_vec_len page.old + EXTRA_LINE ≤ PAGE }
     ensures items { Appends page.old.items page.new.items (line (codes "extra") (or_none extra_text extra.now)) }
-    ensures len { array_vec_len page.new ≤ array_vec_len page.old + 516 }
+    ensures len { array_vec_len page.new ≤ array_vec_len page.old + EXTRA_LINE }
 {
     put(page, b"extra ");
     match extra {
@@ -52,10 +53,10 @@ pub fn put_extra(page: &mut Page, extra: &Option<Extra<'_>>)
 
 // Puts a space and the word, if it applies.
 fn put_word_if(page: &mut Page, applies: bool, word: &[u8])
-    requires word { length word.now ≤ 9 }
-    requires room { array_vec_len page.old + 10 ≤ PAGE }
-    ensures items { Appends page.old.items page.new.items (word_if applies word.now) }
-    ensures len { array_vec_len page.new ≤ array_vec_len page.old + 10 }
+    requires word { length word.now < WORD }
+    requires room { array_vec_len page.old + WORD ≤ PAGE }
+    ensures items { Appends page.old.items page.new.items (spaced_if applies word.now) }
+    ensures len { array_vec_len page.new ≤ array_vec_len page.old + WORD }
 {
     if applies {
         put(page, b" ");
@@ -65,9 +66,9 @@ fn put_word_if(page: &mut Page, applies: bool, word: &[u8])
 
 // Puts the remarks in a line.
 fn put_remarks(page: &mut Page, remarks: Remarks)
-    requires { array_vec_len page.old + 64 ≤ PAGE }
-    ensures items { Appends page.old.items page.new.items (codes "remarks" ++ remarks_text remarks ++ 10 ∷ []) }
-    ensures len { array_vec_len page.new ≤ array_vec_len page.old + 64 }
+    requires { array_vec_len page.old + LINE ≤ PAGE }
+    ensures items { Appends page.old.items page.new.items (codes "remarks" ++ spaced_remarks remarks ++ codes "\n") }
+    ensures len { array_vec_len page.new ≤ array_vec_len page.old + LINE }
 {
     put(page, b"remarks");
     if remarks.latitude || remarks.longitude || remarks.heading {
@@ -81,11 +82,11 @@ fn put_remarks(page: &mut Page, remarks: Remarks)
 }
 
 /// Puts the line of the remarks.
-#[tactic(auto, unfolding(crate::specs::Description::remarks_line))]
+#[tactic(auto, unfolding(crate::specs::inner::Groups::remarks_line))]
 pub fn put_remarks_line(page: &mut Page, msd: &Msd<'_>)
-    requires { array_vec_len page.old + 64 ≤ PAGE }
+    requires { array_vec_len page.old + LINE ≤ PAGE }
     ensures items { Appends page.old.items page.new.items (remarks_line msd.now) }
-    ensures len { array_vec_len page.new ≤ array_vec_len page.old + 64 }
+    ensures len { array_vec_len page.new ≤ array_vec_len page.old + LINE }
 {
     put_remarks(page, find_remarks(msd));
 }

@@ -1,15 +1,16 @@
 //! The lines of a description that have no additions.
-ghost use Rattle.std.specs.Prelude.{◌≡◌, ◌+◌, ◌≤◌, ◌∷◌, [], ◌++◌, length, codes, decimal};
+ghost use Rattle.std.specs.Prelude.{◌≡◌, ◌+◌, ◌≤◌, ◌++◌, length, codes, decimal};
 ghost use Rattle.arrayvec.specs.ArrayVec.{array_vec_len};
-ghost use Rattle.msd_values.specs.Waiting.{Appends};
-ghost use Rattle.msd_values.specs.Description.{line, vehicle_lines, place_lines};
+ghost use Rattle.msd_values.specs.inner.Waiting.{Appends};
+ghost use Rattle.msd_values.specs.Description.{line};
+ghost use Rattle.msd_values.specs.inner.Groups.{vehicle_lines, place_lines};
 ghost use Rattle.msd_values.specs.Texts.{or_none, truth_text, root_name, kind_text, mark_digit, marks_text, angle_text, heading_text, way_text};
 ghost use Rattle.msd_values.specs.Civil.{instant_text};
 
 use crate::date::instant_text;
 use crate::kind::VehicleKind;
 use crate::msd::{Delta, Marks, Msd};
-use crate::page::{PAGE, Page, put, put_line, put_number};
+use crate::page::{LINE, NAME, PAGE, PLACE_LINES, Page, VEHICLE_LINES, put, put_line, put_number};
 use crate::remarks::{UNKNOWN_ANGLE, UNKNOWN_HEADING};
 use crate::vin::Vin;
 use itoa::Buffer;
@@ -24,10 +25,10 @@ fn truth_text(truth: bool) -> &'static [u8]
 
 // Puts a line that says whether something is so.
 fn put_truth(page: &mut Page, name: &[u8], truth: bool)
-    requires name { length name.now ≤ 13 }
-    requires room { array_vec_len page.old + 64 ≤ PAGE }
-    ensures items { Appends page.old.items page.new.items (name.now ++ truth_text truth ++ 10 ∷ []) }
-    ensures len { array_vec_len page.new ≤ array_vec_len page.old + 64 }
+    requires name { length name.now ≤ NAME }
+    requires room { array_vec_len page.old + LINE ≤ PAGE }
+    ensures items { Appends page.old.items page.new.items (name.now ++ truth_text truth ++ codes "\n") }
+    ensures len { array_vec_len page.new ≤ array_vec_len page.old + LINE }
 {
     put_line(page, name, truth_text(truth));
 }
@@ -58,9 +59,9 @@ fn root_name(number: u8) -> &'static [u8]
 
 // Puts the line of the vehicle's category.
 fn put_kind(page: &mut Page, kind: VehicleKind)
-    requires { array_vec_len page.old + 64 ≤ PAGE }
+    requires { array_vec_len page.old + LINE ≤ PAGE }
     ensures items { Appends page.old.items page.new.items (line (codes "kind") (kind_text kind)) }
-    ensures len { array_vec_len page.new ≤ array_vec_len page.old + 64 }
+    ensures len { array_vec_len page.new ≤ array_vec_len page.old + LINE }
 {
     match kind {
         VehicleKind::Root(root) => put_line(page, b"kind ", root_name(root.number())),
@@ -91,18 +92,18 @@ fn marks_text(marks: &Marks) -> [u8; 7]
 
 // Puts the line of the vehicle's identification number.
 fn put_vin(page: &mut Page, vin: &Vin)
-    requires { array_vec_len page.old + 64 ≤ PAGE }
+    requires { array_vec_len page.old + LINE ≤ PAGE }
     ensures items { Appends page.old.items page.new.items (line (codes "vin") vin.now) }
-    ensures len { array_vec_len page.new ≤ array_vec_len page.old + 64 }
+    ensures len { array_vec_len page.new ≤ array_vec_len page.old + LINE }
 {
     put_line(page, b"vin ", vin.text());
 }
 
 // Puts the line of the vehicle's energies.
 fn put_marks(page: &mut Page, marks: &Marks)
-    requires { array_vec_len page.old + 64 ≤ PAGE }
+    requires { array_vec_len page.old + LINE ≤ PAGE }
     ensures items { Appends page.old.items page.new.items (line (codes "fuel") (marks_text marks.now)) }
-    ensures len { array_vec_len page.new ≤ array_vec_len page.old + 64 }
+    ensures len { array_vec_len page.new ≤ array_vec_len page.old + LINE }
 {
     let digits = marks_text(marks);
     put_line(page, b"fuel ", &digits);
@@ -110,9 +111,9 @@ fn put_marks(page: &mut Page, marks: &Marks)
 
 /// Puts the lines that say what the set is, and of which vehicle.
 pub fn put_vehicle_lines(page: &mut Page, msd: &Msd<'_>)
-    requires { array_vec_len page.old ≤ 512 }
+    requires { array_vec_len page.old + VEHICLE_LINES ≤ PAGE }
     ensures items { Appends page.old.items page.new.items (vehicle_lines msd.now) }
-    ensures len { array_vec_len page.new ≤ array_vec_len page.old + 512 }
+    ensures len { array_vec_len page.new ≤ array_vec_len page.old + VEHICLE_LINES }
 {
     put_line(page, b"format ", b"2");
     put_number(page, b"message ", msd.message);
@@ -126,9 +127,9 @@ pub fn put_vehicle_lines(page: &mut Page, msd: &Msd<'_>)
 
 // Puts the line of the time.
 fn put_time(page: &mut Page, time: u32)
-    requires { array_vec_len page.old + 64 ≤ PAGE }
-    ensures items { Appends page.old.items page.new.items (line (codes "time") (decimal time ++ 32 ∷ instant_text time)) }
-    ensures len { array_vec_len page.new ≤ array_vec_len page.old + 64 }
+    requires { array_vec_len page.old + LINE ≤ PAGE }
+    ensures items { Appends page.old.items page.new.items (line (codes "time") (decimal time ++ (codes " " ++ instant_text time))) }
+    ensures len { array_vec_len page.new ≤ array_vec_len page.old + LINE }
 {
     let mut digits = Buffer::new();
     let instant = instant_text(time);
@@ -141,10 +142,10 @@ fn put_time(page: &mut Page, time: u32)
 
 // Puts a line with a latitude or a longitude.
 fn put_angle(page: &mut Page, name: &[u8], angle: i32)
-    requires name { length name.now ≤ 13 }
-    requires room { array_vec_len page.old + 64 ≤ PAGE }
-    ensures items { Appends page.old.items page.new.items (name.now ++ angle_text angle ++ 10 ∷ []) }
-    ensures len { array_vec_len page.new ≤ array_vec_len page.old + 64 }
+    requires name { length name.now ≤ NAME }
+    requires room { array_vec_len page.old + LINE ≤ PAGE }
+    ensures items { Appends page.old.items page.new.items (name.now ++ angle_text angle ++ codes "\n") }
+    ensures len { array_vec_len page.new ≤ array_vec_len page.old + LINE }
 {
     if angle == UNKNOWN_ANGLE {
         put_line(page, name, b"unknown");
@@ -155,9 +156,9 @@ fn put_angle(page: &mut Page, name: &[u8], angle: i32)
 
 // Puts the line of the heading.
 fn put_heading(page: &mut Page, heading: u8)
-    requires { array_vec_len page.old + 64 ≤ PAGE }
+    requires { array_vec_len page.old + LINE ≤ PAGE }
     ensures items { Appends page.old.items page.new.items (line (codes "heading") (heading_text heading)) }
-    ensures len { array_vec_len page.new ≤ array_vec_len page.old + 64 }
+    ensures len { array_vec_len page.new ≤ array_vec_len page.old + LINE }
 {
     if heading == UNKNOWN_HEADING {
         put_line(page, b"heading ", b"unknown");
@@ -168,10 +169,10 @@ fn put_heading(page: &mut Page, heading: u8)
 
 // Puts a line with the way from a recent location.
 fn put_way(page: &mut Page, name: &[u8], way: &Delta)
-    requires name { length name.now ≤ 13 }
-    requires room { array_vec_len page.old + 64 ≤ PAGE }
-    ensures items { Appends page.old.items page.new.items (name.now ++ way_text way.now ++ 10 ∷ []) }
-    ensures len { array_vec_len page.new ≤ array_vec_len page.old + 64 }
+    requires name { length name.now ≤ NAME }
+    requires room { array_vec_len page.old + LINE ≤ PAGE }
+    ensures items { Appends page.old.items page.new.items (name.now ++ way_text way.now ++ codes "\n") }
+    ensures len { array_vec_len page.new ≤ array_vec_len page.old + LINE }
 {
     let mut latitude = Buffer::new();
     let mut longitude = Buffer::new();
@@ -184,10 +185,10 @@ fn put_way(page: &mut Page, name: &[u8], way: &Delta)
 
 // Puts a line with the way from a recent location, if there is one.
 fn put_before(page: &mut Page, name: &[u8], way: &Option<Delta>)
-    requires name { length name.now ≤ 13 }
-    requires room { array_vec_len page.old + 64 ≤ PAGE }
-    ensures items { Appends page.old.items page.new.items (name.now ++ or_none way_text way.now ++ 10 ∷ []) }
-    ensures len { array_vec_len page.new ≤ array_vec_len page.old + 64 }
+    requires name { length name.now ≤ NAME }
+    requires room { array_vec_len page.old + LINE ≤ PAGE }
+    ensures items { Appends page.old.items page.new.items (name.now ++ or_none way_text way.now ++ codes "\n") }
+    ensures len { array_vec_len page.new ≤ array_vec_len page.old + LINE }
 {
     match way {
         Some(way) => put_way(page, name, way),
@@ -197,9 +198,9 @@ fn put_before(page: &mut Page, name: &[u8], way: &Option<Delta>)
 
 // Puts the line of the passengers.
 fn put_passengers(page: &mut Page, passengers: Option<u8>)
-    requires { array_vec_len page.old + 64 ≤ PAGE }
+    requires { array_vec_len page.old + LINE ≤ PAGE }
     ensures items { Appends page.old.items page.new.items (line (codes "passengers") (or_none decimal passengers)) }
-    ensures len { array_vec_len page.new ≤ array_vec_len page.old + 64 }
+    ensures len { array_vec_len page.new ≤ array_vec_len page.old + LINE }
 {
     match passengers {
         Some(number) => put_number(page, b"passengers ", number),
@@ -209,9 +210,9 @@ fn put_passengers(page: &mut Page, passengers: Option<u8>)
 
 /// Puts the lines that say when and where the set was made, and who is in the vehicle.
 pub fn put_place_lines(page: &mut Page, msd: &Msd<'_>)
-    requires { array_vec_len page.old ≤ 576 }
+    requires { array_vec_len page.old + PLACE_LINES ≤ PAGE }
     ensures items { Appends page.old.items page.new.items (place_lines msd.now) }
-    ensures len { array_vec_len page.new ≤ array_vec_len page.old + 448 }
+    ensures len { array_vec_len page.new ≤ array_vec_len page.old + PLACE_LINES }
 {
     put_time(page, msd.time);
     put_angle(page, b"latitude ", msd.latitude);

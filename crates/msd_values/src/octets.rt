@@ -3,9 +3,9 @@ ghost use Rattle.std.specs.Prelude.{◌≡◌, ◌+◌, ◌≤◌, length, take}
 ghost use Rattle.arrayvec.specs.ArrayVec.{array_vec_len};
 ghost use Rattle.hex.specs.Hex.{encode_lower};
 ghost use Rattle.per_bits.specs.Bits.{octets_of};
-ghost use Rattle.msd_values.specs.Waiting.{Appends};
+ghost use Rattle.msd_values.specs.inner.Waiting.{Appends};
 
-use crate::page::{PAGE, Page, put};
+use crate::page::{OCTETS, PAGE, Page, put};
 use per_bits::Octs;
 
 // Copies the octets to the front, and answers how many they are.
@@ -23,9 +23,9 @@ fn copy_octets(octs: &Octs<'_>, into: &mut [u8; 127]) -> usize
 
 /// Puts the octets in hexadecimal digits of lower case, at most 254 of them.
 pub fn put_hex(page: &mut Page, octs: &Octs<'_>)
-    requires { array_vec_len page.old + 254 ≤ PAGE }
+    requires { array_vec_len page.old + OCTETS ≤ PAGE }
     ensures items { Appends page.old.items page.new.items (encode_lower (octets_of octs.now.bits)) }
-    ensures len { array_vec_len page.new ≤ array_vec_len page.old + 254 }
+    ensures len { array_vec_len page.new ≤ array_vec_len page.old + OCTETS }
 {
     let mut octets = [0; 127];
     let mut digits = [0; 254];

@@ -1,27 +1,26 @@
 //! Readers of single elements. Each ends no nearer to the front than it began, in the same octets.
 ghost use Rattle.std.specs.Prelude.{◌≡◌, ◌+◌, ◌*◌, ◌/◌, ◌%◌, ◌^◌, ◌<◌, ◌≤◌, nat_eq, pos, true, false, IfOk, OnOk};
-ghost use Rattle.std.specs.Option.{option_map, option_to_list};
+ghost use Rattle.std.specs.Option.{option_to_list};
 ghost use Rattle.per_bits.specs.Bits.{digits};
 ghost use Rattle.per_types.specs.Types.{truth, number, boolean};
-ghost use Rattle.per_types.specs.Reading.{Gives, mark_at, presence_at, tree_at, more_at};
+ghost use Rattle.per_types.specs.inner.Reading.{Gives, truth_at, presence_at, tree_at, more_at};
 ghost use Rattle.msd_values.specs.Position.{IsDelta};
 ghost use Rattle.msd_codec.specs.Module.{octet, timestamp, angle, angle_delta, vehicle_type};
-ghost use Rattle.msd_codec.specs.Trees.{count_tree, kind_tree, members_of};
-ghost use Rattle.msd_codec.specs.Places.{LieBetween, MovesOn};
-ghost use Rattle.msd_codec.specs.Reading.{presence_bit, default_at};
+ghost use Rattle.msd_codec.specs.Trees.{count_tree, kind_tree, more_of};
+ghost use Rattle.msd_codec.specs.Places.{LieBetween};
+ghost use Rattle.msd_codec.specs.inner.Reading.{MovesOn};
+ghost use Rattle.msd_codec.specs.inner.Reading.{presence_bit, default_at};
 
 use msd_values::{AddedKind, RootKind, VehicleKind};
 use per_bits::{Additions, Cursor, Refusal};
-use per_types::{
-    EnumIndex, read_additions, read_bool, read_enum, read_mark, read_presence, read_whole,
-};
+use per_types::{EnumIndex, read_additions, read_bool, read_enum, read_presence, read_whole};
 
 /// Whether additions follow.
 pub fn read_extended(c: &mut Cursor<'_>) -> Result<bool, Refusal>
-    ensures exact { Gives (λ v. v) result (mark_at c.old) c.new }
+    ensures exact { Gives (λ v. v) result (truth_at c.old) c.new }
     ensures on { OnOk result (MovesOn c.old c.new) }
 {
-    read_mark(c)
+    read_bool(c)
 }
 
 /// The presence bits of `n` components, at most 16.
@@ -33,12 +32,12 @@ pub fn read_present(c: &mut Cursor<'_>, n: u32) -> Result<u16, Refusal>
     read_presence(c, n)
 }
 
-/// Whether the bit of a component is 1, which has so many components behind it.
-pub fn is_present(presence: u16, behind: u32) -> bool
-    requires { behind < 16 }
-    ensures { result ≡ presence_bit presence behind }
+/// Whether the presence bit of a component is 1, behind which `others` more stand.
+pub fn is_present(presence: u16, others: u32) -> bool
+    requires { others < 16 }
+    ensures { result ≡ presence_bit presence others }
 {
-    (presence >> behind) % 2 == 1
+    (presence >> others) % 2 == 1
 }
 
 /// A BOOLEAN.
@@ -49,13 +48,13 @@ pub fn read_truth(c: &mut Cursor<'_>) -> Result<bool, Refusal>
     read_bool(c)
 }
 
-/// A BOOLEAN DEFAULT FALSE, whose presence bit has so many behind it.
-pub fn read_flag(c: &mut Cursor<'_>, presence: u16, behind: u32) -> Result<bool, Refusal>
-    requires { behind < 16 }
-    ensures exact { Gives truth result (default_at (presence_bit presence behind) boolean (truth false) c.old) c.new }
+/// A BOOLEAN DEFAULT FALSE, behind whose presence bit `others` more stand.
+pub fn read_flag(c: &mut Cursor<'_>, presence: u16, others: u32) -> Result<bool, Refusal>
+    requires { others < 16 }
+    ensures exact { Gives truth result (default_at (presence_bit presence others) boolean (truth false) c.old) c.new }
     ensures on { OnOk result (MovesOn c.old c.new) }
 {
-    if is_present(presence, behind) {
+    if is_present(presence, others) {
         read_truth(c)
     } else {
         Ok(false)
@@ -112,7 +111,7 @@ pub fn read_vehicle_type(c: &mut Cursor<'_>) -> Result<VehicleKind, Refusal>
 
 /// The additions of a SEQUENCE, where its mark is 1.
 pub fn read_more<'a>(c: &mut Cursor<'a>, extended: bool) -> Result<Option<Additions<'a>>, Refusal>
-    ensures exact { Gives (option_map members_of) result (more_at extended c.old) c.new }
+    ensures exact { Gives more_of result (more_at extended c.old) c.new }
     ensures parts { IfOk result (λ more. LieBetween c.old.all c.old.start (option_to_list more) c.new.start) }
     ensures on { OnOk result (MovesOn c.old c.new) }
 {
@@ -120,6 +119,7 @@ pub fn read_more<'a>(c: &mut Cursor<'a>, extended: bool) -> Result<Option<Additi
         return Ok(None);
     }
     let additions = read_additions(c)?;
+    // Asked for the proof alone: that the section's bits stand at its start.
     let _in_place = additions.bits();
     Ok(Some(additions))
 }

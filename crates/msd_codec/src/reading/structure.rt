@@ -1,12 +1,13 @@
 //! Readers of the structure of a set of data and of its components.
 ghost use Rattle.std.specs.Prelude.{◌≡◌, ◌<◌, List, [], ◌∷◌, IfOk, OnOk};
 ghost use Rattle.std.specs.Option.{option_map, option_to_list};
-ghost use Rattle.per_types.specs.Reading.{Gives, tree_at, text_at};
+ghost use Rattle.per_types.specs.inner.Reading.{Gives, tree_at, text_at};
 ghost use Rattle.msd_values.specs.Vin.{IsVin};
 ghost use Rattle.msd_codec.specs.Module.{octet, control_type, vehicle_identification, propulsion_storage, vehicle_location, location_delta, msd_structure};
 ghost use Rattle.msd_codec.specs.Trees.{count_tree, control_tree, vin_tree, storage_tree, pair_tree, way_tree, structure_tree};
-ghost use Rattle.msd_codec.specs.Places.{LieBetween, MovesOn, structure_parts};
-ghost use Rattle.msd_codec.specs.Reading.{presence_bit, optional_at};
+ghost use Rattle.msd_codec.specs.Places.{LieBetween, structure_parts};
+ghost use Rattle.msd_codec.specs.inner.Reading.{MovesOn};
+ghost use Rattle.msd_codec.specs.inner.Reading.{presence_bit, optional_at};
 
 use crate::reading::elements::{
     is_present, read_angle, read_angle_delta, read_extended, read_flag, read_more, read_octet,
@@ -160,13 +161,13 @@ fn read_delta(c: &mut Cursor<'_>) -> Result<Delta, Refusal>
     })
 }
 
-// The way from a recent location, if it is present; its presence bit has so many behind it.
-fn read_recent(c: &mut Cursor<'_>, presence: u16, behind: u32) -> Result<Option<Delta>, Refusal>
-    requires { behind < 16 }
-    ensures exact { Gives (option_map way_tree) result (optional_at (presence_bit presence behind) location_delta c.old) c.new }
+// The way from a recent location, if it is present; `others` more stand behind its presence bit.
+fn read_recent(c: &mut Cursor<'_>, presence: u16, others: u32) -> Result<Option<Delta>, Refusal>
+    requires { others < 16 }
+    ensures exact { Gives (option_map way_tree) result (optional_at (presence_bit presence others) location_delta c.old) c.new }
     ensures on { OnOk result (MovesOn c.old c.new) }
 {
-    if !is_present(presence, behind) {
+    if !is_present(presence, others) {
         return Ok(None);
     }
     let delta = read_delta(c)?;

@@ -39,6 +39,28 @@ pub const WITH_ADDITIONS: &[u8; 36] =
     b"\x02\x20\x06\x81\xd5\x49\x70\xd6\x5c\x35\x97\xca\x04\x20\xc4\x14\x60\x05\xe0\xbe\
       \x10\x08\xa5\xd3\x2c\x08\x27\xc4\xaa\x02\xd0\x10\x3a\xbc\xde\xf0";
 
+/// With an added category, additions of the energies and additions of the message. Its bits:
+///
+/// 00000010, format 2;
+/// 1 0, additions of the message and no additional data;
+/// 0 000, no additions of the structure, and none of what it may leave out;
+/// 00000001, message 1;
+/// 101, automatic, no test, trusted;
+/// 1 0000101, the category that was added with number 5;
+/// 011101 010101 001001 011100 001101 011001 011100 001101 011001 011111 001010 000001 000010 000011
+/// 000100 000101 000110, WM9VDSVDSYA123456;
+/// 1 1000000 1, additions of the energies, gasoline alone written out, and set;
+/// 0000001 01 00000001 10100101, two additions, of which the second is present and has the octet a5;
+/// 01011110 00001011 11100001 00000000, time 1577836800;
+/// 10001010 01011101 00110010 11000000, latitude 173880000;
+/// 10000010 01111100 01001010 10100000, longitude 41700000;
+/// 00101101, direction 45;
+/// 0000000 1 00000010 00010010 00110100, one addition of the message, present, with the octets 12 34;
+/// 0000000, padding.
+pub const WITH_OTHER_ADDITIONS: &[u8; 39] =
+    b"\x02\x80\x06\xc2\xba\xa9\x2e\x1a\xcb\x86\xb2\xf9\x40\x84\x18\x82\x8d\x81\x02\x80\
+      \xd2\xaf\x05\xf0\x80\x45\x2e\x99\x60\x41\x3e\x25\x50\x16\x80\x81\x09\x1a\x00";
+
 pub const WITHOUT_AN_ADDITION: &[u8; 32] =
     b"\x02\x20\x06\x81\xd5\x49\x70\xd6\x5c\x35\x97\xca\x04\x20\xc4\x14\x60\x05\xe0\xbe\
       \x10\x08\xa5\xd3\x2c\x08\x27\xc4\xaa\x02\xd0\x00";
@@ -126,7 +148,7 @@ pub const VECTORS: [(&[u8], Answer); 16] = [
         OF_FORMAT_3,
         Answer::Refused {
             place: 0,
-            reason: Reason::Version,
+            reason: Reason::Format,
             value: 3,
         },
     ),

@@ -2,24 +2,21 @@
 ghost use Rattle.std.specs.Prelude.{◌≡◌, ◌≤◌, ◌<◌, ◌^◌, true, length};
 ghost use Rattle.per_bits.specs.Bits.{value_of};
 ghost use Rattle.per_types.specs.Types.{truth, number, boolean};
-ghost use Rattle.per_types.specs.Spelling.{PresenceElements, MoreElements};
-ghost use Rattle.per_types.specs.Writing.{MarkElements};
+ghost use Rattle.per_types.specs.Spelling.{TruthElements, PresenceElements, MoreElements};
 ghost use Rattle.msd_values.specs.Position.{IsDelta};
 ghost use Rattle.msd_codec.specs.Module.{octet, timestamp, angle, angle_delta, vehicle_type};
 ghost use Rattle.msd_codec.specs.Trees.{count_tree, kind_tree, more_of};
-ghost use Rattle.msd_codec.specs.Writing.{Puts, Canon, Flag};
+ghost use Rattle.msd_codec.specs.inner.Writing.{Puts, Canon, Flag};
 
 use msd_values::VehicleKind;
 use per_bits::{Additions, BitBuf, Full};
-use per_types::{
-    EnumIndex, write_additions, write_bool, write_enum, write_mark, write_presence, write_whole,
-};
+use per_types::{EnumIndex, write_additions, write_bool, write_enum, write_presence, write_whole};
 
 /// The extension mark of a SEQUENCE.
 pub fn write_extended(to: &mut BitBuf, extended: bool) -> Result<(), Full>
-    ensures { Puts (MarkElements extended) to.old result to.new }
+    ensures { Puts (TruthElements extended) to.old result to.new }
 {
-    write_mark(to, extended)
+    write_bool(to, extended)
 }
 
 /// The presence bits of a SEQUENCE, at most 16.
@@ -101,7 +98,7 @@ pub fn write_more(to: &mut BitBuf, more: &Option<Additions<'_>>) -> Result<(), F
     ensures { Puts (MoreElements true (more_of more.now)) to.old result to.new }
 {
     match more {
-        Some(additions) => write_additions(to, Additions::of(additions.bits()).unwrap()),
+        Some(additions) => write_additions(to, additions.share()),
         None => Ok(()),
     }
 }

@@ -1,11 +1,13 @@
-//! How many bits the canonical spelling of a set of data has.
+//! How many bits the canonical spelling of a set of data has. A value that changes nothing of its length is
+//! handed on for the contract, which names it. A number that is asked for and not used is asked for its range,
+//! which the proof needs.
 ghost use Rattle.std.specs.Prelude.{◌≡◌, ◌+◌, ◌*◌, ◌≤◌, true};
 ghost use Rattle.std.specs.Option.{option_map};
 ghost use Rattle.per_types.specs.Types.{number};
 ghost use Rattle.per_types.specs.Spelling.{MoreElements};
 ghost use Rattle.msd_codec.specs.Module.{octet, timestamp, control_type, vehicle_identification, propulsion_storage, vehicle_location, location_delta, vehicle_type, msd_structure, msd_message, ecall_message, additional_data};
 ghost use Rattle.msd_codec.specs.Trees.{count_tree, control_tree, kind_tree, vin_tree, storage_tree, pair_tree, way_tree, structure_tree, message_tree, extra_tree, more_of, tree};
-ghost use Rattle.msd_codec.specs.Writing.{HasLength, Canon, Optional, Flag};
+ghost use Rattle.msd_codec.specs.inner.Writing.{HasLength, Canon, Optional, Flag};
 
 use msd_values::{Delta, Extra, Marks, Msd, VehicleKind, Vin};
 use per_bits::Additions;

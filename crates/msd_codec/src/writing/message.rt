@@ -5,7 +5,7 @@ ghost use Rattle.per_bits.specs.Bits.{octets_of};
 ghost use Rattle.per_types.specs.Types.{bytes, format, octet_string, relative_oid};
 ghost use Rattle.msd_codec.specs.Module.{additional_data, msd_message, ecall_message};
 ghost use Rattle.msd_codec.specs.Trees.{count_tree, extra_tree, message_tree, tree};
-ghost use Rattle.msd_codec.specs.Writing.{Puts, Canon, Optional};
+ghost use Rattle.msd_codec.specs.inner.Writing.{Puts, Canon, Optional};
 
 use crate::writing::elements::{write_extended, write_more, write_present};
 use crate::writing::structure::write_structure;
@@ -60,13 +60,12 @@ fn write_additional_data(to: &mut BitBuf, extra: &Extra<'_>) -> Result<(), Full>
 fn write_identifier(to: &mut BitBuf, oid: &Oid<'_>) -> Result<(), Full>
     ensures { Puts (Canon relative_oid (bytes (octets_of oid.now.bits))) to.old result to.new }
 {
-    write_oid(to, Oid::of(oid.octs()).unwrap())
+    write_oid(to, oid.share())
 }
 
 // The octets of additional data.
 fn write_content(to: &mut BitBuf, content: &Octs<'_>) -> Result<(), Full>
     ensures { Puts (Canon octet_string (bytes (octets_of content.now.bits))) to.old result to.new }
 {
-    let _whole = content.count();
-    write_octets(to, Octs::of(content.bits()).unwrap())
+    write_octets(to, content.share())
 }

@@ -6,7 +6,7 @@ ghost use Rattle.per_types.specs.Types.{text, characters};
 ghost use Rattle.msd_values.specs.Alphabet.{is_vin_character};
 ghost use Rattle.msd_codec.specs.Module.{octet, control_type, vehicle_identification, propulsion_storage, vehicle_location, location_delta, msd_structure};
 ghost use Rattle.msd_codec.specs.Trees.{count_tree, control_tree, vin_tree, storage_tree, pair_tree, way_tree, structure_tree};
-ghost use Rattle.msd_codec.specs.Writing.{Puts, Canon, Optional};
+ghost use Rattle.msd_codec.specs.inner.Writing.{Puts, Canon, Optional};
 
 use crate::writing::elements::{
     write_angle, write_angle_delta, write_extended, write_flag, write_more, write_octet,

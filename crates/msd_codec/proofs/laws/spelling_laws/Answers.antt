@@ -1,6 +1,7 @@
 use Rattle.msd_codec.specs.Module.{ecall_message}
 use Rattle.per_types.proofs.Decided.{no_prefix, one_value}
 use Rattle.msd_codec.proofs.SetLaws as laws
+use Rattle.msd_codec.specs.Trees.{tree}
 use Rattle.msd_codec.proofs.laws.spelling_laws.Goals as goal
 
 pub returns-clause-no_prefix : goal.returns-clause-no_prefix
@@ -16,13 +17,19 @@ pub returns-clause-canonical : goal.returns-clause-canonical
 returns-clause-canonical c = laws.canonical_one
 
 pub returns-clause-again : goal.returns-clause-again
-returns-clause-again c = laws.canonical_again
+returns-clause-again c = λ octets v w. laws.read_again octets (tree v) (tree w)
+
+pub returns-clause-one_shown : goal.returns-clause-one_shown
+returns-clause-one_shown c = laws.one_shown
+
+pub returns-clause-one_stop : goal.returns-clause-one_stop
+returns-clause-one_stop c = laws.one_stop
 
 pub returns-clause-decided : goal.returns-clause-decided
 returns-clause-decided c = laws.decided
 
 pub returns-clause-apart : goal.returns-clause-apart
-returns-clause-apart c = λ octets v refusal small. laws.apart octets v refusal
+returns-clause-apart c = laws.apart
 
-pub returns-clause-read : goal.returns-clause-read
-returns-clause-read c = λ octets answer small. (laws.answer_is octets answer small, laws.answer_read octets answer)
+pub returns-clause-one_text : goal.returns-clause-one_text
+returns-clause-one_text c = laws.one_text

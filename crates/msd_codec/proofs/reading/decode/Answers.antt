@@ -1,29 +1,18 @@
-use Rattle.std.proofs.Common.{Ok, ◌≡◌, ◌<◌, length, arith, ap, ◌∙◌, sym, inl, inr, ◌⊎◌}
+use Rattle.std.proofs.Common.{Ok, length, arith, ap, ◌∙◌, sym}
 use Rattle.std.proofs.lemmas.Bool.Decides.{nat_tests}
 use Rattle.per_bits.proofs.Octets.{are_octets}
 use Rattle.per_bits.specs.Bits.{Part}
 use Rattle.per_bits.specs.Parts.{AreOctets}
 use Rattle.per_bits.proofs.Places.{length_octet_bits}
 use Rattle.msd_codec.specs.Sets.{HasSize}
-use Rattle.msd_codec.proofs.SetLaws.{refused, rest_refused, passed, exit_answer, exit_stopped, size_refused, answer_is}
+use Rattle.msd_codec.proofs.SetLaws.{refused, rest_refused, passed, exit_stopped, answer_is}
 use Rattle.msd_codec.proofs.reading.decode.Goals as goal
-use Rattle.msd_codec.proofs.reading.decode.Goals.{then-is_empty-via-then-is_empty, then-is_empty-via-else-is_empty+then-octets-gt140}
-
-pub returns-then-is_empty-clause-exact : goal.returns-then-is_empty-clause-exact
-returns-then-is_empty-clause-exact c =
-    let size : (length c.args.octets.now ≡ 0) ⊎ (140 < length c.args.octets.now) = elim c.then-is_empty.branch [ then-is_empty-via-then-is_empty w ↦ inl (grind (arith, nat_tests)) | then-is_empty-via-else-is_empty+then-octets-gt140 w ↦ inr (omega arith) ] in
-    size_refused _ _ size (grind arith)
 
 pub returns-in_err-msd-clause-stopped : goal.returns-in_err-msd-clause-stopped
 returns-in_err-msd-clause-stopped c =
     let small : AreOctets c.args.octets.now = are_octets _ (λ i. omega (arith, c.type_inv.octets i)) in
     let size : HasSize c.args.octets.now = (grind (arith, nat_tests), omega arith) in
     exit_stopped _ _ _ small c.from_residual.ensures.1 (refused _ c.of-cursor.result size (c.of-cursor.ensures ∙ c.of.ensures.all) _ _ c.in_err-msd.ensures.exact)
-
-pub returns-in_err-msd-clause-exact : goal.returns-in_err-msd-clause-exact
-returns-in_err-msd-clause-exact c =
-    let size : HasSize c.args.octets.now = (grind (arith, nat_tests), omega arith) in
-    exit_answer _ _ _ _ c.from_residual.ensures.1 (refused _ c.of-cursor.result size (c.of-cursor.ensures ∙ c.of.ensures.all) _ _ c.in_err-msd.ensures.exact)
 
 pub check_rest-requires-clause-within : goal.check_rest-requires-clause-within
 check_rest-requires-clause-within c =
@@ -36,16 +25,6 @@ returns-in_err-check_rest-clause-stopped c =
     let small : AreOctets c.args.octets.now = are_octets _ (λ i. omega (arith, c.type_inv.octets i)) in
     let size : HasSize c.args.octets.now = (grind (arith, nat_tests), omega arith) in
     exit_stopped _ _ _ small c.from_residual-in_err-check_rest.ensures.1 (rest_refused _ c.of-cursor.result size (c.of-cursor.ensures ∙ c.of.ensures.all) _ _ _ _ c.in_ok-msd.ensures.exact c.place.ensures.value c.in_err-check_rest.ensures)
-
-pub returns-in_err-check_rest-clause-exact : goal.returns-in_err-check_rest-clause-exact
-returns-in_err-check_rest-clause-exact c =
-    let size : HasSize c.args.octets.now = (grind (arith, nat_tests), omega arith) in
-    exit_answer _ _ _ _ c.from_residual-in_err-check_rest.ensures.1 (rest_refused _ c.of-cursor.result size (c.of-cursor.ensures ∙ c.of.ensures.all) _ _ _ _ c.in_ok-msd.ensures.exact c.place.ensures.value c.in_err-check_rest.ensures)
-
-pub returns-clause-exact : goal.returns-clause-exact
-returns-clause-exact c =
-    let size : HasSize c.args.octets.now = (grind (arith, nat_tests), omega arith) in
-    passed _ c.of-cursor.result size (c.of-cursor.ensures ∙ c.of.ensures.all) _ _ _ c.in_ok-msd.ensures.exact c.place.ensures.value c.in_ok-check_rest.ensures
 
 pub returns-clause-shown : goal.returns-clause-shown
 returns-clause-shown c =

@@ -1,4 +1,5 @@
-use Rattle.std.proofs.Common.{[], ◌∷◌, ◌++◌}
+use Rattle.std.proofs.Common.{◌++◌}
+use Rattle.std.specs.Prelude.{codes}
 use Rattle.std.proofs.lemmas.Result.{err_from_is_err_and}
 use Rattle.msd_values.specs.Additions.{additions_text}
 use Rattle.msd_values.specs.Texts.{or_none}
@@ -9,7 +10,7 @@ pub returns-in_err-write_section_or_none-clause-passes : goal.returns-in_err-wri
 returns-in_err-write_section_or_none-clause-passes g c =
     let p = err_from_is_err_and c.from_residual.result c.from_residual.ensures.1 in
     rw p.1 (GrewPartly-more (g.O.Sink.held c.args.out.now) (g.O.Sink.held c.write_section_or_none.new.out) c.args.page.now.items
-    (c.args.name.now ++ or_none additions_text c.args.additions.now) (10 ∷ [])
+    (c.args.name.now ++ or_none additions_text c.args.additions.now) (codes "\n")
     (Passed-fails (or_none additions_text c.args.additions.now) (Passed-put (g.O.Sink.held c.args.out.now) c.put.ensures.items) c.in_err-write_section_or_none.ensures.passes))
 
 pub returns-clause-passes : goal.returns-clause-passes

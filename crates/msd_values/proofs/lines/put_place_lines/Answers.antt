@@ -1,4 +1,4 @@
-use Rattle.msd_values.specs.Description.{place_lines}
+use Rattle.msd_values.specs.inner.Groups.{place_lines}
 use Rattle.std.proofs.Common.{rules, FitsSigned, w32}
 use Rattle.std.proofs.lemmas.Int.{to_z-of_z}
 use Rattle.msd_values.proofs.Chains.{joined}

@@ -1,4 +1,4 @@
-use Rattle.msd_values.specs.Description.{vehicle_lines}
+use Rattle.msd_values.specs.inner.Groups.{vehicle_lines}
 use Rattle.msd_values.proofs.Chains.{joined}
 use Rattle.msd_values.proofs.lines.put_vehicle_lines.Goals as goal
 

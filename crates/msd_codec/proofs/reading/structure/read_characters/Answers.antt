@@ -5,14 +5,14 @@ use Rattle.msd_codec.proofs.Identification.{loop_stops, loop_more, loop_done, lo
 use Rattle.msd_codec.proofs.reading.structure.read_characters.Goals as goal
 
 pub returns-in_err-character-clause-exact : goal.returns-in_err-character-clause-exact
-returns-in_err-character-clause-exact c = exit _ _ _ _ _ c.from_residual.ensures.1 (loop_stops _ _ c.loop-i.characters c.loop-i.i _ c.loop-i-test.true c.loop-i.invariant.read c.in_err-character.ensures)
+returns-in_err-character-clause-exact c = exit _ _ _ _ _ c.from_residual.ensures.1 (loop_stops _ _ c.loop-i.characters c.loop-i.i _ c.loop-i-test.true c.loop-i.invariant.read c.in_err-character.ensures.exact)
 
 pub loop-i-preserved : goal.loop-i-preserved
 loop-i-preserved c =
     let long = c.loop-i.invariant.long in
     record {
-      read = loop_more _ _ _ c.loop-i.characters c.loop-i.i _ c.loop-i-test.true long c.loop-i.invariant.read c.in_ok-character.ensures;
-      passes = passes_more _ _ _ (omega arith) c.loop-i.invariant.passes (character_passes _ _ _ c.in_ok-character.ensures);
+      read = loop_more _ _ _ c.loop-i.characters c.loop-i.i _ c.loop-i-test.true long c.loop-i.invariant.read c.in_ok-character.ensures.exact;
+      passes = passes_more _ _ _ (omega arith) c.loop-i.invariant.passes (character_passes _ _ _ c.in_ok-character.ensures.exact);
       long = length-set _ _ _ ∙ long;
     }
 

@@ -8,7 +8,7 @@ returns-in-Some-clause-count c =
     let content = c.count-in-Some.ensures in
     counted
     (extra_length c.args.extra.now c.in-Some.extra c.octs.result c.count.result c.count-in-Some.result c.in-Some.is c.octs.ensures.value
-    (record { whole = oid.whole; few = oid.few; number = oid.value })
+    (record { whole = oid.size; few = oid.few; number = oid.value })
     c.octs.ensures.oid
-    (record { whole = content.whole; few = content.few; number = content.value }))
+    (record { whole = content.size; few = content.few; number = content.value }))
     (omega arith)

@@ -45,4 +45,4 @@ returns c =
     (required_next (canon_is (characters 3) (text (take 3 c.args.vin.now)) (cut_type 3 0 (omega arith) c.text-text.ensures.value c.text-text.ensures.vin) (ap (λ (v : List ℕ). text (take 3 v)) c.text-text.ensures.value) c.in_ok-write_text.ensures)
     (required_next (canon_is (characters 6) (text (take 6 (drop 3 c.args.vin.now))) (cut_type 6 3 (omega arith) c.text-text.ensures.value c.text-text.ensures.vin) (ap (λ (v : List ℕ). text (take 6 (drop 3 v))) c.text-text.ensures.value) c.in_ok-write_text-2.ensures)
     (required_next (canon_is (characters 1) (text (take 1 (drop 9 c.args.vin.now))) (cut_type 1 9 (omega arith) c.text-text.ensures.value c.text-text.ensures.vin) (ap (λ (v : List ℕ). text (take 1 (drop 9 v))) c.text-text.ensures.value) c.in_ok-write_text-3.ensures)
-    (required_last (canon_is (characters 7) (text (take 7 (drop 10 c.args.vin.now))) (last_type c.text-text.ensures.value c.text-text.ensures.vin) (last_text c.text-text.ensures.value c.text-text.ensures.vin) c.write_text-4.ensures)))))
+    (required_last (canon_is (characters 7) (text (drop 10 c.args.vin.now)) (last_type c.text-text.ensures.value c.text-text.ensures.vin) (last_text c.text-text.ensures.value) c.write_text-4.ensures)))))

@@ -1,14 +1,17 @@
--- What a writer does to a buffer of at most 1120 bits, and how many bits it needs, in terms of the elements
--- that spell what it writes. Cited by the writers and the lengths of this crate.
+-- Scaffolding of the writers of this crate: what a writer does to the buffer, which has room for one set of
+-- data, and how many bits it needs, in terms of the elements of the canonical spelling (ITU-T X.691, unaligned
+-- variant, in this project's profile) of what it writes. Cited by private writers and lengths alone.
 use Rattle.std.specs.Prelude.{◌≡◌, ℕ, ◌+◌, ◌<◌, Bool, true, not, IsTrue, List, [], ◌++◌, length, Option, IfSome, IfNone, Result, OnOk, OnErr}
+use Rattle.per_bits.specs.Bits.{room_bits}
 use Rattle.per_types.specs.Kinds.{Element, bits_of}
 use Rattle.per_types.specs.Types.{Tree, Ty}
 use Rattle.per_types.specs.Spelling.{Elements, TruthElements}
 
--- On Ok the bits of such elements stand behind the old ones. On Err the bits of none such have room.
-pub record Puts {X E : Type 0} (Spelled : List Element → Type 0) (old : List Bool) (result : Result X E) (new : List Bool) : Type 0 where
+-- On Ok the bits of such elements stand behind the old ones. On Err the bits of no such elements have room.
+pub record Puts {X E : Type 0} (Spelled : List Element → Type 0) (old : List Bool)
+    (result : Result X E) (new : List Bool) : Type 0 where
   pub ok : OnOk result ((es : List Element) × Spelled es × (new ≡ old ++ bits_of es))
-  pub full : OnErr result ((es : List Element) → Spelled es → 1120 < length old + length (bits_of es))
+  pub full : OnErr result ((es : List Element) → Spelled es → room_bits < length old + length (bits_of es))
 
 -- there are such elements, and they have so many bits
 pub record HasLength (Spelled : List Element → Type 0) (bits : ℕ) : Type 0 where

@@ -1,5 +1,5 @@
--- How a text is put on a page, and what a sink has been told of a text that is written through a page:
--- this project's profile. Cited by the functions that write a description.
+-- How a text is put on a page, and what a sink has been told of a text that is written through a page: this project's
+-- profile. Cited only by the contracts of the private functions that write a description.
 use Rattle.std.specs.Prelude.{◌≡◌, ℕ, List, ◌++◌, Option, Result, Ok, Err, ⊤}
 use Rattle.call_io.specs.Bytes.{Grew, GrewPartly}
 use Rattle.call_io.specs.declared.Failed.{Failed}
@@ -15,6 +15,6 @@ pub record Passed (old new : Option (List ℕ)) (waited waits text : List ℕ) :
   pub rest : told ++ waits ≡ waited ++ text
 
 -- The text passed; or the sink failed, and was told a front of what waited and the text.
-abbrev pub Passes : Result ⊤ Failed → Option (List ℕ) → Option (List ℕ) → List ℕ → List ℕ → List ℕ → Type 0
+abbrev pub Passes : Result ⊤ Failed → (old new : Option (List ℕ)) → (waited waits text : List ℕ) → Type 0
 Passes (Ok _) old new waited waits text = Passed old new waited waits text
 Passes (Err _) old new waited waits text = GrewPartly old new (waited ++ text)

@@ -1,0 +1,3 @@
+pub mod Clock
+pub mod Groups
+pub mod Waiting
