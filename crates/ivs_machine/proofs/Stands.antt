@@ -1,5 +1,7 @@
 -- Lemmas on the states that a vehicle stands for.
 use Rattle.std.proofs.Common.{◌≡◌, ◌<◌, ℕ, Bool, true, List, [], ◌∷◌, refl, sym, ◌∙◌, ap, subst, arith, eq-eqb}
+use Rattle.link_frames.specs.declared.requests.Requests.{Requests}
+use Rattle.link_frames.specs.Requests.{RequestsStandFor}
 use Rattle.ivs_machine.specs.declared.facts.Facts.{Facts}
 use Rattle.ivs_machine.specs.declared.vehicle.Ivs.{Ivs}
 use Rattle.ivs_machine.specs.declared.vehicle.Call as kept_call
@@ -21,7 +23,7 @@ in_call ivs kept obeyed made counted = record { facts = ivs.facts; phase = InCal
 
 -- what is so of each vehicle in a call that this one stands for
 pub each_in_call : (ivs : Ivs) (kept : kept_call.Call) (P : Vehicle → Type 0) → ivs.phase ≡ phase.InCall kept
-    → ((obeyed : List ℕ) (made : List (ℕ × List ℕ)) (counted : List ℕ) → greatest obeyed ≡ kept.served → IsLastSet kept.octets made → IsOfStage (stage_of kept.stage) made → P (in_call ivs kept obeyed made counted))
+    → ((obeyed : List ℕ) (made : List (ℕ × List ℕ)) (counted : List ℕ) → greatest obeyed ≡ kept.served → IsLastSet kept.octets made → IsOfStage (stage_of kept.stage) made → RequestsStandFor kept.counted counted → P (in_call ivs kept obeyed made counted))
     → (v : Vehicle) → IvsStandsFor ivs v → P v
 each_in_call ivs kept P is each v stands =
     let opened = subst (λ p. PhaseStandsFor p v.phase) is stands.phase in
@@ -32,7 +34,7 @@ each_in_call ivs kept P is each v stands =
     let same : v ≡ in_call ivs kept call.obeyed call.made call.counted =
     ap (λ (f : Facts). record v { facts = f }) stands.facts
     ∙ ap (λ (p : Phase). record { facts = ivs.facts; phase = p }) (opened.1 ∙ ap InCall named) in
-    subst P (sym same) (each call.obeyed call.made call.counted told.served told.octets request)
+    subst P (sym same) (each call.obeyed call.made call.counted told.served told.octets request told.counted)
 
 -- what is so of the vehicle that is dialling, and that this one stands for
 pub each_dialling : (ivs : Ivs) (P : Vehicle → Type 0) → ivs.phase ≡ phase.Dialling → P (record { facts = ivs.facts; phase = Dialling }) → (v : Vehicle) → IvsStandsFor ivs v → P v
@@ -42,13 +44,6 @@ each_dialling ivs P is dialling v stands =
     ap (λ (f : Facts). record v { facts = f }) stands.facts ∙ ap (λ (p : Phase). record { facts = ivs.facts; phase = p }) dials in
     subst P (sym same) dialling
 
--- a stage that isn't talk stands for none that is
-pub talking_kept : (kept : kept_stage.Stage) → stage_of kept ≡ Talking → kept ≡ stage.Talking
-talking_kept stage.Initiating e = cc
-talking_kept (stage.Sending r) e = cc
-talking_kept (stage.Confirming r) e = cc
-talking_kept stage.Talking e = refl
-
 -- before the vehicle talks a request above the greatest is taken
 pub above_taken : (v : Vehicle) (call : Call) (r : ℕ) (kept : kept_stage.Stage) (is_above : Bool) → is_above ≡ true → (kept ≡ stage.Talking → ⊥) → start_row v call r is_above (stage_of kept) ≡ takes v call r
 above_taken v call r stage.Initiating is_above above awaits = rw above refl
@@ -57,18 +52,17 @@ above_taken v call r (stage.Confirming q) is_above above awaits = rw above refl
 above_taken v call r stage.Talking is_above above awaits = absurd (awaits refl)
 
 -- a call that was just answered
-pub answered_stands : (kept : kept_call.Call) (number : ℕ) (octets : List ℕ) → kept ≡ record { number = number; stage = stage.Initiating; served = 0; octets = octets } → CallStandsFor kept (answered_call number)
-answered_stands kept number octets is =
-    let P : kept_call.Call → Type 0 = λ k. CallStandsFor k (answered_call number) in
-    subst P (sym is) (record { number = refl; stage = refl; served = refl; octets = tt; request = tt })
+pub answered_stands : (kept : kept_call.Call) (number : ℕ) (octets : List ℕ) (flags : Requests) → kept ≡ record { number = number; stage = stage.Initiating; served = 0; octets = octets; counted = flags } → RequestsStandFor kept.counted [] → CallStandsFor kept (answered_call number)
+answered_stands kept number octets flags is none =
+    record { number = ap (λ k. k.number) (sym is); stage = ap (λ k. stage_of k.stage) (sym is); served = ap (λ k. k.served) (sym is); octets = tt; request = tt; counted = none }
 
 -- a call that takes a request
 pub taken_stands : (kept kept' : kept_call.Call) (obeyed : List ℕ) (made : List (ℕ × List ℕ)) (counted : List ℕ) (r : ℕ) (octets : List ℕ)
-    → greatest obeyed ≡ kept.served → kept.served < r → kept' ≡ record kept { stage = stage.Sending r; served = r; octets = octets }
+    → greatest obeyed ≡ kept.served → kept.served < r → RequestsStandFor kept.counted counted → kept' ≡ record kept { stage = stage.Sending r; served = r; octets = octets }
     → CallStandsFor kept' (record { number = kept.number; stage = Sending r; obeyed = r ∷ obeyed; made = (r, octets) ∷ made; counted = counted })
-taken_stands kept kept' obeyed made counted r octets served above is =
+taken_stands kept kept' obeyed made counted r octets served above flags is =
     let P : kept_call.Call → Type 0 = λ k. CallStandsFor k (record { number = kept.number; stage = Sending r; obeyed = r ∷ obeyed; made = (r, octets) ∷ made; counted = counted }) in
-    subst P (sym is) (record { number = refl; stage = refl; served = omega arith; octets = refl; request = refl })
+    subst P (sym is) (record { number = refl; stage = refl; served = omega arith; octets = refl; request = refl; counted = flags })
 
 -- the acknowledgement of the request that is being sent is counted
 pub ack_counted : (v : Vehicle) (call : Call) (r : ℕ) (s : kept_stage.Stage) → s ≡ stage.Sending r
@@ -86,13 +80,30 @@ pub positive_opened : (v : Vehicle) (call : Call) (r : ℕ) (s : kept_stage.Stag
 positive_opened v call r s is = rw (is, eq-eqb r r refl) refl
 
 -- a call whose request was acknowledged
-pub confirming_stands : (kept : kept_call.Call) (obeyed : List ℕ) (made : List (ℕ × List ℕ)) (counted : List ℕ) (r : ℕ)
+pub confirming_stands : (kept kept' : kept_call.Call) (obeyed : List ℕ) (made : List (ℕ × List ℕ)) (counted : List ℕ) (r : ℕ)
     → greatest obeyed ≡ kept.served → IsLastSet kept.octets made → IsOfStage (stage_of kept.stage) made → kept.stage ≡ stage.Sending r
-    → CallStandsFor (record kept { stage = stage.Confirming r }) (counts (call_of kept obeyed made counted) r (Confirming r))
-confirming_stands kept obeyed made counted r served octets request is =
-    record { number = refl; stage = refl; served = served; octets = octets; request = subst (λ (s : kept_stage.Stage). IsOfStage (stage_of s) made) is request }
+    → kept' ≡ record kept { stage = stage.Confirming r; counted = kept'.counted } → RequestsStandFor kept'.counted (r ∷ counted)
+    → CallStandsFor kept' (counts (call_of kept obeyed made counted) r (Confirming r))
+confirming_stands kept kept' obeyed made counted r served octets request sends is flags =
+    record {
+      number = ap (λ k. k.number) (sym is);
+      stage = ap (λ k. stage_of k.stage) (sym is);
+      served = served ∙ ap (λ k. k.served) (sym is);
+      octets = subst (λ (o : List ℕ). IsLastSet o made) (ap (λ k. k.octets) (sym is)) octets;
+      request = subst (λ (s : kept_stage.Stage). IsOfStage (stage_of s) made) sends request;
+      counted = flags;
+    }
 
 -- a call in which the vehicle talks
-pub talking_stands : (kept : kept_call.Call) (obeyed : List ℕ) (made : List (ℕ × List ℕ)) (counted : List ℕ) → greatest obeyed ≡ kept.served → IsLastSet kept.octets made
-    → CallStandsFor (record kept { stage = stage.Talking }) (record { number = kept.number; stage = Talking; obeyed = obeyed; made = made; counted = counted })
-talking_stands kept obeyed made counted served octets = record { number = refl; stage = refl; served = served; octets = octets; request = tt }
+pub talking_stands : (kept kept' : kept_call.Call) (obeyed : List ℕ) (made : List (ℕ × List ℕ)) (counted : List ℕ) → greatest obeyed ≡ kept.served → IsLastSet kept.octets made
+    → kept' ≡ record kept { stage = stage.Talking; counted = kept'.counted } → RequestsStandFor kept'.counted counted
+    → CallStandsFor kept' (record { number = kept.number; stage = Talking; obeyed = obeyed; made = made; counted = counted })
+talking_stands kept kept' obeyed made counted served octets is flags =
+    record {
+      number = ap (λ k. k.number) (sym is);
+      stage = ap (λ k. stage_of k.stage) (sym is);
+      served = served ∙ ap (λ k. k.served) (sym is);
+      octets = subst (λ (o : List ℕ). IsLastSet o made) (ap (λ k. k.octets) (sym is)) octets;
+      request = tt;
+      counted = flags;
+    }

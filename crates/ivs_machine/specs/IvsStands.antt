@@ -1,7 +1,8 @@
--- Which states of the in-vehicle system an `Ivs` stands for: where they agree in facts, phase, call and stage, where its
--- greatest request is the greatest one obeyed, and its octets are the set made last. This project's profile. Cited by
--- the contracts of `Ivs`, and by what stands on it.
+-- Which states of the in-vehicle system an `Ivs` stands for: where they agree in facts, phase, call, stage and the
+-- requests counted, where its greatest request is the greatest one obeyed, and its octets are the set made last. This
+-- project's profile. Cited by the contracts of `Ivs`, and by what stands on it.
 use Rattle.std.specs.Prelude.{◌≡◌, ℕ, List, [], ◌∷◌}
+use Rattle.link_frames.specs.Requests.{RequestsStandFor}
 use Rattle.ivs_machine.specs.declared.vehicle.Ivs.{Ivs}
 use Rattle.ivs_machine.specs.declared.vehicle.Call as code_call
 use Rattle.ivs_machine.specs.declared.vehicle.Stage as code_stage
@@ -40,6 +41,7 @@ pub record CallStandsFor (kept : code_call.Call) (call : Call) : Type 0 where
   pub served : greatest call.obeyed ≡ kept.served
   pub octets : IsLastSet kept.octets call.made
   pub request : IsOfStage call.stage call.made
+  pub counted : RequestsStandFor kept.counted call.counted
 
 abbrev pub PhaseStandsFor : code_phase.Phase → Phase → Type 0
 PhaseStandsFor phase.Idle p = p ≡ Idle

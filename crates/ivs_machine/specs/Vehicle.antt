@@ -59,7 +59,7 @@ abbrev pub greatest : List ℕ → ℕ
 greatest [] = 0
 greatest (r ∷ rs) = max r (greatest rs)
 
--- the set that was made for a request
+-- the set that was made last for a request, and no octets where none was made
 abbrev pub set_for : ℕ → List (ℕ × List ℕ) → List ℕ
 set_for r [] = []
 set_for r (m ∷ ms) = if m.0 == r then m.1 else set_for r ms

@@ -9,7 +9,7 @@ use Rattle.link_frames.specs.declared.frame.Frame.TheVariants as frame
 use Rattle.link_frames.specs.declared.note.Note.{Note}
 use Rattle.link_frames.specs.declared.note.Note.TheVariants as note
 use Rattle.link_frames.specs.Frame.{lent}
-use Rattle.link_frames.specs.Row.{Row, nothing, silent}
+use Rattle.link_frames.specs.Row.{Row, nothing_row, silent}
 use Rattle.ivs_machine.specs.declared.facts.Cause.{Cause}
 use Rattle.ivs_machine.specs.declared.facts.Cause.TheVariants as cause
 use Rattle.ivs_machine.specs.declared.event.VehicleEvent.{VehicleEvent}
@@ -37,8 +37,8 @@ begin v = record { items = note.Dial 1 ∷ []; new = record v { phase = Dialling
 
 abbrev pub trigger_row : Vehicle → Phase → Row Vehicle
 trigger_row v Idle = begin v
-trigger_row v Dialling = nothing v
-trigger_row v (InCall call) = nothing v
+trigger_row v Dialling = nothing_row v
+trigger_row v (InCall call) = nothing_row v
 
 -- a call that was just answered
 abbrev pub answered_call : ℕ → Call
@@ -47,18 +47,22 @@ answered_call c = record { number = c; stage = Initiating; obeyed = []; made = [
 abbrev pub answered_row : Vehicle → ℕ → Phase → Row Vehicle
 answered_row v c Dialling =
     record {
-      items = note.Up «end».Vehicle c ∷ note.Voice «end».Vehicle c false false ∷ note.Send «end».Vehicle c frame.Init ∷ [];
+      items =
+          note.Up «end».Vehicle c ∷ note.Voice «end».Vehicle c false false ∷ note.Send «end».Vehicle c frame.Init
+          ∷ [];
       new = with_call v (answered_call c);
     }
-answered_row v c Idle = nothing v
-answered_row v c (InCall call) = nothing v
+answered_row v c Idle = nothing_row v
+answered_row v c (InCall call) = nothing_row v
 
 -- The vehicle obeys a request: it makes the set once, and sends it as attempt 0.
 abbrev pub takes : Vehicle → Call → ℕ → Row Vehicle
 takes v call r =
     record {
       items = note.Send «end».Vehicle call.number (frame.Content r 0 (made_set v.facts)) ∷ [];
-      new = with_call v (record call { stage = Sending r; obeyed = r ∷ call.obeyed; made = (r, made_set v.facts) ∷ call.made });
+      new =
+          with_call v
+          (record call { stage = Sending r; obeyed = r ∷ call.obeyed; made = (r, made_set v.facts) ∷ call.made });
     }
 
 -- A request above the greatest one obeyed is taken before the vehicle talks.
@@ -69,7 +73,7 @@ start_row v call r true (Confirming s) = takes v call r
 start_row v call r true Talking = silent v
 start_row v call r false stage = silent v
 
--- the entry for an acknowledgement that the vehicle counts
+-- the item for an acknowledgement that the vehicle counts
 abbrev pub acknowledged : Call → ℕ → Note
 acknowledged call r = note.Acked call.number r (set_for r call.made)
 

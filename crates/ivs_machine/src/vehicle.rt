@@ -4,7 +4,7 @@ ghost use Rattle.std.specs.Prelude.{◌≡◌};
 use crate::event::VehicleEvent;
 use crate::facts::{Cause, Facts};
 use link_frames::{
-    Answer, DialAttempt, End, Frame, FrameRef, Items, Note, OCTETS, Request, items_of,
+    Answer, DialAttempt, End, Frame, FrameRef, Items, Note, OCTETS, Request, Requests, items_of,
 };
 
 /// What the vehicle waits for in a call, with its request.
@@ -25,30 +25,45 @@ struct Call {
     served: u8,
     /// The set made last; zeros before the first.
     octets: [u8; OCTETS],
+    /// The requests whose acknowledgement was counted.
+    counted: Requests,
 }
 
 impl Call {
-    ghost use Rattle.std.specs.Prelude.{◌≡◌, true};
+    ghost use Rattle.std.specs.Prelude.{◌≡◌, true, ℕ, List, [], ◌∷◌};
     ghost use Rattle.link_frames.specs.declared.frame.Frame.TheVariants as frame;
     ghost use Rattle.link_frames.specs.declared.frame.End.TheVariants as «end»;
     ghost use Rattle.link_frames.specs.declared.note.Note.TheVariants as note;
+    ghost use Rattle.link_frames.specs.Requests.{RequestsStandFor};
 
     /// A call of this number that was just answered.
     fn answered(number: u32) -> Call
-        ensures { result ≡ record { number = number; stage = Stage.Initiating; served = 0; octets = result.octets } }
+        ensures value { result ≡ record {
+          number = number;
+          stage = Stage.Initiating;
+          served = 0;
+          octets = result.octets;
+          counted = result.counted;
+        } }
+        ensures counted { RequestsStandFor result.counted [] }
     {
         Call {
             number,
             stage: Stage::Initiating,
             served: 0,
             octets: [0; OCTETS],
+            counted: Requests::none(),
         }
     }
 
     /// Takes a request, with the set made for it, and sends that set as attempt 0.
     fn take(&mut self, request: Request, octets: [u8; OCTETS]) -> Note
         ensures sent { result ≡ note.Send «end».Vehicle self.old.number (frame.Content request 0 octets) }
-        ensures taken { self.new ≡ record self.old { stage = Stage.Sending request; served = request; octets = octets } }
+        ensures taken { self.new ≡ record self.old {
+          stage = Stage.Sending request;
+          served = request;
+          octets = octets;
+        } }
     {
         self.stage = Stage::Sending(request);
         self.served = request.number();
@@ -64,10 +79,15 @@ impl Call {
         }
     }
 
-    /// The item for an acknowledgement that is counted.
-    fn acknowledged(&self, request: Request) -> Note
-        ensures { result ≡ note.Acked self.now.number request self.now.octets }
+    /// Counts the acknowledgement of a request, and goes on to a stage.
+    fn count(&mut self, request: Request, stage: Stage) -> Note
+        ensures acked { result ≡ note.Acked self.old.number request self.old.octets }
+        ensures stage { self.new ≡ record self.old { stage = stage; counted = self.new.counted } }
+        ensures counted { (rs : List ℕ) → RequestsStandFor self.old.counted rs →
+            RequestsStandFor self.new.counted (request ∷ rs) }
     {
+        self.stage = stage;
+        self.counted.add(request);
         Note::Acked {
             call: self.number,
             request,
@@ -252,8 +272,7 @@ impl Ivs {
         let stage = call.stage;
         match stage {
             Stage::Sending(sent) if sent.number() == request.number() => {
-                call.stage = Stage::Confirming(request);
-                items_of(&[call.acknowledged(request)])
+                items_of(&[call.count(request, Stage::Confirming(request))])
             }
             _ => Items::new(),
         }
@@ -272,8 +291,7 @@ impl Ivs {
         let stage = call.stage;
         match stage {
             Stage::Sending(current) if current.number() == request.number() => {
-                call.stage = Stage::Talking;
-                items_of(&[call.acknowledged(request), call.opens()])
+                items_of(&[call.count(request, Stage::Talking), call.opens()])
             }
             Stage::Confirming(current) if current.number() == request.number() => {
                 call.stage = Stage::Talking;

@@ -8,10 +8,10 @@ pub record Row (State : Type 0) : Type 0 where
   pub items : List Note
   pub new : State
 
--- an event that applies to nothing
-abbrev pub nothing : {State : Type 0} → State → Row State
-nothing old = record { items = note.Nothing ∷ []; new = old }
+-- an event that applies to nothing: the item `nothing`, and no change
+abbrev pub nothing_row : {State : Type 0} → State → Row State
+nothing_row old = record { items = note.Nothing ∷ []; new = old }
 
--- a frame that no row names
+-- a frame that no row names: no item, and no change
 abbrev pub silent : {State : Type 0} → State → Row State
 silent old = record { items = []; new = old }

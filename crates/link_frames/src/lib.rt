@@ -3,11 +3,15 @@
 #![tactic(auto)]
 
 mod frame;
+mod laws;
 mod note;
 mod number;
+mod requests;
 #[cfg(test)]
 mod tests;
 
 pub use frame::{Answer, End, Frame, FrameRef, OCTETS};
+pub use laws::limits;
 pub use note::{Items, MOST_ITEMS, Note, Timer, Why, items_of};
 pub use number::{DialAttempt, Request};
+pub use requests::Requests;

@@ -33,7 +33,7 @@ pub enum Timer {
 
 /// One item of a trace. A call's number is 0 outside a call. In `Voice`, `up` is the direction from the vehicle to
 /// the point, and `true` is open.
-#[derive(Clone, Copy, Debug, Default, PartialEq, Eq)]
+#[derive(Clone, Copy, Debug, PartialEq, Eq)]
 pub enum Note {
     Dial(DialAttempt),
     Failed(DialAttempt),
@@ -43,7 +43,6 @@ pub enum Note {
     Cancelled,
     Standby,
     Idle,
-    #[default]
     Nothing,
     Net(bool),
     Up {
@@ -90,13 +89,24 @@ pub enum Note {
     Unshown(u32),
 }
 
+impl Default for Note {
+    ghost use Rattle.std.specs.Prelude.{◌≡◌};
+    ghost use Rattle.link_frames.specs.declared.note.Note.TheVariants as note;
+
+    ghost is_default = { λ n. n ≡ note.Nothing };
+
+    fn default() -> Note {
+        Note::Nothing
+    }
+}
+
 /// The most items that one step of an end gives.
 pub const MOST_ITEMS: usize = 8;
 
 /// The items of one step of an end, in order.
 pub type Items = ArrayVec<Note, MOST_ITEMS>;
 
-/// A list of these items; there are at most eight.
+/// These items as a list of those that one step gives.
 pub fn items_of(notes: &[Note]) -> Items
     requires { length notes.now ≤ MOST_ITEMS }
     ensures { result.items ≡ notes.now }

@@ -1,5 +1,6 @@
 use crate::{
-    Answer, DialAttempt, End, Frame, FrameRef, MOST_ITEMS, Note, OCTETS, Request, items_of,
+    Answer, DialAttempt, End, Frame, FrameRef, MOST_ITEMS, Note, OCTETS, Request, Requests,
+    items_of,
 };
 use std::process::Abort;
 
@@ -29,6 +30,21 @@ fn numbers_keep_their_range(rt: HostRuntime) {
     }
     assert_eq!(rt; Request::first().number(), 1);
     assert_eq!(rt; DialAttempt::first().number(), 1);
+}
+
+#[test]
+fn requests_are_found(rt: HostRuntime) {
+    let mut requests = Requests::none();
+    let request = |number| Request::new(number).unwrap_or(Request::first());
+    for number in [1, 254, 255] {
+        assert!(rt; !requests.has(request(number)), "at {number}");
+    }
+    requests.add(request(255));
+    requests.add(request(255));
+    requests.add(request(1));
+    for (number, is_there) in [(1, true), (2, false), (254, false), (255, true)] {
+        assert_eq!(rt; requests.has(request(number)), is_there, "at {number}");
+    }
 }
 
 fn is_lent(rt: &impl Abort, frame: &Frame, want: &FrameRef<'_>) {
@@ -73,11 +89,12 @@ fn items_keep_their_order(rt: HostRuntime) {
             call: 1,
         },
         Note::Busy(2),
-        Note::default(),
+        Note::Nothing,
     ];
     let items = items_of(&notes);
     assert_eq!(rt; items.as_slice(), notes.as_slice());
     let full = [Note::GaveUp; MOST_ITEMS];
     let items = items_of(&full);
     assert_eq!(rt; items.len(), 8);
+    assert_eq!(rt; Note::default(), Note::Nothing);
 }

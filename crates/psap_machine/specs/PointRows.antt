@@ -2,7 +2,6 @@
 -- acknowledgement, application acknowledgement); this project's profile fixes the rest. Cited by the contracts of
 -- `Session::arriving` and `Session::hear`, and by the world's step.
 use Rattle.std.specs.Prelude.{ℕ, Bool, true, false, List, [], ◌∷◌, ◌==◌, if◌then◌else◌}
-use Rattle.std.specs.List.{list_any}
 use Rattle.link_frames.specs.declared.frame.End.TheVariants as «end»
 use Rattle.link_frames.specs.declared.frame.Answer.TheVariants as answer
 use Rattle.link_frames.specs.declared.frame.Frame.{Frame}
@@ -10,6 +9,7 @@ use Rattle.link_frames.specs.declared.frame.Frame.TheVariants as frame
 use Rattle.link_frames.specs.declared.note.Note.{Note}
 use Rattle.link_frames.specs.declared.note.Note.TheVariants as note
 use Rattle.link_frames.specs.Frame.{lent}
+use Rattle.link_frames.specs.Requests.{is_among}
 use Rattle.link_frames.specs.Row.{Row, silent}
 use Rattle.psap_machine.specs.declared.event.PointEvent.{PointEvent}
 use Rattle.psap_machine.specs.declared.event.PointEvent.TheVariants as event
@@ -29,10 +29,6 @@ arriving c =
       items = note.Up «end».Point c ∷ note.Voice «end».Point c false false ∷ [];
       new = record { call = c; phase = Listening; asked = []; shown = [] };
     }
-
--- whether the request is among these
-abbrev pub is_among : ℕ → List ℕ → Bool
-is_among r rs = list_any (λ q. q == r) rs
 
 -- The point asks for a set.
 abbrev pub asks : Point → ℕ → Row Point

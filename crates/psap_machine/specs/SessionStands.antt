@@ -1,12 +1,12 @@
--- Which states of the answering point's session a `Session` stands for: where they agree in call and phase, where
--- exactly the requests up to its greatest one were asked, and each of its flags says whether the request was shown. This
--- project's profile. Cited by the contracts of `Session`, and by what stands on it.
-use Rattle.std.specs.Prelude.{◌≡◌, ◌<◌, ℕ, Bool, List, [], Some, nat_lt, nat_le, ◌&&◌, slice_get}
+-- Which states of the answering point's session a `Session` stands for: where they agree in call, phase and the
+-- requests shown, and where exactly the requests up to its greatest one were asked. This project's profile. Cited by
+-- the contracts of `Session`, and by what stands on it.
+use Rattle.std.specs.Prelude.{◌≡◌, ℕ, List, [], nat_lt, nat_le, ◌&&◌}
+use Rattle.link_frames.specs.Requests.{is_among, RequestsStandFor}
 use Rattle.psap_machine.specs.declared.point.Session.{Session}
 use Rattle.psap_machine.specs.declared.point.Phase as kept_phase
 use Rattle.psap_machine.specs.declared.point.Phase.TheVariants as phase
 use Rattle.psap_machine.specs.Point.{Point, Phase, Listening, Asking, Telling, Talking}
-use Rattle.psap_machine.specs.PointRows.{is_among}
 
 -- the phase that a session's phase stands for
 abbrev pub phase_of : kept_phase.Phase → Phase
@@ -19,10 +19,6 @@ phase_of phase.Talking = Talking
 abbrev pub AreUpTo : (greatest : ℕ) → List ℕ → Type 0
 AreUpTo greatest requests = (r : ℕ) → is_among r requests ≡ (nat_lt 0 r && nat_le r greatest)
 
--- each flag says whether the request of its number is among these
-abbrev pub AreFlagged : (flags : List Bool) → List ℕ → Type 0
-AreFlagged flags requests = (r : ℕ) → r < 256 → slice_get flags r ≡ Some (is_among r requests)
-
 -- a point that listens has asked for nothing
 abbrev pub IsOfPhase : Phase → (asked : List ℕ) → Type 0
 IsOfPhase Listening asked = asked ≡ []
@@ -34,5 +30,5 @@ pub record SessionStandsFor (session : Session) (point : Point) : Type 0 where
   pub call : point.call ≡ session.call
   pub phase : point.phase ≡ phase_of session.phase
   pub asked : AreUpTo session.asked point.asked
-  pub shown : AreFlagged session.shown point.shown
+  pub shown : RequestsStandFor session.shown point.shown
   pub before : IsOfPhase point.phase point.asked

@@ -2,10 +2,7 @@
 ghost use Rattle.std.specs.Prelude.{◌≡◌, ◌↔◌, IsTrue};
 
 use crate::event::PointEvent;
-use link_frames::{Answer, End, Frame, FrameRef, Items, Note, OCTETS, Request, items_of};
-
-/// How many flags there are, one for each number up to that of the greatest request.
-const FLAGS: usize = 256;
+use link_frames::{Answer, End, Frame, FrameRef, Items, Note, OCTETS, Request, Requests, items_of};
 
 /// What the point waits for, with its request.
 #[derive(Clone, Copy, Debug, PartialEq, Eq)]
@@ -23,18 +20,19 @@ pub struct Session {
     phase: Phase,
     /// The greatest request asked, and 0 before the first; all from 1 to it were asked.
     asked: u8,
-    /// Whether the set of the request with this number was shown.
-    shown: [bool; FLAGS],
+    /// The requests whose set was shown.
+    shown: Requests,
 }
 
 impl Session {
     ghost use Rattle.link_frames.specs.Frame.{lent};
+    ghost use Rattle.link_frames.specs.Requests.{is_among};
     ghost use Rattle.link_frames.specs.declared.frame.Answer.TheVariants as answer;
     ghost use Rattle.link_frames.specs.declared.frame.End.TheVariants as «end»;
     ghost use Rattle.link_frames.specs.declared.frame.Frame.TheVariants as frame;
     ghost use Rattle.link_frames.specs.declared.note.Note.TheVariants as note;
     ghost use Rattle.psap_machine.specs.Point.{Point};
-    ghost use Rattle.psap_machine.specs.PointRows.{Arrives, arriving, content_row, heard, is_among, point_row, shows};
+    ghost use Rattle.psap_machine.specs.PointRows.{Arrives, arriving, content_row, heard, point_row, shows};
     ghost use Rattle.psap_machine.specs.SessionStands.{SessionStandsFor};
 
     /// A call of this number comes in that the vehicle placed: its session, and what the point does. Items are in
@@ -47,7 +45,7 @@ impl Session {
             call,
             phase: Phase::Listening,
             asked: 0,
-            shown: [false; FLAGS],
+            shown: Requests::none(),
         };
         let end = End::Point;
         let items = items_of(&[
@@ -126,11 +124,13 @@ impl Session {
     /// acknowledged again.
     fn content(&mut self, request: Request, octets: &[u8; OCTETS]) -> Items
         ensures items { (s : Point) → SessionStandsFor self.old s →
-            result.items ≡ (content_row s request octets.now (is_among request s.asked) (is_among request s.shown)).items }
+            result.items
+            ≡ (content_row s request octets.now (is_among request s.asked) (is_among request s.shown)).items }
         ensures stands { (s : Point) → SessionStandsFor self.old s →
-            SessionStandsFor self.new (content_row s request octets.now (is_among request s.asked) (is_among request s.shown)).new }
+            SessionStandsFor self.new
+            (content_row s request octets.now (is_among request s.asked) (is_among request s.shown)).new }
     {
-        if self.shown[usize::from(request.number())] {
+        if self.shown.has(request) {
             items_of(&[self.acknowledges(request)])
         } else if request.number() <= self.asked {
             self.shows(request, octets)
@@ -147,7 +147,7 @@ impl Session {
         ensures stands { (s : Point) → SessionStandsFor self.old s →
             SessionStandsFor self.new (shows s request octets.now).new }
     {
-        self.shown[usize::from(request.number())] = true;
+        self.shown.add(request);
         let shown = Note::Shown {
             call: self.call,
             request,

@@ -8,5 +8,5 @@ returns-in-Dialling-clause-stands c =
     each_dialling c.args.self.now _ c.in-Dialling.is
     (record {
       facts = refl;
-      phase = (answered_call c.args.call, refl, answered_stands c.answered.result c.args.call c.answered.result.octets c.answered.ensures);
+      phase = (answered_call c.args.call, refl, answered_stands c.answered.result c.args.call c.answered.result.octets c.answered.result.counted c.answered.ensures.value c.answered.ensures.counted);
     })

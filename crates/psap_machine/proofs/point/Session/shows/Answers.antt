@@ -1,6 +1,6 @@
-use Rattle.std.proofs.Common.{◌≡◌, sym, ◌∙◌, IsTrue, arith}
+use Rattle.std.proofs.Common.{◌≡◌, sym, ◌∙◌, IsTrue}
 use Rattle.psap_machine.specs.Point.{Asking}
-use Rattle.psap_machine.proofs.Stands.{shown_aside, flagged_more, asking_kept}
+use Rattle.psap_machine.proofs.Stands.{shown_aside, asking_kept}
 use Rattle.psap_machine.proofs.point.Session.shows.Goals as goal
 
 pub returns-else-asks_for-clause-stands : goal.returns-else-asks_for-clause-stands
@@ -13,6 +13,6 @@ returns-else-asks_for-clause-stands c = λ s h.
       call = h.call;
       phase = h.phase;
       asked = h.asked;
-      shown = flagged_more c.args.self.now.shown s.shown c.from.result c.args.request (cc) h.shown (omega arith);
+      shown = c.add.ensures s.shown h.shown;
       before = h.before;
     }
