@@ -2,16 +2,16 @@
 use Rattle.std.proofs.Common.{◌≡◌, ℕ, ◌+◌, ◌-◌, ◌<◌, ◌≤◌, ◌⊎◌, Bool, true, false, List, [], ◌∷◌, ◌++◌, length, take, drop, get_or, eqb, Option, Some, None, refl, sym, ap, ◌∙◌, subst, inl, inr, arith, length-take, length-drop, drop-cons, add-one, suc, Ok}
 use Rattle.std.proofs.lemmas.List.{append-nil, drop-drop, take-take, take-append-drop, take_at, take_all}
 use Rattle.std.proofs.lemmas.List.Sums.{prefix_len-le-length}
-use Rattle.std.proofs.lemmas.Bool.Decides.{nat_tests}
 use Rattle.std.proofs.Math.Seq.{take-append-add}
-use Rattle.std.specs.Prelude.{cond, not, nat_lt, min, ◌==◌}
-use Rattle.std.specs.Option.{unwrap_or}
+use Rattle.std.specs.Prelude.{cond, not, min, ◌==◌}
 use Rattle.std.proofs.lemmas.Bool.{eqb-true, eq-eqb, false≢true, cases_lt}
-use Rattle.std.specs.List.{slice_range, position, position_or_len, AllByRecursion}
+use Rattle.std.specs.List.{slice_range, position_or_len, AllByRecursion}
 use Rattle.std.specs.Io.KnownBytes.{IsAtEnd}
 use Rattle.call_io.specs.Bytes.{Took, EndsExactly}
 use Rattle.call_io.proofs.BytesLemmas.{Took-nothing, Took-append}
-use Rattle.trace_text.specs.Feed.{Feed, Draws, IsInner, GivesRun, run_of, Refills, KeepsFeed, NextByte}
+use Rattle.trace_text.specs.Characters.{is_newline}
+use Rattle.trace_text.specs.Feed.{Feed, Draws, IsInner}
+use Rattle.trace_text.specs.inner.Gathering.{GivesRun, run_of, Refills, KeepsFeed, NextByte}
 
 -- what is left of a part
 pub slice_range-empty : (xs : List ℕ) (at end : ℕ) → end ≤ at → slice_range xs at end ≡ []
@@ -133,28 +133,12 @@ inner_at_first (b ∷ bytes) =
           subst (λ n. AllByRecursion IsInner (take n (b ∷ bytes))) next ((λ same. false≢true (sym e ∙ eq-eqb b 10 same)), inner_at_first bytes)
     ] refl
 
-not_below : (m n : ℕ) → nat_lt m n ≡ false → n ≤ m
-not_below m n h = grind (arith, nat_tests)
-
-first_or_all : (bytes : List ℕ) → unwrap_or (position (λ b. b == 10) bytes) (length bytes) ≡ position_or_len (λ b. b == 10) bytes
-first_or_all bytes =
-    let n = position_or_len (λ b. b == 10) bytes in
-    elim (nat_lt n (length bytes)) as (λ t. nat_lt n (length bytes) ≡ t → unwrap_or (cond t (Some n) None) (length bytes) ≡ n) [
-      | true ↦ λ h. refl
-      | false ↦ λ h. let past : length bytes ≤ n = not_below n (length bytes) h in omega (arith, past, prefix_len-le-length (λ b. not (b == 10)) bytes)
-    ] refl
-
 -- the place of the first newline among so many bytes, or how many these are
-pub run_place : (bytes : List ℕ) (most n m : ℕ) → m ≡ min (length bytes) most → n ≡ unwrap_or (position (λ b. b == 10) (take m bytes)) (length (take m bytes)) → n ≡ position_or_len (λ b. b == 10) (take most bytes)
-run_place bytes most n m least e =
-    let same : take m bytes ≡ take most bytes = take_least bytes most m least in
-    e ∙ first_or_all (take m bytes) ∙ ap (position_or_len (λ b. b == 10)) same
-  where
-    take_least : (bytes : List ℕ) (most m : ℕ) → m ≡ min (length bytes) most → take m bytes ≡ take most bytes
-    take_least bytes most m least = elim (cases_lt most (length bytes)) as (λ _. take m bytes ≡ take most bytes) [
-      | inl below ↦ let e : m ≡ most = omega (arith, least, below) in ap (λ k. take k bytes) e
-      | inr past ↦ take_all m bytes (omega (arith, least, past)) ∙ sym (take_all most bytes (omega (arith, past)))
-    ]
+pub run_place : (bytes : List ℕ) (most m : ℕ) → m ≡ min (length bytes) most → position_or_len is_newline (take m bytes) ≡ position_or_len is_newline (take most bytes)
+run_place bytes most m least = elim (cases_lt most (length bytes)) as (λ _. position_or_len is_newline (take m bytes) ≡ position_or_len is_newline (take most bytes)) [
+  | inl below ↦ let e : m ≡ most = omega (arith, least, below) in ap (λ k. position_or_len is_newline (take k bytes)) e
+  | inr past ↦ ap (position_or_len is_newline) (take_all m bytes (omega (arith, least, past)) ∙ sym (take_all most bytes (omega (arith, past))))
+]
 
 slice_range-split : (block : List ℕ) (at end len : ℕ) → at + len ≤ end → end ≤ length block → slice_range block at end ≡ slice_range block at (at + len) ++ slice_range block (at + len) end
 slice_range-split block at end len within most =

@@ -1,12 +1,16 @@
 -- A line that is being gathered, and how it ends.
-use Rattle.std.proofs.Common.{◌≡◌, ℕ, ◌+◌, ◌<◌, ◌≤◌, ◌≢◌, false, eqb, List, [], ◌∷◌, ◌++◌, length, Option, Some, None, Ok, Err, sym, ap, subst, ◌∙◌, arith, append_assoc, length-append}
-use Rattle.std.specs.List.{AllByRecursion}
+use Rattle.std.proofs.Common.{◌≡◌, ℕ, ◌+◌, ◌<◌, ◌≤◌, ◌≢◌, true, false, eqb, List, [], ◌∷◌, ◌++◌, length, Option, Some, None, Ok, Err, refl, sym, ap, subst, ◌∙◌, arith, append_assoc, length-append}
+use Rattle.std.specs.Prelude.{◌||◌}
+use Rattle.std.specs.List.{AllByRecursion, list_any}
 use Rattle.std.proofs.lemmas.List.{append-nil}
-use Rattle.std.proofs.lemmas.Bool.{eq-eqb, false≢true}
+use Rattle.std.proofs.lemmas.Bool.{eq-eqb, eqb-true, false≢true, false_from_ne_true}
+use Rattle.std.proofs.lemmas.List.Folds.{list_any-append}
 use Rattle.trace_text.specs.declared.fault.LineFault.{LineFault}
 use Rattle.trace_text.specs.declared.fault.LineFault.TheVariants as fault
 use Rattle.trace_text.specs.declared.gather.Ending.TheVariants as ending
-use Rattle.trace_text.specs.Feed.{Feed, Draws, IsInner, NextByte, GivesByte, GivesRun, GathersLine, GathersText}
+use Rattle.trace_text.specs.Characters.{newline, is_newline}
+use Rattle.trace_text.specs.Feed.{Feed, Draws, IsInner}
+use Rattle.trace_text.specs.inner.Gathering.{NextByte, GivesByte, GivesRun, GathersLine, GathersText}
 use Rattle.trace_text.proofs.FeedLemmas.{Draws-nothing, Draws-append}
 
 -- these bytes of a line were gathered
@@ -127,3 +131,34 @@ GathersLine-fault old now new left between left' text e so next = record {
 -- a line that isn't full has room
 pub below_full : (n : ℕ) → false ≡ eqb n 512 → n ≤ 512 → n < 512
 below_full n unequal most = let different : n ≢ 512 = λ e. false≢true (unequal ∙ eq-eqb n 512 e) in omega arith
+
+-- ---- a newline at hand
+
+inner_none : (run : List ℕ) → AllByRecursion IsInner run → list_any is_newline run ≡ false
+inner_none [] all = refl
+inner_none (b ∷ run) all =
+    let here : is_newline b ≡ false = false_from_ne_true (is_newline b) (λ e. all.0 (eqb-true b newline e)) in
+    rw here (inner_none run all.1)
+
+-- it stands behind bytes of which none ends a line
+pub newline_behind : (run rest : List ℕ) → AllByRecursion IsInner run → list_any is_newline (run ++ rest) ≡ true → list_any is_newline rest ≡ true
+newline_behind run rest inner some =
+    ap (λ t. t || list_any is_newline rest) (sym (inner_none run inner)) ∙ sym (list_any-append is_newline run rest) ∙ some
+
+pub newline_after_run : (old new : Feed) (run : List ℕ) → GivesRun old new run → list_any is_newline old.pending ≡ true → list_any is_newline new.pending ≡ true
+newline_after_run old new run gives some = newline_behind run new.pending gives.inner (ap (list_any is_newline) (sym gives.pending) ∙ some)
+
+pub newline_is_some : (bytes : List ℕ) → list_any is_newline bytes ≡ true → 0 < length bytes
+newline_is_some [] some = absurd (false≢true some)
+newline_is_some (b ∷ bytes) some = omega arith
+
+-- and it still stands behind a byte that doesn't end the line
+pub newline_after_byte : (old new : Feed) (left left' : Option (List ℕ)) (b : ℕ) → NextByte old new left left' (Ok (Some b)) → IsInner b
+    → list_any is_newline old.pending ≡ true → list_any is_newline new.pending ≡ true
+newline_after_byte old new left left' b next inner some =
+    let all : list_any is_newline (old.pending ++ next.taken) ≡ true =
+    list_any-append is_newline old.pending next.taken ∙ ap (λ t. t || list_any is_newline next.taken) some in
+    newline_behind (b ∷ []) new.pending (inner, tt) (ap (list_any is_newline) (sym next.gives.0) ∙ all)
+
+pub run_is_some : (old new : Feed) (run : List ℕ) → GivesRun old new run → list_any is_newline old.pending ≡ true → 0 < length new.pending
+run_is_some old new run gives some = newline_is_some new.pending (newline_after_run old new run gives some)

@@ -1,3 +1,4 @@
+pub mod BlockLemmas
 pub mod FeedLemmas
 pub mod GatherLemmas
 pub mod LinesLemmas

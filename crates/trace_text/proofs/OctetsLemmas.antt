@@ -2,7 +2,8 @@
 use Rattle.std.proofs.Common.{◌≡◌, ℕ, ◌-◌, true, leb, ltb, List, ◌++◌, length, replicate, Ok, refl, ap, ◌∙◌, arith}
 use Rattle.std.proofs.lemmas.Bool.{lt-ltb, le-leb}
 use Rattle.std.proofs.lemmas.List.{drop-replicate, length-replicate}
-use Rattle.trace_text.specs.Script.{DecodesTo, octets_of, padded}
+use Rattle.trace_text.specs.Script.{octets_of, padded}
+use Rattle.trace_text.specs.inner.Decoding.{DecodesTo}
 
 -- what was decoded to the front of zeros is a ready set
 pub octets_of-decodes : (text new : List ℕ) (zeros : ℕ) → zeros ≡ 140 → DecodesTo text (replicate zeros 0) new → octets_of text ≡ Ok new

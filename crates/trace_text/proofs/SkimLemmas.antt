@@ -1,6 +1,8 @@
 -- Lines that were passed over, and what stands behind them.
 use Rattle.std.proofs.Common.{◌≡◌, ℕ, ◌+◌, ◌<◌, ◌≤◌, Bool, true, false, List, [], ◌∷◌, ◌++◌, length, Option, Some, None, Ok, Err, refl, sym, ap, ◌∙◌, subst, arith, append_assoc, length-append}
-use Rattle.std.specs.List.{AllByRecursion}
+use Rattle.std.specs.Prelude.{◌&&◌}
+use Rattle.std.specs.List.{AllByRecursion, list_any}
+use Rattle.std.proofs.lemmas.Bool.{eqb-true, false≢true}
 use Rattle.std.proofs.lemmas.List.{append-nil, nil_from_length}
 use Rattle.trace_text.specs.declared.fault.LineFault.{LineFault}
 use Rattle.trace_text.specs.declared.fault.LineFault.TheVariants as fault
@@ -9,9 +11,12 @@ use Rattle.trace_text.specs.declared.gather.Ending.TheVariants as ending
 use Rattle.trace_text.specs.declared.kind.LineKind.TheVariants as kind
 use Rattle.trace_text.specs.declared.reason.Reason.{Reason}
 use Rattle.trace_text.specs.declared.reason.Reason.TheVariants as reason
-use Rattle.trace_text.specs.Feed.{Feed, Draws, IsDone, GathersLine, GathersText}
+use Rattle.trace_text.specs.Characters.{newline, number_sign, is_newline}
+use Rattle.trace_text.specs.Feed.{Feed, Draws, IsDone}
+use Rattle.trace_text.specs.inner.Gathering.{GathersLine, GathersText}
 use Rattle.trace_text.specs.Lines.{lines_of, line_fault, is_comment, IsPassedOver, IsLine}
-use Rattle.trace_text.specs.Reading.{Reading, reading, MayFollow, Finds, ReadsLine, kind_from, kind_of_gathered}
+use Rattle.trace_text.specs.Reading.{Reading, MayFollow, Finds, ReadsLine, may_begin_line, begins_line, begins_with_line}
+use Rattle.trace_text.specs.inner.Kinds.{reading, kind_from, kind_of_gathered}
 use Rattle.trace_text.proofs.FeedLemmas.{Draws-nothing, Draws-append}
 use Rattle.trace_text.proofs.GatherLemmas.{AllByRecursion-push}
 use Rattle.trace_text.proofs.LinesLemmas.{lines_of-line, lines_of-last, lines_of-nil, lines_of-long, line_fault-long}
@@ -332,3 +337,40 @@ GathersLine-none old new left left' ending.Full text line e = let no : ⊥ = cc 
 GathersLine-none old new left left' ending.Newline text line e = absurd (from_none (line_fault text) (is_comment text) e)
 GathersLine-none old new left left' ending.InputEnd [] line e = (line, refl)
 GathersLine-none old new left left' ending.InputEnd (b ∷ bytes) line e = absurd (from_none (line_fault (b ∷ bytes)) (is_comment (b ∷ bytes)) e)
+
+-- what begins with a line that isn't passed over isn't passed over
+no_comment : (pending taken text rest : List ℕ) → pending ++ taken ≡ text ++ newline ∷ rest → is_comment text ≡ true → begins_line pending ≡ true → ⊥
+no_comment [] taken text rest cut comment begins = false≢true begins
+no_comment (b ∷ pending) taken [] rest cut comment begins =
+    let first : b ≡ newline = cc in false≢true (ap may_begin_line (sym first) ∙ begins)
+no_comment (b ∷ pending) taken (x ∷ text) rest cut comment begins =
+    let first : b ≡ x = cc in
+    let sign : x ≡ number_sign = eqb-true x number_sign comment in
+    false≢true (ap may_begin_line (sym (first ∙ sign)) ∙ begins)
+
+begins_too : (bytes : List ℕ) → begins_with_line bytes ≡ true → begins_line bytes ≡ true
+begins_too bytes both = by_test (list_any is_newline bytes) both
+  where
+    by_test : (t : Bool) → (t && begins_line bytes) ≡ true → begins_line bytes ≡ true
+    by_test true e = e
+    by_test false e = absurd (false≢true e)
+
+pub newline_too : (bytes : List ℕ) → begins_with_line bytes ≡ true → list_any is_newline bytes ≡ true
+newline_too bytes both = by_test (list_any is_newline bytes) refl both
+  where
+    by_test : (t : Bool) → list_any is_newline bytes ≡ t → (t && begins_line bytes) ≡ true → list_any is_newline bytes ≡ true
+    by_test true e both = e
+    by_test false e both = absurd (false≢true both)
+
+pub passed_none : (old new : Feed) (left left' : Option (List ℕ)) (how : Ending) (text : List ℕ)
+    → (line : GathersLine old new left left' text (Ok how)) → kind_of_gathered how text ≡ kind.PassedOver → begins_with_line old.pending ≡ true → ⊥
+passed_none old new left left' ending.Full text line e begins = let no : ⊥ = cc in no
+passed_none old new left left' ending.Newline text line e begins =
+    no_comment old.pending line.taken text new.pending line.gathers.0 (from_passed (line_fault text) (is_comment text) e).1 (begins_too old.pending begins)
+passed_none old new left left' ending.InputEnd [] line e begins = let no : ⊥ = cc in no
+passed_none old new left left' ending.InputEnd (b ∷ bytes) line e begins =
+    no_comment old.pending (line.taken ++ newline ∷ []) (b ∷ bytes) [] (sym (append_assoc old.pending line.taken (newline ∷ [])) ∙ ap (λ (r : List ℕ). r ++ newline ∷ []) line.gathers.0)
+    (from_passed (line_fault (b ∷ bytes)) (is_comment (b ∷ bytes)) e).1 (begins_too old.pending begins)
+
+pub begins_still : (now old : Feed) → now ≡ old → begins_with_line old.pending ≡ true → begins_with_line now.pending ≡ true
+begins_still now old same begins = ap (λ (f : Feed). begins_with_line f.pending) same ∙ begins

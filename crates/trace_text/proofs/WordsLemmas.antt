@@ -1,16 +1,34 @@
 -- Where the first word of a line ends.
-use Rattle.std.proofs.Common.{◌≡◌, ℕ, ◌+◌, ◌-◌, ◌<◌, ◌≤◌, not, Bool, true, false, cond, eqb, ltb, List, [], ◌∷◌, length, take, drop, Some, None, refl, sym, ap, ◌∙◌, inl, inr, arith}
+use Rattle.std.proofs.Common.{◌≡◌, ℕ, ◌+◌, ◌-◌, ◌<◌, ◌≤◌, not, Bool, true, false, cond, ltb, List, [], ◌∷◌, length, take, drop, get_or, Option, Some, None, refl, sym, ap, ◌∙◌, inl, inr, arith}
 use Rattle.std.specs.List.{position, position_or_len, prefix_len, onto_first}
-use Rattle.std.proofs.lemmas.Bool.{ltb-true, ltb-false}
+use Rattle.std.specs.Prelude.{nat_lt}
+use Rattle.std.proofs.lemmas.Bool.{ltb-true, ltb-false, lt-ltb, false_from_ne_true}
 use Rattle.std.proofs.lemmas.Bool.Decides.{eqb_tells}
 use Rattle.std.proofs.lemmas.Option.{cond_some}
 use Rattle.std.proofs.lemmas.Slice.{between_to_end}
-use Rattle.std.proofs.lemmas.List.Sums.{prefix_len-le-length}
+use Rattle.std.proofs.lemmas.List.Sums.{prefix_len-le-length, position_or_len_is}
 use Rattle.std.proofs.lemmas.List.Splits.{slice_split_first, slice_split-cons_no, slice_split-cons_yes}
-use Rattle.trace_text.specs.Words.{words}
+use Rattle.memchr.specs.Find.{IsFirstByte, is_byte}
+use Rattle.trace_text.specs.Characters.{space, is_space}
+use Rattle.trace_text.specs.Words.{words, only_word_of}
 
-abbrev is_space : ℕ → Bool
-is_space b = eqb b 32
+not_below_itself : (n : ℕ) → nat_lt n n ≡ false
+not_below_itself n = false_from_ne_true (nat_lt n n) (λ e. let below : n < n = ltb-true n n e in absurd (omega arith))
+
+-- where the first space stands, as a search of bytes finds it
+pub first_space : (xs : List ℕ) (r : Option ℕ) → IsFirstByte (is_byte space) xs r → r ≡ position is_space xs
+first_space xs None nowhere =
+    let none : position_or_len is_space xs ≡ length xs =
+    position_or_len_is is_space xs (length xs) 0 (omega arith)
+    (λ k inside. false_from_ne_true (is_space (get_or xs k 0)) (λ e. nowhere k (omega arith) inside e))
+    (λ beyond. absurd (omega arith)) in
+    sym (ap (λ n. cond (nat_lt n (length xs)) (Some n) None) none ∙ ap (λ t. cond t (Some (length xs)) None) (not_below_itself (length xs)))
+first_space xs (Some at) first =
+    let there : position_or_len is_space xs ≡ at =
+    position_or_len_is is_space xs at 0 (let inside = first.0.high in omega arith)
+    (λ k before. false_from_ne_true (is_space (get_or xs k 0)) (λ e. first.0.before k (omega arith) before e))
+    (λ inside. first.1) in
+    sym (ap (λ n. cond (nat_lt n (length xs)) (Some n) None) there ∙ ap (λ t. cond t (Some at) None) (lt-ltb at (length xs) first.0.high))
 
 -- the first word ends at the first space
 pub words-found : (text : List ℕ) (i : ℕ) → position is_space text ≡ Some i
@@ -28,7 +46,7 @@ cond_none false n e = refl
 
 whole_word : (text : List ℕ) → prefix_len (λ b. not (is_space b)) text ≡ length text → words text ≡ text ∷ []
 whole_word [] all = refl
-whole_word (x ∷ xs) all = elim (eqb_tells x 32) [
+whole_word (x ∷ xs) all = elim (eqb_tells x space) [
   | inl space ↦ let none : 0 ≡ length (x ∷ xs) = rw space.0 at all in absurd (omega arith)
   | inr other ↦ let more : 1 + prefix_len (λ b. not (is_space b)) xs ≡ length (x ∷ xs) = rw other.0 at all in
       slice_split-cons_no is_space x xs other.0 ∙ ap (onto_first x) (whole_word xs (omega arith))
@@ -53,3 +71,9 @@ words-some (x ∷ xs) = by_test (is_space x) refl
     by_test : (t : Bool) → is_space x ≡ t → (word : List ℕ) × (rest : List (List ℕ)) × (words (x ∷ xs) ≡ word ∷ rest)
     by_test true e = ([], words xs, slice_split-cons_yes is_space x xs e)
     by_test false e = let front = onto_first-some x (words xs) in (front.0, front.1, slice_split-cons_no is_space x xs e ∙ front.2)
+
+-- where there is just one word, the line's words are that one
+pub only_word_is : (parts : List (List ℕ)) (word : List ℕ) → only_word_of parts ≡ Some word → parts ≡ word ∷ []
+only_word_is [] word e = let never : ⊥ = cc in absurd never
+only_word_is (part ∷ []) word e = let same : part ≡ word = cc in ap (λ w. w ∷ []) same
+only_word_is (part ∷ other ∷ parts) word e = let never : ⊥ = cc in absurd never

@@ -15,6 +15,7 @@ use Rattle.link_frames.specs.declared.note.Timer.{Timer}
 use Rattle.link_frames.specs.declared.note.Timer.TheVariants as timer
 use Rattle.link_frames.specs.declared.note.Why.{Why}
 use Rattle.link_frames.specs.declared.note.Why.TheVariants as why
+use Rattle.trace_text.specs.Characters.{newline, space}
 use Rattle.trace_text.specs.declared.entry.Entry.{Entry}
 
 abbrev pub end_word : End → List ℕ
@@ -94,11 +95,11 @@ note_words (note.Unshown call) = codes "unshown" ∷ decimal call ∷ []
 -- each word behind a single space
 abbrev pub spaced : List (List ℕ) → List ℕ
 spaced [] = []
-spaced (word ∷ words) = 32 ∷ (word ++ spaced words)
+spaced (word ∷ words) = space ∷ (word ++ spaced words)
 
 -- the line of an entry, its newline included
 abbrev pub line_of : Entry → List ℕ
-line_of entry = decimal entry.tick ++ spaced (note_words entry.note) ++ 10 ∷ []
+line_of entry = decimal entry.tick ++ spaced (note_words entry.note) ++ newline ∷ []
 
 -- the lines of some entries, one behind the other
 abbrev pub text_of : List Entry → List ℕ

@@ -1,6 +1,6 @@
+pub mod Characters
 pub mod EntryLine
 pub mod Listener
-pub mod ListenerLaws
 pub mod Safety
 pub mod Lines
 pub mod Feed
@@ -8,3 +8,4 @@ pub mod Reading
 pub mod Words
 pub mod Script
 pub mod ReasonCode
+pub mod inner

@@ -2,13 +2,22 @@
 -- profile. Cited by the contracts of `Line` and `Lines`, and by the definition of a script.
 use Rattle.std.specs.Prelude.{◌≡◌, ℕ, ◌==◌, ◌&&◌, nat_le, nat_lt, Bool, true, false, List, [], ◌∷◌, length, Option, Some, None, if◌then◌else◌}
 use Rattle.std.specs.List.{list_all, onto_first}
+use Rattle.trace_text.specs.Characters.{newline, space, number_sign, tilde}
 use Rattle.trace_text.specs.declared.reason.Reason.{Reason}
 use Rattle.trace_text.specs.declared.reason.Reason.TheVariants as reason
+
+-- the most bytes of a line, without its newline
+abbrev pub most_in_line : ℕ
+most_in_line = 512
+
+-- the most bytes of an input
+abbrev pub most_bytes : ℕ
+most_bytes = 16777216
 
 -- The lines of these bytes. Each ends with a newline; the last may lack it.
 unfoldable pub lines_of : List ℕ → List (List ℕ)
 lines_of [] = []
-lines_of (b ∷ bytes) = if b == 10 then [] ∷ lines_of bytes else onto_first b (lines_of bytes)
+lines_of (b ∷ bytes) = if b == newline then [] ∷ lines_of bytes else onto_first b (lines_of bytes)
 
 -- a line with its number; the first line of a text has number 1
 pub record Numbered : Type 0 where
@@ -17,16 +26,19 @@ pub record Numbered : Type 0 where
 
 -- whether a byte may stand in a line: a printable character of ASCII, or a space
 abbrev pub is_printable : ℕ → Bool
-is_printable b = nat_le 32 b && nat_le b 126
+is_printable b = nat_le space b && nat_le b tilde
 
 -- why a line is refused whatever it says: it has more than 512 bytes, or a byte that may not stand in a line
 abbrev pub line_fault : List ℕ → Option Reason
-line_fault text = if nat_lt 512 (length text) then Some reason.LineLong else if list_all is_printable text then None else Some reason.Text
+line_fault text =
+    if nat_lt most_in_line (length text) then Some reason.LineLong
+    else if list_all is_printable text then None
+    else Some reason.Text
 
 -- whether a line is empty, or begins with `#`
 abbrev pub is_comment : List ℕ → Bool
 is_comment [] = true
-is_comment (b ∷ _) = b == 35
+is_comment (b ∷ _) = b == number_sign
 
 -- a line that is passed over; it counts among the lines
 abbrev pub IsPassedOver : List ℕ → Type 0

@@ -1,18 +1,20 @@
 -- What a reader of lines has, and what each of its answers says of the bytes that it took from its source. This
 -- project's profile. Cited by the contract of `Lines`.
-use Rattle.std.specs.Prelude.{◌≡◌, ℕ, ◌+◌, ◌<◌, ◌≤◌, Bool, true, false, List, [], ◌∷◌, ◌++◌, length, Option, Some, None, Result, Ok, Err}
-use Rattle.std.specs.List.{AllByRecursion}
+use Rattle.std.specs.Prelude.{◌≡◌, ℕ, ◌+◌, ◌<◌, ◌≤◌, Bool, true, false, List, [], ◌∷◌, ◌++◌, length, not, ◌==◌, ◌&&◌, Option, Some, Result, Ok, Err}
+use Rattle.std.specs.List.{AllByRecursion, list_any}
+use Rattle.call_io.specs.Counts.{Rose}
+use Rattle.trace_text.specs.Characters.{newline, number_sign, is_newline}
 use Rattle.trace_text.specs.Feed.{Feed, first_feed, Draws, IsDone, IsInner}
-use Rattle.trace_text.specs.Lines.{lines_of, line_fault, is_comment, IsPassedOver, IsLine}
-use Rattle.trace_text.specs.declared.reason.Reason.{Reason}
-use Rattle.trace_text.specs.declared.reason.Reason.TheVariants as reason
+use Rattle.trace_text.specs.Lines.{lines_of, line_fault, IsPassedOver, IsLine}
 use Rattle.trace_text.specs.declared.reason.BadLine.{BadLine}
 use Rattle.trace_text.specs.declared.fault.LineFault.{LineFault}
 use Rattle.trace_text.specs.declared.fault.LineFault.TheVariants as fault
-use Rattle.trace_text.specs.declared.gather.Ending.{Ending}
-use Rattle.trace_text.specs.declared.gather.Ending.TheVariants as ending
-use Rattle.trace_text.specs.declared.kind.LineKind.{LineKind}
-use Rattle.trace_text.specs.declared.kind.LineKind.TheVariants as kind
+
+-- A failed read comes only where the count of the source's faults rose, and any other answer only where it stood.
+abbrev pub LineFaultCause : LineFault → (old new : ℕ) → Type 0
+LineFaultCause (fault.Bad bad) old new = new ≡ old
+LineFaultCause fault.ReadFault old new = Rose old new
+LineFaultCause fault.TooLong old new = new ≡ old
 
 pub record Reading : Type 0 where
   -- the bytes between the source and the lines
@@ -31,6 +33,19 @@ first_reading = record { feed = first_feed; lines = 0; text = []; failed = false
 -- behind the end of the input nothing follows
 abbrev pub MayFollow : Feed → List ℕ → Type 0
 MayFollow feed more = feed.ended ≡ true → more ≡ []
+
+-- whether a byte may begin a line that isn't passed over
+abbrev pub may_begin_line : ℕ → Bool
+may_begin_line b = not (b == newline) && not (b == number_sign)
+
+abbrev pub begins_line : List ℕ → Bool
+begins_line [] = false
+begins_line (b ∷ _) = may_begin_line b
+
+-- Whether the bytes begin with a line that isn't passed over, its newline included: the next line is known, or refused,
+-- without a further byte.
+abbrev pub begins_with_line : List ℕ → Bool
+begins_with_line bytes = list_any is_newline bytes && begins_line bytes
 
 -- A front of the bytes is lines that are passed over and then the last line read, whatever may follow.
 pub record FindsLine (old new : Reading) (bytes : List ℕ) : Type 0 where
@@ -61,7 +76,8 @@ pub record FindsBad (old new : Reading) (bytes : List ℕ) (bad : BadLine) : Typ
   pub each : AllByRecursion IsPassedOver passed
   pub number : bad.line ≡ old.lines + length passed + 1
   pub lines : (more : List ℕ) → MayFollow new.feed more →
-      (text : List ℕ) × (rest : List (List ℕ)) × (lines_of (front ++ more) ≡ passed ++ text ∷ rest) × (line_fault text ≡ Some bad.reason)
+      (text : List ℕ) × (rest : List (List ℕ)) × (lines_of (front ++ more) ≡ passed ++ text ∷ rest)
+      × (line_fault text ≡ Some bad.reason)
 
 -- The bytes are lines that are passed over and then a line that isn't ended, nor too long, by the 16,777,216th byte of
 -- the input; and at least one byte more.
@@ -94,23 +110,3 @@ pub record ReadsLine (old new : Reading) (left left' : Option (List ℕ)) (answe
   pub limit : new.feed.given ≤ 16777216
   pub few : new.lines ≤ new.feed.given
   pub finds : Finds old new (old.feed.pending ++ taken) answer
-
--- what a whole line is, by its fault and by whether it is a comment
-abbrev pub kind_from : Option Reason → Bool → LineKind
-kind_from (Some why) comment = kind.Refused why
-kind_from None true = kind.PassedOver
-kind_from None false = kind.Says
-
-abbrev pub kind_of_line : List ℕ → LineKind
-kind_of_line text = kind_from (line_fault text) (is_comment text)
-
--- what a line is whose bytes were gathered and ended so
-abbrev pub kind_of_gathered : Ending → List ℕ → LineKind
-kind_of_gathered ending.Full text = kind.Refused reason.LineLong
-kind_of_gathered ending.Newline text = kind_of_line text
-kind_of_gathered ending.InputEnd [] = kind.NoLine
-kind_of_gathered ending.InputEnd (b ∷ bytes) = kind_of_line (b ∷ bytes)
-
--- a reader that gave no fault, by its parts
-abbrev pub reading : Feed → ℕ → List ℕ → Reading
-reading feed lines text = record { feed = feed; lines = lines; text = text; failed = false }

@@ -42,7 +42,8 @@ voice_after e c was_up was_open _ = was_open
 
 abbrev pub voice_from : End → ℕ → (was_up was_open : Bool) → List Entry → Bool
 voice_from e c was_up was_open [] = was_open
-voice_from e c was_up was_open (x ∷ xs) = voice_from e c (leg_after e c was_up x.note) (voice_after e c was_up was_open x.note) xs
+voice_from e c was_up was_open (x ∷ xs) =
+    voice_from e c (leg_after e c was_up x.note) (voice_after e c was_up was_open x.note) xs
 
 -- whether the voice of this leg is open both ways behind these entries
 abbrev pub voice_is_open : End → ℕ → List Entry → Bool
@@ -58,15 +59,15 @@ abbrev pub WasShown : ℕ → ℕ → List ℕ → List Entry → Type 0
 WasShown call request octets [] = ⊥
 WasShown call request octets (x ∷ xs) = IsShown call request octets x.note ⊎ WasShown call request octets xs
 
--- an acknowledged set was shown before for that call and request, octet for octet
-abbrev pub MayFollow : List Entry → Note → Type 0
-MayFollow before (note.Acked c r o) = WasShown c r o before
-MayFollow before _ = Unit {0}
+-- where an item acknowledges a set, it was shown before for that call and request, octet for octet
+abbrev pub IsShownFirst : List Entry → Note → Type 0
+IsShownFirst before (note.Acked c r o) = WasShown c r o before
+IsShownFirst before _ = Unit {0}
 
--- each of these entries may follow what stands before it
+-- whichever of these entries acknowledges a set, it was shown in front of that entry
 abbrev pub AgreedFrom : List Entry → List Entry → Type 0
 AgreedFrom before [] = Unit {0}
-AgreedFrom before (x ∷ xs) = MayFollow before x.note × AgreedFrom (before ++ x ∷ []) xs
+AgreedFrom before (x ∷ xs) = IsShownFirst before x.note × AgreedFrom (before ++ x ∷ []) xs
 
 -- Every acknowledged set was shown earlier by the point for that call, octet for octet.
 abbrev pub Agreed : List Entry → Type 0

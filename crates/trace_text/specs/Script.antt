@@ -1,6 +1,6 @@
--- The script of a text: its facts and events, up to the first line that is refused. This project's profile. Cited by the
--- contract of `read_script` and by the reply of `ecall`.
-use Rattle.std.specs.Prelude.{◌≡◌, ℕ, ◌+◌, ◌-◌, ◌*◌, ◌^◌, ◌<◌, ◌≤◌, ◌&&◌, nat_le, nat_lt, Bool, true, false, List, [], ◌∷◌, ◌++◌, length, drop, slice_index, codes, Option, Some, None, Result, Ok, Err, replicate, if◌then◌else◌}
+-- The script of a text: its facts and events, up to the first line that is refused. This project's profile. Cited by
+-- the contract of `read_script` and by the reply of `ecall`.
+use Rattle.std.specs.Prelude.{ℕ, ◌+◌, ◌-◌, ◌*◌, ◌^◌, ◌&&◌, nat_le, nat_lt, Bool, true, false, List, [], ◌∷◌, ◌++◌, length, slice_index, codes, Option, Some, None, Result, Ok, Err, replicate, if◌then◌else◌}
 use Rattle.std.specs.List.{list_all}
 use Rattle.std.specs.Str.{bytes_eq}
 use Rattle.hex.specs.Hex.{decode_of}
@@ -14,17 +14,18 @@ use Rattle.trace_text.specs.declared.reason.BadLine.{BadLine}
 use Rattle.trace_text.specs.declared.script.FactLine.TheVariants as fact
 use Rattle.trace_text.specs.declared.script.ScriptLine.{ScriptLine}
 use Rattle.trace_text.specs.declared.script.ScriptLine.TheVariants as line
+use Rattle.trace_text.specs.Characters.{digit_zero, digit_nine}
 use Rattle.trace_text.specs.Words.{words}
 use Rattle.trace_text.specs.Lines.{Numbered, lines_of, line_fault, is_comment}
 
 -- whether a byte is a decimal digit
 abbrev pub is_digit : ℕ → Bool
-is_digit c = nat_le 48 c && nat_le c 57
+is_digit c = nat_le digit_zero c && nat_le c digit_nine
 
 -- the number that digits spell behind a number spelled so far
 abbrev pub number_after : ℕ → List ℕ → ℕ
 number_after n [] = n
-number_after n (c ∷ cs) = number_after (10 * n + (c - 48)) cs
+number_after n (c ∷ cs) = number_after (10 * n + (c - digit_zero)) cs
 
 -- the number that digits spell
 abbrev pub number_of : List ℕ → ℕ
@@ -32,7 +33,7 @@ number_of digits = number_after 0 digits
 
 -- whether all bytes are digits, and the first is none of 0
 abbrev pub is_plain_number : List ℕ → Bool
-is_plain_number text = list_all is_digit text && nat_lt 48 (slice_index text 0)
+is_plain_number text = list_all is_digit text && nat_lt digit_zero (slice_index text 0)
 
 -- a number from 1 to 4294967295 in decimal digits, without a zero in front
 abbrev pub positive : List ℕ → Option ℕ
@@ -40,7 +41,8 @@ positive text = if is_plain_number text && nat_lt (number_of text) (2 ^ 32) then
 
 -- up or down
 abbrev pub direction : List ℕ → Option Bool
-direction text = if bytes_eq text (codes "up") then Some true else if bytes_eq text (codes "down") then Some false else None
+direction text =
+    if bytes_eq text (codes "up") then Some true else if bytes_eq text (codes "down") then Some false else None
 
 -- zero octets behind the octets of a set, up to 140
 abbrev pub padded : List ℕ → List ℕ
@@ -50,14 +52,6 @@ padded octets = octets ++ replicate (140 - length octets) 0
 abbrev pub octets_within : Result (List ℕ) FromHexError → Result (List ℕ) Reason
 octets_within (Ok octets) = if nat_le (length octets) 140 then Ok (padded octets) else Err reason.Hex
 octets_within (Err _) = Err reason.Hex
-
--- the bytes end as the octets of some hexadecimal in front, and behind as they were
-abbrev pub DecodesTo : (text old new : List ℕ) → Type 0
-DecodesTo text old new = (octets : List ℕ) × (0 < length text) × (length octets ≤ length old) × (decode_of text ≡ Ok octets) × (new ≡ octets ++ drop (length octets) old)
-
--- the text is empty, no hexadecimal, or of more octets than there is room for
-abbrev pub DecodesNone : (text : List ℕ) (room : ℕ) → Type 0
-DecodesNone text room = (octets : List ℕ) → 0 < length text → decode_of text ≡ Ok octets → room < length octets
 
 -- a ready set: 1 to 140 octets in hexadecimal of either case, with zero octets to its end
 abbrev pub octets_of : List ℕ → Result (List ℕ) Reason
@@ -74,7 +68,8 @@ set_line _ = Err reason.Count
 
 -- `trigger auto`
 abbrev pub trigger_line : List (List ℕ) → Result ScriptLine Reason
-trigger_line (text ∷ []) = if bytes_eq text (codes "auto") then Ok (line.Event (event.Trigger cause.Auto)) else Err reason.Word
+trigger_line (text ∷ []) =
+    if bytes_eq text (codes "auto") then Ok (line.Event (event.Trigger cause.Auto)) else Err reason.Word
 trigger_line _ = Err reason.Count
 
 -- `answer`
@@ -135,7 +130,11 @@ placed_line said (Err why) = Err why
 
 -- what a line says in its place, nothing where it is passed over, or why it is refused
 abbrev pub judged : Said → List ℕ → Result (Option ScriptLine) Reason
-judged said text = elim (line_fault text) [ Some why ↦ Err why | None ↦ if is_comment text then Ok None else placed_line said (script_line text) ]
+judged said text =
+    elim (line_fault text) [
+      | Some why ↦ Err why
+      | None ↦ if is_comment text then Ok None else placed_line said (script_line text)
+    ]
 
 -- what was said behind a line; a repeated `set` replaces the former
 abbrev pub said_after : Said → ScriptLine → Said

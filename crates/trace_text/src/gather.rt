@@ -1,9 +1,11 @@
 //! The bytes of one line, gathered from those of a source.
 
-ghost use Rattle.std.specs.Prelude.{◌≡◌, ℕ, ◌≤◌, List, Option, IfErr};
-ghost use Rattle.call_io.specs.Counts.{Rose};
-ghost use Rattle.trace_text.specs.Feed.{GathersLine};
-ghost use Rattle.trace_text.specs.declared.fault.LineFault.TheVariants as fault;
+ghost use Rattle.std.specs.Prelude.{◌≡◌, ℕ, ◌≤◌, true, List, Option, OnOk, IfErr};
+ghost use Rattle.trace_text.specs.inner.Gathering.{GathersLine};
+ghost use Rattle.std.specs.List.{list_any};
+ghost use Rattle.trace_text.specs.Characters.{is_newline};
+ghost use Rattle.trace_text.specs.Lines.{most_bytes};
+ghost use Rattle.trace_text.specs.Reading.{LineFaultCause};
 
 use crate::bytes::Bytes;
 use crate::fault::LineFault;
@@ -31,8 +33,10 @@ pub fn gather<I: Source>(
     source: &mut I,
 ) -> Result<Ending, LineFault>
     ensures line { GathersLine bytes.old bytes.new (I.left source.old) (I.left source.new) text.new.items result }
-    ensures limit { bytes.new.given ≤ 16777216 }
-    ensures cause { IfErr result (λ e. e ≡ fault.ReadFault → Rose (I.faults source.old) (I.faults source.new)) }
+    ensures limit { bytes.new.given ≤ most_bytes }
+    ensures at_hand { list_any is_newline bytes.old.pending ≡ true → source.new ≡ source.old }
+    ensures stood { OnOk result (I.faults source.new ≡ I.faults source.old) }
+    ensures cause { IfErr result (λ e. LineFaultCause e (I.faults source.old) (I.faults source.new)) }
     ensures counted { I.faults source.old ≤ I.faults source.new }
 {
     text.clear();

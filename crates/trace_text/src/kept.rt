@@ -43,7 +43,7 @@ impl Kept {
 impl Listener for Kept {
     ghost use Rattle.std.specs.Prelude.{◌≡◌, [], ◌∷◌, ◌++◌, OnOk, OnErr, IfErr};
     ghost use Rattle.trace_text.specs.Listener.{KeptGrew, GrewByFront};
-    ghost use Rattle.trace_text.specs.ListenerLaws.{KeptGrew-nothing, KeptGrew-append, GrewByFront-whole, GrewByFront-after, GrewByFront-longer};
+    ghost use Rattle.trace_text.specs.inner.ListenerLaws.{KeptGrew-nothing, KeptGrew-append, GrewByFront-whole, GrewByFront-after, GrewByFront-longer};
 
     ghost grew = { KeptGrew };
 

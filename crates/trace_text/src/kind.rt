@@ -3,7 +3,7 @@
 ghost use Rattle.std.specs.Prelude.{◌≡◌, ◌≤◌, length};
 ghost use Rattle.std.specs.List.{list_all};
 ghost use Rattle.trace_text.specs.Lines.{line_fault, is_comment as is_comment_line, is_printable as is_printable_byte};
-ghost use Rattle.trace_text.specs.Reading.{kind_of_gathered};
+ghost use Rattle.trace_text.specs.inner.Kinds.{kind_of_gathered};
 
 use crate::gather::Ending;
 use crate::reason::Reason;
@@ -63,5 +63,17 @@ fn is_comment(text: &[u8]) -> bool
 fn is_printable(text: &[u8]) -> bool
     ensures { result ≡ list_all is_printable_byte text.now }
 {
-    text.iter().all(|byte| 32 <= *byte && *byte <= 126)
+    // All bytes are looked at, also behind one that may not stand: so the compiler compares many at once.
+    let mut all = true;
+    for byte in text {
+        all &= may_stand(*byte);
+    }
+    all
+}
+
+/// Whether a byte may stand in a line.
+fn may_stand(byte: u8) -> bool
+    ensures { result ≡ is_printable_byte byte }
+{
+    b' ' <= byte && byte <= b'~'
 }

@@ -74,6 +74,31 @@ fn expect_fault(
     Ok(())
 }
 
+/// Asserts whether a line stands at hand behind the first line of these bytes, which were read at once.
+fn expect_line(
+    rt: &impl Abort,
+    alloc: Global,
+    bytes: &[u8],
+    at_hand: bool,
+) -> Result<(), AllocError> {
+    let mut source = source_of(alloc, bytes, 4096)?;
+    let mut lines = Lines::new();
+    assert!(rt; !lines.has_line());
+    assert_eq!(rt; lines.next(&mut source), Ok(true));
+    assert_eq!(rt; lines.has_line(), at_hand);
+    Ok(())
+}
+
+#[test]
+fn lines_stand_at_hand(rt: HostRuntime) -> Result<(), Fail> {
+    expect_line(&rt, rt.alloc(), b"answer\nanswer\n", true)?;
+    expect_line(&rt, rt.alloc(), b"answer\nanswer", false)?;
+    expect_line(&rt, rt.alloc(), b"answer\n# a comment\nanswer\n", false)?;
+    expect_line(&rt, rt.alloc(), b"answer\n\nanswer\n", false)?;
+    expect_line(&rt, rt.alloc(), b"answer\n", false)?;
+    Ok(())
+}
+
 /// The event of a `deliver` line.
 fn deliver(rt: &impl Abort, up: bool, call: u32, k: u32) -> Event {
     let call = Positive::new(call).expect(rt, "a call's number");

@@ -1,10 +1,9 @@
 //! The lines of a source, one after another.
 
-ghost use Rattle.std.specs.Prelude.{◌≡◌, ℕ, ◌≤◌, List, Option, length, IfErr};
-ghost use Rattle.call_io.specs.Counts.{Rose};
+ghost use Rattle.std.specs.Prelude.{◌≡◌, ℕ, ◌≤◌, true, List, Option, length, OnOk, IfErr};
 ghost use Rattle.trace_text.specs.Feed.{IsDone};
-ghost use Rattle.trace_text.specs.Reading.{ReadsLine, reading};
-ghost use Rattle.trace_text.specs.declared.fault.LineFault.TheVariants as fault;
+ghost use Rattle.trace_text.specs.Reading.{ReadsLine, LineFaultCause, begins_with_line};
+ghost use Rattle.trace_text.specs.inner.Kinds.{reading};
 
 use crate::bytes::Bytes;
 use crate::fault::LineFault;
@@ -28,13 +27,14 @@ pub struct Lines {
 impl Model for Lines {
     ghost use Rattle.std.specs.Prelude.{◌≤◌};
     ghost use Rattle.trace_text.specs.Feed.{IsDone};
+    ghost use Rattle.trace_text.specs.Lines.{most_bytes};
     ghost use Rattle.trace_text.specs.Reading.{Reading};
 
     ghost Value = { Reading };
 
     ghost view = { λ s. record { feed = s.bytes; lines = s.number; text = s.text.items; failed = s.failed } };
 
-    ghost invariant = { λ s. (s.number ≤ s.bytes.given) × (s.bytes.given ≤ 16777216) × IsDone s.bytes };
+    ghost invariant = { λ s. (s.number ≤ s.bytes.given) × (s.bytes.given ≤ most_bytes) × IsDone s.bytes };
 }
 
 impl Lines {
@@ -54,13 +54,23 @@ impl Lines {
         }
     }
 
+    /// Whether `next` answers without reading the source: the bytes at hand begin with a line that isn't passed over, its
+    /// newline included.
+    pub fn has_line(&self) -> bool
+        ensures { result ≡ begins_with_line self.now.feed.pending }
+    {
+        self.bytes.has_line()
+    }
+
     /// Reads the next line that says something: true where there is one, which `line` then lends,
     /// and false at the end of the input. Empty lines and those that begin with `#` are passed
     /// over, and counted. After a fault it isn't called again.
     pub fn next<I: Source>(&mut self, source: &mut I) -> Result<bool, LineFault>
         requires { self.old.failed ≡ false }
         ensures reads { ReadsLine self.old self.new (I.left source.old) (I.left source.new) result }
-        ensures cause { IfErr result (λ e. e ≡ fault.ReadFault → Rose (I.faults source.old) (I.faults source.new)) }
+        ensures at_hand { begins_with_line self.old.feed.pending ≡ true → source.new ≡ source.old }
+        ensures stood { OnOk result (I.faults source.new ≡ I.faults source.old) }
+        ensures cause { IfErr result (λ e. LineFaultCause e (I.faults source.old) (I.faults source.new)) }
         ensures counted { I.faults source.old ≤ I.faults source.new }
     {
         let read = skim(&mut self.bytes, &mut self.text, &mut self.number, source);
@@ -87,8 +97,11 @@ fn skim<I: Source>(
 ) -> Result<bool, LineFault>
     requires few { number.old ≤ bytes.old.given }
     requires done { IsDone bytes.old }
-    ensures reads { ReadsLine (reading bytes.old number.old text.old.items) (reading bytes.new number.new text.new.items) (I.left source.old) (I.left source.new) result }
-    ensures cause { IfErr result (λ e. e ≡ fault.ReadFault → Rose (I.faults source.old) (I.faults source.new)) }
+    ensures reads { ReadsLine (reading bytes.old number.old text.old.items) (reading bytes.new number.new text.new.items)
+        (I.left source.old) (I.left source.new) result }
+    ensures at_hand { begins_with_line bytes.old.pending ≡ true → source.new ≡ source.old }
+    ensures stood { OnOk result (I.faults source.new ≡ I.faults source.old) }
+    ensures cause { IfErr result (λ e. LineFaultCause e (I.faults source.old) (I.faults source.new)) }
     ensures counted { I.faults source.old ≤ I.faults source.new }
 {
     loop {

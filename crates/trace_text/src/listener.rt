@@ -1,6 +1,6 @@
 //! Who hears of a trace, entry by entry.
 ghost use Rattle.std.specs.Prelude.{◌≡◌, ℕ, ◌≤◌, List, [], ◌∷◌, ◌++◌, OnOk, OnErr, IfErr};
-ghost use Rattle.trace_text.specs.Listener.{HasCause};
+ghost use Rattle.trace_text.specs.Listener.{DeafCause};
 ghost use Rattle.trace_text.specs.declared.entry.Entry.{Entry};
 
 use crate::entry::Entry;
@@ -31,7 +31,8 @@ pub trait Listener {
     fn hear(&mut self, alloc: Global, entry: &Entry) -> Result<(), Deaf>
         ensures ok { OnOk result (grew self.old self.new (entry.now ∷ [])) }
         ensures err { OnErr result (partly self.old self.new (entry.now ∷ [])) }
-        ensures cause { IfErr result (λ e. HasCause e (faults self.old) (faults self.new)) }
+        ensures stood { OnOk result (faults self.new ≡ faults self.old) }
+        ensures cause { IfErr result (λ e. DeafCause e (faults self.old) (faults self.new)) }
         ensures counted { faults self.old ≤ faults self.new };
 
     // An unchanged listener grew by nothing.

@@ -3,13 +3,14 @@
 ghost use Rattle.std.specs.Prelude.{◌≡◌, ◌<◌, ◌^◌, false, length, IsTrue};
 ghost use Rattle.std.specs.Option.{option_copied, SomeIff};
 ghost use Rattle.std.specs.List.{list_all};
-ghost use Rattle.trace_text.specs.Script.{is_digit, is_plain_number, number_of, positive, direction, octets_of, DecodesTo, DecodesNone, set_line, trigger_line, answer_line, deliver_line, script_line, script_answer};
-ghost use Rattle.trace_text.specs.Words.{words_behind};
+ghost use Rattle.trace_text.specs.Script.{is_digit, is_plain_number, number_of, positive, direction, octets_of, set_line, trigger_line, answer_line, deliver_line, script_line, script_answer};
+ghost use Rattle.trace_text.specs.inner.Decoding.{DecodesTo, DecodesNone};
+ghost use Rattle.trace_text.specs.inner.Arguments.{words_behind};
 
 use crate::event::{Event, Positive};
 use crate::line::Line;
 use crate::reason::{BadLine, Reason};
-use crate::words::{is_word, only_word, split_word, three_words};
+use crate::words::{is_word, only_argument, split_word, three_arguments};
 use ivs_machine::Cause;
 
 /// A fact line of a script.
@@ -62,7 +63,7 @@ fn read_text(text: &[u8]) -> Result<ScriptLine, Reason>
 fn read_set(rest: Option<&[u8]>) -> Result<ScriptLine, Reason>
     ensures { result ≡ set_line (words_behind (option_copied rest.entry)) }
 {
-    let text = only_word(rest).ok_or(Reason::Count)?;
+    let text = only_argument(rest).ok_or(Reason::Count)?;
     let octets = read_octets(text)?;
     Ok(ScriptLine::Fact(FactLine::Set(octets)))
 }
@@ -71,7 +72,7 @@ fn read_set(rest: Option<&[u8]>) -> Result<ScriptLine, Reason>
 fn read_trigger(rest: Option<&[u8]>) -> Result<ScriptLine, Reason>
     ensures { result ≡ trigger_line (words_behind (option_copied rest.entry)) }
 {
-    if is_word(only_word(rest).ok_or(Reason::Count)?, "auto") {
+    if is_word(only_argument(rest).ok_or(Reason::Count)?, "auto") {
         Ok(ScriptLine::Event(Event::Trigger(Cause::Auto)))
     } else {
         Err(Reason::Word)
@@ -92,7 +93,7 @@ fn read_answer(rest: Option<&[u8]>) -> Result<ScriptLine, Reason>
 fn read_deliver(rest: Option<&[u8]>) -> Result<ScriptLine, Reason>
     ensures { result ≡ deliver_line (words_behind (option_copied rest.entry)) }
 {
-    let (way, call, k) = three_words(rest).ok_or(Reason::Count)?;
+    let (way, call, k) = three_arguments(rest).ok_or(Reason::Count)?;
     let up = read_direction(way).ok_or(Reason::Word)?;
     let call = read_positive(call).ok_or(Reason::Number)?;
     let k = read_positive(k).ok_or(Reason::Number)?;

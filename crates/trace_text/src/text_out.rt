@@ -1,7 +1,7 @@
 //! The listener that writes each entry's line.
 ghost use Rattle.std.specs.Prelude.{◌≡◌, ◌≤◌, [], ◌∷◌, OnOk, OnErr, IfErr};
-ghost use Rattle.trace_text.specs.Listener.{HasCause, sink, sink_name, TextGrew, TextGrewPartly};
-ghost use Rattle.trace_text.specs.ListenerLaws.{TextGrew-nothing, TextGrew-append, TextGrewPartly-whole, TextGrewPartly-after, TextGrewPartly-longer};
+ghost use Rattle.trace_text.specs.Listener.{DeafCause, sink, sink_name, TextGrew, TextGrewPartly};
+ghost use Rattle.trace_text.specs.inner.ListenerLaws.{TextGrew-nothing, TextGrew-append, TextGrewPartly-whole, TextGrewPartly-after, TextGrewPartly-longer};
 
 use crate::entry::Entry;
 use crate::listener::{Deaf, Listener};
@@ -26,17 +26,18 @@ impl<'a, O> TextOut<'a, O> {
 }
 
 impl<'a, O: Sink> Listener for TextOut<'a, O> {
-    ghost grew = { TextGrew O.held };
+    ghost grew = { TextGrew O.held O.way };
 
-    ghost partly = { TextGrewPartly O.held };
+    ghost partly = { TextGrewPartly O.held O.way };
 
     ghost faults = { λ to. O.faults (sink to) };
 
     fn hear(&mut self, _alloc: Global, entry: &Entry) -> Result<(), Deaf>
-        ensures ok { OnOk result (TextGrew O.held self.old self.new (entry.now ∷ [])) }
-        ensures err { OnErr result (TextGrewPartly O.held self.old self.new (entry.now ∷ [])) }
+        ensures ok { OnOk result (TextGrew O.held O.way self.old self.new (entry.now ∷ [])) }
+        ensures err { OnErr result (TextGrewPartly O.held O.way self.old self.new (entry.now ∷ [])) }
         ensures write { IfErr result (λ e. e ≡ Deaf.Write) }
-        ensures cause { IfErr result (λ e. HasCause e (O.faults (sink self.old)) (O.faults (sink self.new))) }
+        ensures stood { OnOk result (O.faults (sink self.new) ≡ O.faults (sink self.old)) }
+        ensures cause { IfErr result (λ e. DeafCause e (O.faults (sink self.old)) (O.faults (sink self.new))) }
         ensures counted { O.faults (sink self.old) ≤ O.faults (sink self.new) }
     {
         match write_entry(entry, self.out) {
@@ -45,13 +46,13 @@ impl<'a, O: Sink> Listener for TextOut<'a, O> {
         }
     }
 
-    ghost unchanged = { TextGrew-nothing O.held };
+    ghost unchanged = { TextGrew-nothing O.held O.way };
 
-    ghost twice = { TextGrew-append O.held };
+    ghost twice = { TextGrew-append O.held O.way };
 
-    ghost whole = { TextGrewPartly-whole O.held };
+    ghost whole = { TextGrewPartly-whole O.held O.way };
 
-    ghost then_partly = { TextGrewPartly-after O.held };
+    ghost then_partly = { TextGrewPartly-after O.held O.way };
 
-    ghost longer = { TextGrewPartly-longer O.held };
+    ghost longer = { TextGrewPartly-longer O.held O.way };
 }

@@ -1,9 +1,24 @@
 //! The words of a line.
 
-ghost use Rattle.std.specs.Prelude.{◌≡◌, ◌==◌, ◌∷◌, position};
+ghost use Rattle.std.specs.Prelude.{◌≡◌, ◌∷◌, position};
 ghost use Rattle.std.specs.Option.{option_copied, option_map};
 ghost use Rattle.std.specs.Str.{bytes_eq};
-ghost use Rattle.trace_text.specs.Words.{words, words_behind, only_word_of, three_words_of};
+ghost use Rattle.trace_text.specs.Characters.{is_space};
+ghost use Rattle.trace_text.specs.Words.{words, only_word_of};
+ghost use Rattle.trace_text.specs.inner.Arguments.{words_behind, three_words_of};
+
+use memchr::memchr;
+
+/// The only word of a line, unless there are more. Words are cut at each single space, so a line has at least one.
+pub fn only_word(text: &[u8]) -> Option<&[u8]>
+    ensures { option_copied result ≡ only_word_of (words text.now) }
+{
+    let (word, more) = split_word(text);
+    match more {
+        None => Some(word),
+        Some(_) => None,
+    }
+}
 
 /// The first word, and what stands behind the space that ends it.
 pub fn split_word(text: &[u8]) -> (&[u8], Option<&[u8]>)
@@ -17,29 +32,26 @@ pub fn split_word(text: &[u8]) -> (&[u8], Option<&[u8]>)
 
 /// Where the first space stands.
 fn find_space(text: &[u8]) -> Option<usize>
-    ensures { result ≡ position (λ b. b == 32) text.now }
+    ensures { result ≡ position is_space text.now }
 {
-    text.iter().position(|byte| *byte == b' ')
+    memchr(b' ', text)
 }
 
-/// The only word of a text, unless there are more, or none.
-pub fn only_word(rest: Option<&[u8]>) -> Option<&[u8]>
+/// The only argument of a line behind its first word, unless there are more, or none.
+pub fn only_argument(rest: Option<&[u8]>) -> Option<&[u8]>
     ensures { option_copied result ≡ only_word_of (words_behind (option_copied rest.entry)) }
 {
-    let (word, more) = split_word(rest?);
-    match more {
-        None => Some(word),
-        Some(_) => None,
-    }
+    only_word(rest?)
 }
 
-/// The three words of a text, unless there are more or fewer.
-pub fn three_words(rest: Option<&[u8]>) -> Option<(&[u8], &[u8], &[u8])>
-    ensures { option_map (λ found. (found.0.now, found.1.now, found.2.now)) result ≡ three_words_of (words_behind (option_copied rest.entry)) }
+/// The three arguments of a line behind its first word, unless there are more or fewer.
+pub fn three_arguments(rest: Option<&[u8]>) -> Option<(&[u8], &[u8], &[u8])>
+    ensures { option_map (λ found. (found.0.now, found.1.now, found.2.now)) result
+        ≡ three_words_of (words_behind (option_copied rest.entry)) }
 {
     let (first, more) = split_word(rest?);
     let (second, more) = split_word(more?);
-    let third = only_word(more)?;
+    let third = only_argument(more)?;
     Some((first, second, third))
 }
 

@@ -3,13 +3,15 @@ ghost use Rattle.std.specs.Prelude.{◌≡◌, ◌+◌, ◌<◌, ◌≤◌, ◌�
 ghost use Rattle.arrayvec.specs.ArrayVec.{array_vec_len};
 ghost use Rattle.call_io.specs.Bytes.{Grew, GrewPartly};
 ghost use Rattle.call_io.specs.Counts.{Rose};
+ghost use Rattle.call_io.specs.Ways.{Onward};
 ghost use Rattle.hex.specs.Hex.{encode_lower};
 ghost use Rattle.trace_text.specs.EntryLine.{end_word, why_word, timer_word, answer_word, net_word, voice_word, frame_words, note_words, spaced, line_of};
 
 use crate::entry::Entry;
+use crate::push::{push_number, push_word};
 use arrayvec::ArrayVec;
 use call_io::{Failed, Sink, write_all};
-use itoa::{Buffer, Integer};
+use itoa::Buffer;
 use link_frames::{Answer, DialAttempt, End, Frame, Note, OCTETS, Request, Timer, Why};
 
 /// The most octets that the line of an entry has, its newline included: a `send` with a set, and with each of its
@@ -19,26 +21,6 @@ const LONGEST_LINE: usize = 339;
 /// A line that is being built. What is appended below requires that what stands so far leaves room for it, as it
 /// does behind the longest tick.
 type LineText = ArrayVec<u8, LONGEST_LINE>;
-
-/// Appends a word behind a space.
-fn push_word(line: &mut LineText, word: &str)
-    requires { array_vec_len line.old + length word.now < LONGEST_LINE }
-    ensures bytes { line.new.items ≡ line.old.items ++ 32 ∷ word.now }
-    ensures len { array_vec_len line.new ≡ array_vec_len line.old + 1 + length word.now }
-{
-    line.push(b' ');
-    line.try_extend_from_slice(word.as_bytes()).unwrap();
-}
-
-/// Appends a number behind a space.
-fn push_number<I: Integer>(line: &mut LineText, number: I)
-    requires { array_vec_len line.old + I.MAX_STR_LEN < LONGEST_LINE }
-    ensures bytes { line.new.items ≡ line.old.items ++ 32 ∷ I.text number }
-    ensures len { array_vec_len line.new ≤ array_vec_len line.old + 1 + I.MAX_STR_LEN }
-{
-    let mut digits = Buffer::new();
-    push_word(line, digits.format(number));
-}
 
 /// Appends the octets of a set behind a space, in hexadecimal.
 fn push_octets(line: &mut LineText, octets: &[u8; OCTETS])
@@ -322,8 +304,10 @@ fn entry_line(entry: &Entry) -> LineText
 pub fn write_entry<O: Sink>(entry: &Entry, out: &mut O) -> Result<(), Failed>
     ensures ok { OnOk result (Grew (O.held out.old) (O.held out.new) (line_of entry.now)) }
     ensures partly { OnErr result (GrewPartly (O.held out.old) (O.held out.new) (line_of entry.now)) }
+    ensures stood { OnOk result (O.faults out.new ≡ O.faults out.old) }
     ensures cause { OnErr result (Rose (O.faults out.old) (O.faults out.new)) }
     ensures counted { O.faults out.old ≤ O.faults out.new }
+    ensures onward { Onward (O.way out.old) (O.way out.new) }
 {
     write_all(out, &entry_line(entry))
 }

@@ -1,8 +1,9 @@
 //! A run of entries through each listener, and what a failure leaves.
 ghost use Rattle.std.specs.Prelude.{◌≡◌, ◌≤◌, OnOk, OnErr, IfErr};
 ghost use Rattle.call_io.specs.Bytes.{Grew, GrewPartly};
+ghost use Rattle.call_io.specs.Ways.{Onward};
 ghost use Rattle.trace_text.specs.EntryLine.{text_of};
-ghost use Rattle.trace_text.specs.Listener.{HasCause};
+ghost use Rattle.trace_text.specs.Listener.{DeafCause};
 
 use super::*;
 use crate::{Kept, TextOut};
@@ -14,7 +15,8 @@ use std::test::Fail;
 fn hear_all<H: Listener>(alloc: Global, entries: &[Entry], to: &mut H) -> Result<(), Deaf>
     ensures ok { OnOk result (H.grew to.old to.new entries.now) }
     ensures err { OnErr result (H.partly to.old to.new entries.now) }
-    ensures cause { IfErr result (λ e. HasCause e (H.faults to.old) (H.faults to.new)) }
+    ensures stood { OnOk result (H.faults to.new ≡ H.faults to.old) }
+    ensures cause { IfErr result (λ e. DeafCause e (H.faults to.old) (H.faults to.new)) }
     ensures counted { H.faults to.old ≤ H.faults to.new }
 {
     for entry in entries {
@@ -27,8 +29,10 @@ fn hear_all<H: Listener>(alloc: Global, entries: &[Entry], to: &mut H) -> Result
 fn write_lines<O: Sink>(alloc: Global, entries: &[Entry], out: &mut O) -> Result<(), Deaf>
     ensures ok { OnOk result (Grew (O.held out.old) (O.held out.new) (text_of entries.now)) }
     ensures partly { OnErr result (GrewPartly (O.held out.old) (O.held out.new) (text_of entries.now)) }
-    ensures cause { IfErr result (λ e. HasCause e (O.faults out.old) (O.faults out.new)) }
+    ensures stood { OnOk result (O.faults out.new ≡ O.faults out.old) }
+    ensures cause { IfErr result (λ e. DeafCause e (O.faults out.old) (O.faults out.new)) }
     ensures counted { O.faults out.old ≤ O.faults out.new }
+    ensures onward { Onward (O.way out.old) (O.way out.new) }
 {
     let mut to = TextOut::over(out);
     hear_all(alloc, entries, &mut to)

@@ -1,7 +1,7 @@
-use Rattle.std.proofs.Common.{◌≡◌, ◌<◌, length, arith, sym}
+use Rattle.std.proofs.Common.{◌≡◌, ◌<◌, ◌∙◌, length, sym}
 use Rattle.std.proofs.lemmas.Result.{err_from_is_err_and}
 use Rattle.std.proofs.lemmas.Bool.{eqb-true}
-use Rattle.trace_text.proofs.GatherLemmas.{Gathering-more, Gathering-run, GathersLine-end, GathersLine-newline, GathersLine-full, GathersLine-fault, below_full}
+use Rattle.trace_text.proofs.GatherLemmas.{Gathering-more, Gathering-run, GathersLine-end, GathersLine-newline, GathersLine-full, GathersLine-fault, below_full, newline_after_run, newline_after_byte, run_is_some}
 use Rattle.trace_text.proofs.gather.gather.Goals as goal
 
 pub returns-in_err-byte-clause-line : goal.returns-in_err-byte-clause-line
@@ -25,5 +25,21 @@ returns-then-is_full-clause-line g c =
 pub loop-byte-preserved : goal.loop-byte-preserved
 loop-byte-preserved g c = let room : length c.put_run.new.text.items < 512 = below_full _ c.if-is_full.ensures.value c.if-is_full.ensures.fits in (
   rw c.push.ensures.items (Gathering-more _ _ _ _ _ _ _ _ (Gathering-run _ _ _ _ _ _ _ _ c.loop-byte.invariant.0 c.put_run.ensures.run c.put_run.ensures.text c.put_run.ensures.short) (rw c.in-Some.is at c.in_ok-byte.ensures.next) c.if-byte-eq10.false room),
-  omega arith,
+  c.in_ok-byte.ensures.stood ∙ c.loop-byte.invariant.1,
+  λ some. let now = c.loop-byte.invariant.2 some in (
+    newline_after_byte _ _ _ _ _ (rw c.in-Some.is at c.in_ok-byte.ensures.next) c.if-byte-eq10.false (newline_after_run _ _ _ c.put_run.ensures.run now.0),
+    c.in_ok-byte.ensures.at_hand (run_is_some _ _ _ c.put_run.ensures.run now.0) ∙ now.1,
+  ),
 )
+
+pub returns-in_err-byte-clause-at_hand : goal.returns-in_err-byte-clause-at_hand
+returns-in_err-byte-clause-at_hand g c = λ some. let now = c.loop-byte.invariant.2 some in c.in_err-byte.ensures.at_hand (run_is_some _ _ _ c.put_run.ensures.run now.0) ∙ now.1
+
+pub returns-in_default-clause-at_hand : goal.returns-in_default-clause-at_hand
+returns-in_default-clause-at_hand g c = λ some. let now = c.loop-byte.invariant.2 some in c.in_ok-byte.ensures.at_hand (run_is_some _ _ _ c.put_run.ensures.run now.0) ∙ now.1
+
+pub returns-then-byte-eq10-clause-at_hand : goal.returns-then-byte-eq10-clause-at_hand
+returns-then-byte-eq10-clause-at_hand g c = λ some. let now = c.loop-byte.invariant.2 some in c.in_ok-byte.ensures.at_hand (run_is_some _ _ _ c.put_run.ensures.run now.0) ∙ now.1
+
+pub returns-then-is_full-clause-at_hand : goal.returns-then-is_full-clause-at_hand
+returns-then-is_full-clause-at_hand g c = λ some. let now = c.loop-byte.invariant.2 some in c.in_ok-byte.ensures.at_hand (run_is_some _ _ _ c.put_run.ensures.run now.0) ∙ now.1

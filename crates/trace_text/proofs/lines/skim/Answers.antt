@@ -1,10 +1,10 @@
-use Rattle.std.proofs.Common.{sym, arith}
+use Rattle.std.proofs.Common.{sym, refl, ◌∙◌}
 use Rattle.std.proofs.lemmas.Result.{err_from_is_err_and}
-use Rattle.trace_text.proofs.SkimLemmas.{Skimmed-none, Skimmed-more, ReadsLine-found, ReadsLine-bad, ReadsLine-end, ReadsLine-fault, Cuts-says, Cuts-passed, CutsBad-refused, GathersLine-none}
+use Rattle.trace_text.proofs.SkimLemmas.{Skimmed-none, Skimmed-more, ReadsLine-found, ReadsLine-bad, ReadsLine-end, ReadsLine-fault, Cuts-says, Cuts-passed, CutsBad-refused, GathersLine-none, passed_none, newline_too, begins_still}
 use Rattle.trace_text.proofs.lines.skim.Goals as goal
 
 pub loop-ending-init : goal.loop-ending-init
-loop-ending-init g c = (Skimmed-none _ _ _ _ c.requires.done c.requires.few, omega arith)
+loop-ending-init g c = (Skimmed-none _ _ _ _ c.requires.done c.requires.few, refl, λ _. (refl, refl))
 
 pub returns-in_err-ending-clause-reads : goal.returns-in_err-ending-clause-reads
 returns-in_err-ending-clause-reads g c =
@@ -31,5 +31,20 @@ returns-in-Refused-clause-reads g c =
 pub loop-ending-preserved : goal.loop-ending-preserved
 loop-ending-preserved g c =
     let line = c.in_ok-ending.ensures.line in
-    let cut = Cuts-passed _ _ _ _ _ _ line (sym (rw c.as_slice.ensures.value at c.in-PassedOver.ensures)) in
-    (Skimmed-more _ _ _ _ _ _ _ _ c.loop-ending.invariant.0 line.draws line.done cut.0 cut.1, omega arith)
+    let cut = Cuts-passed _ _ _ _ _ _ line (sym (rw c.as_slice.ensures.value at c.in-PassedOver.ensures)) in (
+      Skimmed-more _ _ _ _ _ _ _ _ c.loop-ending.invariant.0 line.draws line.done cut.0 cut.1,
+      c.in_ok-ending.ensures.stood ∙ c.loop-ending.invariant.1,
+      λ begins. absurd (passed_none _ _ _ _ _ _ line (sym (rw c.as_slice.ensures.value at c.in-PassedOver.ensures)) (begins_still _ _ (c.loop-ending.invariant.2 begins).0 begins)),
+    )
+
+pub returns-in_err-ending-clause-at_hand : goal.returns-in_err-ending-clause-at_hand
+returns-in_err-ending-clause-at_hand g c = λ begins. let first = c.loop-ending.invariant.2 begins in c.in_err-ending.ensures.at_hand (newline_too c.loop-ending.bytes.pending (begins_still _ _ first.0 begins)) ∙ first.1
+
+pub returns-in-NoLine-clause-at_hand : goal.returns-in-NoLine-clause-at_hand
+returns-in-NoLine-clause-at_hand g c = λ begins. let first = c.loop-ending.invariant.2 begins in c.in_ok-ending.ensures.at_hand (newline_too c.loop-ending.bytes.pending (begins_still _ _ first.0 begins)) ∙ first.1
+
+pub returns-in-Says-clause-at_hand : goal.returns-in-Says-clause-at_hand
+returns-in-Says-clause-at_hand g c = λ begins. let first = c.loop-ending.invariant.2 begins in c.in_ok-ending.ensures.at_hand (newline_too c.loop-ending.bytes.pending (begins_still _ _ first.0 begins)) ∙ first.1
+
+pub returns-in-Refused-clause-at_hand : goal.returns-in-Refused-clause-at_hand
+returns-in-Refused-clause-at_hand g c = λ begins. let first = c.loop-ending.invariant.2 begins in c.in_ok-ending.ensures.at_hand (newline_too c.loop-ending.bytes.pending (begins_still _ _ first.0 begins)) ∙ first.1

@@ -1,7 +1,8 @@
 use Rattle.std.proofs.Common.{ℕ, List, ◌-◌, ◌++◌, ap, ◌∙◌, take, length, arith}
 use Rattle.std.specs.Prelude.{◌==◌, min}
 use Rattle.std.specs.List.{slice_range, position_or_len}
-use Rattle.trace_text.specs.Feed.{Feed, run_of}
+use Rattle.trace_text.specs.Feed.{Feed}
+use Rattle.trace_text.specs.inner.Gathering.{run_of}
 use Rattle.trace_text.proofs.FeedLemmas.{GivesRun-range, run_is}
 use Rattle.trace_text.proofs.bytes.Bytes.put_run.Goals as goal
 

@@ -1,0 +1,14 @@
+-- The words of a line behind its first one, as the readers of a script's lines take them. This project's profile.
+-- Scaffolding: cited by the contracts of private functions alone.
+use Rattle.std.specs.Prelude.{ℕ, List, [], ◌∷◌, Option, Some, None}
+use Rattle.trace_text.specs.Words.{words}
+
+-- the words behind the first one, where a space stands behind it
+abbrev pub words_behind : Option (List ℕ) → List (List ℕ)
+words_behind None = []
+words_behind (Some text) = words text
+
+-- the three words, where there are just three
+abbrev pub three_words_of : List (List ℕ) → Option (List ℕ × List ℕ × List ℕ)
+three_words_of (a ∷ b ∷ c ∷ []) = Some (a, b, c)
+three_words_of _ = None
