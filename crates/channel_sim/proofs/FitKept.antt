@@ -19,7 +19,7 @@ use Rattle.trace_text.specs.declared.entry.Entry.{Entry}
 use Rattle.trace_text.specs.declared.event.Event.{Event}
 use Rattle.trace_text.specs.declared.event.Event.TheVariants as event
 use Rattle.trace_text.specs.Safety.{Agreed}
-use Rattle.channel_sim.specs.World.{World, Traffic, Step, first_world, told, nothing, vehicle_hears, Hearing, session_hears, after_hearing, session_arrives, drawn, answer, and_then, sent_in, frame_at, is_in_call, comes_up, comes_down, deliver, step, trace_from, trace}
+use Rattle.channel_sim.specs.World.{World, Traffic, Step, first_world, told, nothing_step, vehicle_hears, Hearing, session_hears, after_hearing, session_arrives, drawn, answer, and_then, sent_in, frame_at, is_in_call, comes_up, comes_down, deliver, step, trace_from, trace}
 use Rattle.channel_sim.specs.Fit.{Fit, SomeShown, PhaseFits, CallFits, CarriesMade, ShowsMade, ConfirmsShown, IsDrawn}
 use Rattle.channel_sim.proofs.Lists.{all_append, all_into, all_at}
 use Rattle.channel_sim.proofs.Shown.{some_shown_left, confirms_left, agreed_append}
@@ -42,7 +42,7 @@ nothing_phase calls now traffic t (InCall call) h =
       shown = all_append (λ x. ShowsMade call.number call.obeyed call.made x.note) t _ h.shown (tt, tt);
     }
 
-nothing_fits : (w : World) (t : List Entry) → Fit w t → Fit (nothing w).world (t ++ (nothing w).entries)
+nothing_fits : (w : World) (t : List Entry) → Fit w t → Fit (nothing_step w).world (t ++ (nothing_step w).entries)
 nothing_fits w t fit =
     let es : List Entry = told w.tick (note.Nothing ∷ []) in
     record {
@@ -208,7 +208,7 @@ pub step_fits : (w : World) (t : List Entry) → (e : Event) → Fit w t → Fit
 step_fits w t (event.Trigger cause.Auto) fit =
     vehicle_fits w t (vehicle.trigger_row w.vehicle w.vehicle.phase) fit (trigger_good w t fit w.vehicle.phase)
 step_fits w t event.Answer fit =
-    cond_both (is_dialling w.vehicle) (answer w) (nothing w) (λ s. Fit s.world (t ++ s.entries)) (λ h. answer_fits w t fit) (λ h. nothing_fits w t fit)
+    cond_both (is_dialling w.vehicle) (answer w) (nothing_step w) (λ s. Fit s.world (t ++ s.entries)) (λ h. answer_fits w t fit) (λ h. nothing_fits w t fit)
 step_fits w t (event.Deliver is_up c k) fit = deliver_fits w t fit is_up c k
 
 -- what is traced from a world that a trace fits is agreed behind it

@@ -12,10 +12,6 @@ pub all_into : {X : Type 0} (P Q : X → Type 0) → ((x : X) → P x → Q x) �
 all_into P Q f [] a = tt
 all_into P Q f (x ∷ xs) a = (f x a.0, all_into P Q f xs a.1)
 
-pub all_of : {X : Type 0} (P : X → Type 0) → ((x : X) → P x) → (xs : List X) → AllByRecursion P xs
-all_of P f [] = tt
-all_of P f (x ∷ xs) = (f x, all_of P f xs)
-
 -- what holds of each holds of the one at a place
 pub all_at : {X : Type 0} (P : X → Type 0) → (xs : List X) (i : ℕ) → AllByRecursion P xs → IfSome (slice_get xs i) P
 all_at P [] i a = tt

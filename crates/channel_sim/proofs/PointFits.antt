@@ -12,10 +12,11 @@ use Rattle.link_frames.specs.Row.{Row, silent}
 use Rattle.ivs_machine.specs.Vehicle.{Phase, Idle, Dialling, InCall, Call}
 use Rattle.psap_machine.specs.Point as point
 use Rattle.psap_machine.specs.Point.{Point, Listening, Asking, Telling, Talking}
-use Rattle.psap_machine.specs.PointRows.{Arrives, init_row, after_showing, shows, content_row, frame_row, point_row, is_among, acknowledges}
+use Rattle.psap_machine.specs.PointRows.{Arrives, init_row, after_showing, shows, content_row, frame_row, point_row, acknowledges}
+use Rattle.link_frames.specs.Requests.{is_among}
 use Rattle.trace_text.specs.declared.entry.Entry.{Entry}
 use Rattle.trace_text.specs.Safety.{AgreedFrom}
-use Rattle.channel_sim.specs.World.{World, Traffic, told, posted, after_point, Hearing, behind, first_hears, session_hears}
+use Rattle.channel_sim.specs.World.{World, Traffic, told, posted, after_point, Hearing, with_front, first_hears, session_hears}
 use Rattle.channel_sim.specs.Fit.{Fit, SomeShown, PhaseFits, IsMade, CarriesMade, ShowsMade, ConfirmsShown, IsDrawn}
 use Rattle.channel_sim.proofs.Lists.{all_append, all_into, all_among}
 use Rattle.channel_sim.proofs.Shown.{some_shown_left, was_shown_right, confirms_left, agreed_append, told_all}
@@ -191,15 +192,15 @@ pub record GoodHearing (calls : ℕ) (p : Phase) (t : List Entry) (now : ℕ) (h
   pub items : AllByRecursion (IsPoints calls p (t ++ told now h.items)) h.items
   pub seated : AllByRecursion (Seated calls (t ++ told now h.items)) h.sessions
 
-behind_good : (calls : ℕ) (p : Phase) (t : List Entry) (now : ℕ) (s : Point) → Seated calls t s → (o : Option Hearing) → IfSome o (GoodHearing calls p t now) → IfSome (behind s o) (GoodHearing calls p t now)
-behind_good calls p t now s seated None h = tt
-behind_good calls p t now s seated (Some hearing) h =
+with_front_good : (calls : ℕ) (p : Phase) (t : List Entry) (now : ℕ) (s : Point) → Seated calls t s → (o : Option Hearing) → IfSome o (GoodHearing calls p t now) → IfSome (with_front s o) (GoodHearing calls p t now)
+with_front_good calls p t now s seated None h = tt
+with_front_good calls p t now s seated (Some hearing) h =
     record { items = h.items; seated = (still_seated calls t (told now hearing.items) s seated, h.seated) }
 
 pub hearing_good : (calls : ℕ) (p : Phase) (t : List Entry) (now c : ℕ) (f : Frame) → BringsMade p c f → (ss : List Point) → AllByRecursion (Seated calls t) ss → IfSome (session_hears c (Arrives f) ss) (GoodHearing calls p t now)
 hearing_good calls p t now c f brings [] a = tt
 hearing_good calls p t now c f brings (s ∷ ss) a =
-    cond_both (s.call == c) (Some (first_hears (point_row s (Arrives f)) ss)) (behind s (session_hears c (Arrives f) ss)) (λ o. IfSome o (GoodHearing calls p t now))
+    cond_both (s.call == c) (Some (first_hears (point_row s (Arrives f)) ss)) (with_front s (session_hears c (Arrives f) ss)) (λ o. IfSome o (GoodHearing calls p t now))
     (λ e.
     let good : Good calls p t now (frame_row s f) =
     point_good calls p t now s a.0 f (subst (λ (d : ℕ). BringsMade p d f) (sym (eqb-true s.call c e)) brings) in
@@ -207,4 +208,4 @@ hearing_good calls p t now c f brings (s ∷ ss) a =
       items = good.items;
       seated = (good.seated, all_into _ _ (λ q h. still_seated calls t (told now (frame_row s f).items) q h) ss a.1);
     })
-    (λ e. behind_good calls p t now s a.0 (session_hears c (Arrives f) ss) (hearing_good calls p t now c f brings ss a.1))
+    (λ e. with_front_good calls p t now s a.0 (session_hears c (Arrives f) ss) (hearing_good calls p t now c f brings ss a.1))

@@ -8,17 +8,14 @@ use Rattle.psap_machine.specs.declared.point.Session.{Session}
 use Rattle.psap_machine.specs.Point.{Point}
 use Rattle.psap_machine.specs.PointRows as point
 use Rattle.psap_machine.specs.SessionStands.{SessionStandsFor}
-use Rattle.channel_sim.specs.World.{Hearing, session_hears, behind, first_hears}
-use Rattle.channel_sim.specs.SessionsStand.{SessionsStandFor, FoundStandsFor, HearingStandsFor, session_of, session_place, next_place}
+use Rattle.channel_sim.specs.World.{Hearing, session_hears, with_front, first_hears}
+use Rattle.channel_sim.specs.SessionsStand.{SessionsStandFor, FoundStandsFor, session_of}
+use Rattle.channel_sim.specs.inner.Sessions.{HearingStandsFor, session_place, next_place}
 
 -- the place, this far on
 abbrev pub advanced : ℕ → Option ℕ → Option ℕ
 advanced i None = None
 advanced i (Some j) = Some (j + i)
-
-pub advanced-zero : (o : Option ℕ) → advanced 0 o ≡ o
-advanced-zero None = refl
-advanced-zero (Some j) = let e : j + 0 ≡ j = omega arith in ap Some e
 
 pub advanced-next : (i : ℕ) (o : Option ℕ) → advanced i (next_place o) ≡ advanced (i + 1) o
 advanced-next i None = refl
@@ -77,17 +74,17 @@ next_place-none None e = refl
 next_place-none (Some j) e = cc
 
 -- a hearing behind one more session that stands
-pub behind_one : (items : ArrayVec Note) (x : Session) (p : Point) (ss : List Session) (ps : List Point) (h : Option Hearing) → SessionStandsFor x p → HearingStandsFor (Some items) ss ps h → HearingStandsFor (Some items) (x ∷ ss) (p ∷ ps) (behind p h)
-behind_one items x p ss ps None one heard = heard
-behind_one items x p ss ps (Some h) one heard = (heard.0, (one, heard.1))
+pub with_front_one : (items : ArrayVec Note) (x : Session) (p : Point) (ss : List Session) (ps : List Point) (h : Option Hearing) → SessionStandsFor x p → HearingStandsFor (Some items) ss ps h → HearingStandsFor (Some items) (x ∷ ss) (p ∷ ps) (with_front p h)
+with_front_one items x p ss ps None one heard = heard
+with_front_one items x p ss ps (Some h) one heard = (heard.0, (one, heard.1))
 
 -- one step of the next lemma
 no_hearing_here : (c : ℕ) (what : point.Heard) (p : Point) (ps : List Point) → (session_place c ps ≡ None → session_hears c what ps ≡ None) → (b : Bool) → (p.call == c) ≡ b → session_place c (p ∷ ps) ≡ None → session_hears c what (p ∷ ps) ≡ None
 no_hearing_here c what p ps behind_it true same none = let first = place_first c p ps same in cc
 no_hearing_here c what p ps behind_it false other none =
     let none' : session_place c ps ≡ None = next_place-none (session_place c ps) (sym (place_behind c p ps other) ∙ none) in
-    ap (λ b. if b then Some (first_hears (point.point_row p what) ps) else behind p (session_hears c what ps)) other
-    ∙ ap (behind p) (behind_it none')
+    ap (λ b. if b then Some (first_hears (point.point_row p what) ps) else with_front p (session_hears c what ps)) other
+    ∙ ap (with_front p) (behind_it none')
 
 -- where there is no place, no session hears
 pub no_hearing : (c : ℕ) (what : point.Heard) (ps : List Point) → session_place c ps ≡ None → session_hears c what ps ≡ None
@@ -108,14 +105,14 @@ hears_here c what x ss p ps i d s items stand further place does true same =
     let at : 0 ≡ i = cc in
     let did = subst (λ k. Does what (get_or (x ∷ ss) k d) s items) (sym at) does p stand.0 in
     subst (λ k. HearingStandsFor (Some items) (set (x ∷ ss) k s) (p ∷ ps) (session_hears c what (p ∷ ps))) at
-    (subst (λ b. HearingStandsFor (Some items) (s ∷ ss) (p ∷ ps) (if b then Some (first_hears (point.point_row p what) ps) else behind p (session_hears c what ps))) (sym same)
+    (subst (λ b. HearingStandsFor (Some items) (s ∷ ss) (p ∷ ps) (if b then Some (first_hears (point.point_row p what) ps) else with_front p (session_hears c what ps))) (sym same)
     (did.0, (did.1, stand.1)))
 hears_here c what x ss p ps i d s items stand further place does false other =
     let next = next_place-some (session_place c ps) i (sym (place_behind c p ps other) ∙ place) in
     let heard = further next.0 next.1 (subst (λ k. Does what (get_or (x ∷ ss) k d) s items) next.2 does) in
     subst (λ k. HearingStandsFor (Some items) (set (x ∷ ss) k s) (p ∷ ps) (session_hears c what (p ∷ ps))) (sym next.2)
-    (subst (λ b. HearingStandsFor (Some items) (x ∷ set ss next.0 s) (p ∷ ps) (if b then Some (first_hears (point.point_row p what) ps) else behind p (session_hears c what ps))) (sym other)
-    (behind_one items x p (set ss next.0 s) ps (session_hears c what ps) stand.0 heard))
+    (subst (λ b. HearingStandsFor (Some items) (x ∷ set ss next.0 s) (p ∷ ps) (if b then Some (first_hears (point.point_row p what) ps) else with_front p (session_hears c what ps))) (sym other)
+    (with_front_one items x p (set ss next.0 s) ps (session_hears c what ps) stand.0 heard))
 
 -- where one session hears, the others stay
 pub hears_at : (c : ℕ) (what : point.Heard) (ss : List Session) (ps : List Point) (i : ℕ) (d s : Session) (items : ArrayVec Note) → SessionsStandFor ss ps → session_place c ps ≡ Some i → Does what (get_or ss i d) s items → HearingStandsFor (Some items) (set ss i s) ps (session_hears c what ps)

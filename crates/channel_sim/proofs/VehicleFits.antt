@@ -9,7 +9,7 @@ use Rattle.link_frames.specs.declared.frame.Frame.{Frame}
 use Rattle.link_frames.specs.declared.frame.Frame.TheVariants as frame
 use Rattle.link_frames.specs.declared.note.Note.{Note}
 use Rattle.link_frames.specs.declared.note.Note.TheVariants as note
-use Rattle.link_frames.specs.Row.{Row, nothing, silent}
+use Rattle.link_frames.specs.Row.{Row, nothing_row, silent}
 use Rattle.ivs_machine.specs.Vehicle.{Vehicle, Phase, Idle, Dialling, InCall, Call, Stage, Initiating, Sending, Confirming, Talking, greatest, set_for, made_set}
 use Rattle.ivs_machine.specs.VehicleRows.{trigger_row, start_row, takes, ack_row, positive_row, frame_in_call, acknowledged, opens}
 use Rattle.trace_text.specs.declared.entry.Entry.{Entry}
@@ -130,7 +130,7 @@ phase_fits calls now items traffic t quiet (InCall call) h =
     call_fits calls call.number call.obeyed call.obeyed call.made call.made now items traffic t (λ r o k. k) (all_into _ _ (quiet_is_vehicles call.obeyed call.made) items quiet) h
 
 -- a row that gives the item `nothing`, or none, and leaves the vehicle as it is
-pub nothing_good : (w : World) (t : List Entry) → Fit w t → Good w t (nothing w.vehicle)
+pub nothing_good : (w : World) (t : List Entry) → Fit w t → Good w t (nothing_row w.vehicle)
 nothing_good w t fit =
     record {
       agreed = (tt, tt);

@@ -42,7 +42,8 @@ ConfirmsShown call entries (frame.App r answer) = SomeShown call r entries
 ConfirmsShown call entries _ = Unit {0}
 
 -- The sets sent and shown in the vehicle's call are those that it made, one for each request.
-pub record CallFits (calls number : ℕ) (obeyed : List ℕ) (made : List (ℕ × List ℕ)) (traffic : List Traffic) (entries : List Entry) : Type 0 where
+pub record CallFits (calls number : ℕ) (obeyed : List ℕ) (made : List (ℕ × List ℕ)) (traffic : List Traffic)
+    (entries : List Entry) : Type 0 where
   pub drawn : number ≤ calls
   pub sent : AllByRecursion (λ x. AllByRecursion (λ f. x.call ≡ number → CarriesMade obeyed made f) x.up) traffic
   pub shown : AllByRecursion (λ x. ShowsMade number obeyed made x.note) entries

@@ -3,3 +3,4 @@ pub mod SessionsStand
 pub mod SimFault
 pub mod World
 pub mod WorldStands
+pub mod inner

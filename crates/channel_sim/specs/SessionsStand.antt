@@ -1,12 +1,10 @@
--- How a list of sessions stands for the sessions of the world's definitions: one for one, in order, found by their call
--- and moved by what one of them hears. This project's profile. Cited by the functions on the sessions of a `World`.
-use Rattle.std.specs.Prelude.{◌≡◌, ℕ, ◌+◌, List, [], ◌∷◌, Option, Some, None, ◌==◌, if◌then◌else◌}
-use Rattle.arrayvec.specs.ArrayVec.{ArrayVec}
-use Rattle.link_frames.specs.declared.note.Note.{Note}
+-- How a list of sessions stands for the sessions of the world's definitions, one for one and in order, and which of
+-- them is the session of a call. This project's profile. Cited by the relation of a `World` to the world, and by
+-- `World::session`.
+use Rattle.std.specs.Prelude.{ℕ, List, [], ◌∷◌, Option, Some, None, ◌==◌, if◌then◌else◌}
 use Rattle.psap_machine.specs.declared.point.Session.{Session}
 use Rattle.psap_machine.specs.Point.{Point}
 use Rattle.psap_machine.specs.SessionStands.{SessionStandsFor}
-use Rattle.channel_sim.specs.World.{Hearing}
 
 -- these sessions stand for these, in order
 abbrev pub SessionsStandFor : List Session → List Point → Type 0
@@ -26,21 +24,3 @@ FoundStandsFor None None = Unit {0}
 FoundStandsFor None (Some p) = ⊥
 FoundStandsFor (Some s) None = ⊥
 FoundStandsFor (Some s) (Some p) = SessionStandsFor s p
-
--- the place one further on
-abbrev pub next_place : Option ℕ → Option ℕ
-next_place None = None
-next_place (Some i) = Some (i + 1)
-
--- the place of a call's session, from 0
-abbrev pub session_place : ℕ → List Point → Option ℕ
-session_place c [] = None
-session_place c (p ∷ ps) = if p.call == c then Some 0 else next_place (session_place c ps)
-
--- No session heard, and they stand for what they stood for; or one did, its items are these, and they stand for what it
--- left.
-abbrev pub HearingStandsFor : Option (ArrayVec Note) → List Session → List Point → Option Hearing → Type 0
-HearingStandsFor None ss ps None = SessionsStandFor ss ps
-HearingStandsFor None ss ps (Some h) = ⊥
-HearingStandsFor (Some items) ss ps None = ⊥
-HearingStandsFor (Some items) ss ps (Some h) = (items.items ≡ h.items) × SessionsStandFor ss h.sessions

@@ -1,6 +1,6 @@
--- Why a step of the world fails: the listener's own fault, or want of memory. A failed write comes only where the
--- listener's count of faults rose. This project's profile. Cited by `World::step` and what it calls.
-use Rattle.std.specs.Prelude.{ℕ}
+-- Why a step of the world fails: the listener's own fault, or want of memory, and what the listener's count of faults
+-- says of it. This project's profile. Cited by `World::step` and what it calls, and by the conversions into `SimFault`.
+use Rattle.std.specs.Prelude.{◌≡◌, ℕ}
 use Rattle.call_io.specs.Counts.{Rose}
 use Rattle.trace_text.specs.declared.listener.Deaf.{Deaf}
 use Rattle.trace_text.specs.declared.listener.Deaf.TheVariants as deaf
@@ -12,7 +12,7 @@ abbrev pub fault_of : Deaf → SimFault
 fault_of deaf.Write = fault.Write
 fault_of deaf.Memory = fault.Memory
 
--- A failed write comes only where the count of faults rose. Want of memory is free.
-abbrev pub HasCause : SimFault → (old new : ℕ) → Type 0
-HasCause fault.Write old new = Rose old new
-HasCause fault.Memory old new = Unit {0}
+-- A failed write comes only where the count of faults rose, and want of memory only where it stood.
+abbrev pub SimFaultCause : SimFault → (old new : ℕ) → Type 0
+SimFaultCause fault.Write old new = Rose old new
+SimFaultCause fault.Memory old new = new ≡ old

@@ -76,9 +76,9 @@ abbrev pub and_then : Step → (World → Step) → Step
 and_then first second =
     record { entries = first.entries ++ (second first.world).entries; world = (second first.world).world }
 
--- a line that applies to nothing
-abbrev pub nothing : World → Step
-nothing w = record { entries = told w.tick (note.Nothing ∷ []); world = w }
+-- a line that applies to nothing: the item `nothing`, and no change
+abbrev pub nothing_step : World → Step
+nothing_step w = record { entries = told w.tick (note.Nothing ∷ []); world = w }
 
 -- the vehicle did this: its items are told, and its frames sent
 abbrev pub after_vehicle : World → Row Vehicle → Step
@@ -104,10 +104,10 @@ pub record Hearing : Type 0 where
   pub items : List Note
   pub sessions : List Point
 
--- the same, with one more session in front
-abbrev pub behind : Point → Option Hearing → Option Hearing
-behind s None = None
-behind s (Some h) = Some (record { items = h.items; sessions = s ∷ h.sessions })
+-- what a later session does, with this one in front of all that stand behind it
+abbrev pub with_front : Point → Option Hearing → Option Hearing
+with_front s None = None
+with_front s (Some h) = Some (record { items = h.items; sessions = s ∷ h.sessions })
 
 -- the first session was the one that heard
 abbrev pub first_hears : Row Point → List Point → Hearing
@@ -117,10 +117,10 @@ first_hears row others = record { items = row.items; sessions = row.new ∷ othe
 abbrev pub session_hears : ℕ → point.Heard → List Point → Option Hearing
 session_hears c what [] = None
 session_hears c what (s ∷ ss) =
-    if s.call == c then Some (first_hears (point.point_row s what) ss) else behind s (session_hears c what ss)
+    if s.call == c then Some (first_hears (point.point_row s what) ss) else with_front s (session_hears c what ss)
 
 abbrev pub after_hearing : World → Option Hearing → Step
-after_hearing w None = nothing w
+after_hearing w None = nothing_step w
 after_hearing w (Some h) = after_point w h.items h.sessions
 
 abbrev pub point_hears : World → ℕ → point.Heard → Step
@@ -158,13 +158,13 @@ is_in_call c (Some d) = d == c
 
 -- A frame reaches its receiver while the receiver's leg of that very call is up.
 abbrev pub comes_up : World → ℕ → Option Frame → Step
-comes_up w c None = nothing w
+comes_up w c None = nothing_step w
 comes_up w c (Some frame) = point_hears w c (point.Arrives frame)
 
 abbrev pub comes_down : World → (is_leg_up : Bool) → Option Frame → Step
 comes_down w true (Some frame) = vehicle_hears w (vehicle.Arrives frame)
-comes_down w true None = nothing w
-comes_down w false frame = nothing w
+comes_down w true None = nothing_step w
+comes_down w false frame = nothing_step w
 
 abbrev pub deliver : World → (is_up : Bool) → ℕ → ℕ → Step
 deliver w true c k = comes_up w c (frame_at k (sent_in true c w.traffic))
@@ -173,7 +173,7 @@ deliver w false c k = comes_down w (is_in_call c (vehicle_call w.vehicle)) (fram
 -- what one event line does
 abbrev pub step : World → Event → Step
 step w (event.Trigger cause) = vehicle_hears w (vehicle.Trigger cause)
-step w event.Answer = if is_dialling w.vehicle then answer w else nothing w
+step w event.Answer = if is_dialling w.vehicle then answer w else nothing_step w
 step w (event.Deliver is_up c k) = deliver w is_up c k
 
 -- the entries of these events, from this world on

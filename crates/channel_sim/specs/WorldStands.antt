@@ -1,6 +1,6 @@
--- Which worlds of the definitions a `World` stands for: where they agree in the tick, the last call number and all that
--- was sent, where its vehicle stands for that world's vehicle, and its sessions, in order, for that world's sessions.
--- This project's profile. Cited by the contracts of `World`, and by what stands on it.
+-- Which worlds of the definitions a `World` stands for: where they agree in the tick, the last call number and all
+-- that was sent, where its vehicle stands for that world's vehicle, and its sessions, in order, for that world's
+-- sessions. This project's profile. Cited by the contracts of `World`, and by what stands on it.
 use Rattle.std.specs.Prelude.{◌≡◌, ℕ, List, Result, MatchResult, map}
 use Rattle.trace_text.specs.declared.entry.Entry.{Entry}
 use Rattle.ivs_machine.specs.IvsStands.{IvsStandsFor}
@@ -24,8 +24,9 @@ pub record WorldStandsFor (kept : kept_world.World) (w : World) : Type 0 where
 abbrev pub calls_drawn : kept_world.World → ℕ
 calls_drawn kept = kept.calls
 
--- What a step came to. Done, the listener grew by exactly the step's entries and the world stands for the one behind the
--- step; failed, the listener is partly of these entries.
-abbrev pub CameTo : {Fault : Type 0} → (Grew Partly : List Entry → Type 0) → Result kept_world.World Fault → Step → Type 0
+-- What a step came to. Done, the listener grew by exactly the step's entries and the world stands for the one behind
+-- the step; failed, the listener is partly of these entries.
+abbrev pub CameTo :
+    {Fault : Type 0} → (Grew Partly : List Entry → Type 0) → Result kept_world.World Fault → Step → Type 0
 CameTo Grew Partly result s =
     MatchResult result (λ kept. Grew s.entries × WorldStandsFor kept s.world) (λ _. Partly s.entries)

@@ -14,5 +14,6 @@ ghost use Rattle.channel_sim.specs.Fit.{Fit};
 pub fn acknowledged_sets_were_shown()
     ensures agreed { (known : Facts) (events : List Event) → Agreed (trace known events) }
     ensures first { (known : Facts) → Fit (first_world known) [] }
-    ensures kept { (w : World) (entries : List Entry) (e : Event) → Fit w entries → Fit (step w e).world (entries ++ (step w e).entries) }
+    ensures kept { (w : World) (entries : List Entry) (e : Event) → Fit w entries →
+        Fit (step w e).world (entries ++ (step w e).entries) }
 {}

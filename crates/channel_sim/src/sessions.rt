@@ -4,7 +4,8 @@ ghost use Rattle.std.specs.Prelude.{◌≡◌, ◌<◌, IfSome, IfOk, OnOk, leng
 ghost use Rattle.psap_machine.specs.Point.{Point};
 ghost use Rattle.psap_machine.specs.PointRows.{Arrives, arriving};
 ghost use Rattle.channel_sim.specs.World.{session_hears};
-ghost use Rattle.channel_sim.specs.SessionsStand.{SessionsStandFor, HearingStandsFor, session_place};
+ghost use Rattle.channel_sim.specs.SessionsStand.{SessionsStandFor};
+ghost use Rattle.channel_sim.specs.inner.Sessions.{HearingStandsFor, session_place};
 
 use link_frames::{Frame, Items};
 use psap_machine::{PointEvent, Session};

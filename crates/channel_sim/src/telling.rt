@@ -1,7 +1,7 @@
 //! Telling a listener what an end did.
 
-ghost use Rattle.std.specs.Prelude.{◌≤◌, OnOk, OnErr, IfErr};
-ghost use Rattle.channel_sim.specs.SimFault.{HasCause};
+ghost use Rattle.std.specs.Prelude.{◌≡◌, ◌≤◌, OnOk, OnErr, IfErr};
+ghost use Rattle.channel_sim.specs.SimFault.{SimFaultCause};
 ghost use Rattle.channel_sim.specs.World.{told};
 
 use crate::fault::SimFault;
@@ -18,7 +18,8 @@ pub(crate) fn tell<H: Listener>(
 ) -> Result<(), SimFault>
     ensures ok { OnOk result (H.grew to.old to.new (told tick items.now)) }
     ensures err { OnErr result (H.partly to.old to.new (told tick items.now)) }
-    ensures cause { IfErr result (λ e. HasCause e (H.faults to.old) (H.faults to.new)) }
+    ensures stood { OnOk result (H.faults to.new ≡ H.faults to.old) }
+    ensures cause { IfErr result (λ e. SimFaultCause e (H.faults to.old) (H.faults to.new)) }
     ensures counted { H.faults to.old ≤ H.faults to.new }
 {
     for note in items {

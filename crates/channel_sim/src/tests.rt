@@ -275,8 +275,13 @@ impl Listener for Failing {
             self.left -= 1;
             return Ok(());
         }
-        self.faults = self.faults.saturating_add(1);
-        Err(self.why)
+        match self.why {
+            Deaf::Write => {
+                self.faults = self.faults.saturating_add(1);
+                Err(Deaf::Write)
+            }
+            Deaf::Memory => Err(Deaf::Memory),
+        }
     }
 
     ghost unchanged = { λ _. tt };

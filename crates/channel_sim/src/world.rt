@@ -29,7 +29,7 @@ impl World {
     ghost use Rattle.psap_machine.specs.PointRows as point;
     ghost use Rattle.channel_sim.specs.World as model;
     ghost use Rattle.channel_sim.specs.SessionsStand.{FoundStandsFor, session_of};
-    ghost use Rattle.channel_sim.specs.SimFault.{HasCause};
+    ghost use Rattle.channel_sim.specs.SimFault.{SimFaultCause};
     ghost use Rattle.channel_sim.specs.WorldStands.{WorldStandsFor, CameTo, calls_drawn, traffic_of};
 
     /// The world before anything happened, with a vehicle that knows these facts. It takes no memory.
@@ -84,7 +84,8 @@ impl World {
         Some(&self.sessions[i])
     }
 
-    /// What one event line does: the listener hears each entry of the step, in order. After a failure the world is spent.
+    /// What one event line does: the listener hears each entry of the step, in order. After a failure the world is
+    /// spent.
     pub fn step<H: Listener>(
         self,
         alloc: Global,
@@ -94,7 +95,8 @@ impl World {
         requires { event.now ≡ Event.Answer → calls_drawn self < 4294967295 }
         ensures step { (w : model.World) → WorldStandsFor self w →
             CameTo (H.grew to.old to.new) (H.partly to.old to.new) result (model.step w event.now) }
-        ensures cause { IfErr result (λ e. HasCause e (H.faults to.old) (H.faults to.new)) }
+        ensures stood { OnOk result (H.faults to.new ≡ H.faults to.old) }
+        ensures cause { IfErr result (λ e. SimFaultCause e (H.faults to.old) (H.faults to.new)) }
         ensures counted { H.faults to.old ≤ H.faults to.new }
     {
         match event {
@@ -111,10 +113,11 @@ impl World {
     }
 
     /// Tells that a line applies to nothing.
-    fn nothing<H: Listener>(self, alloc: Global, to: &mut H) -> Result<World, SimFault>
+    fn tell_nothing<H: Listener>(self, alloc: Global, to: &mut H) -> Result<World, SimFault>
         ensures step { (w : model.World) → WorldStandsFor self w →
-            CameTo (H.grew to.old to.new) (H.partly to.old to.new) result (model.nothing w) }
-        ensures cause { IfErr result (λ e. HasCause e (H.faults to.old) (H.faults to.new)) }
+            CameTo (H.grew to.old to.new) (H.partly to.old to.new) result (model.nothing_step w) }
+        ensures stood { OnOk result (H.faults to.new ≡ H.faults to.old) }
+        ensures cause { IfErr result (λ e. SimFaultCause e (H.faults to.old) (H.faults to.new)) }
         ensures counted { H.faults to.old ≤ H.faults to.new }
     {
         tell(alloc, self.tick, &[Note::Nothing], to)?;
@@ -133,7 +136,8 @@ impl World {
             map traffic_of kept.traffic.items ≡ model.posted items.now (map traffic_of self.traffic.items)) }
         ensures grew { OnOk result (H.grew to.old to.new (model.told self.tick items.now)) }
         ensures partly { OnErr result (H.partly to.old to.new (model.told self.tick items.now)) }
-        ensures cause { IfErr result (λ e. HasCause e (H.faults to.old) (H.faults to.new)) }
+        ensures stood { OnOk result (H.faults to.new ≡ H.faults to.old) }
+        ensures cause { IfErr result (λ e. SimFaultCause e (H.faults to.old) (H.faults to.new)) }
         ensures counted { H.faults to.old ≤ H.faults to.new }
     {
         tell(alloc, self.tick, items, to)?;
@@ -149,8 +153,10 @@ impl World {
         to: &mut H,
     ) -> Result<World, SimFault>
         ensures step { (w : model.World) → WorldStandsFor self w →
-            CameTo (H.grew to.old to.new) (H.partly to.old to.new) result (model.vehicle_hears w (vehicle.Trigger cause)) }
-        ensures cause { IfErr result (λ e. HasCause e (H.faults to.old) (H.faults to.new)) }
+            CameTo (H.grew to.old to.new) (H.partly to.old to.new) result
+            (model.vehicle_hears w (vehicle.Trigger cause)) }
+        ensures stood { OnOk result (H.faults to.new ≡ H.faults to.old) }
+        ensures cause { IfErr result (λ e. SimFaultCause e (H.faults to.old) (H.faults to.new)) }
         ensures counted { H.faults to.old ≤ H.faults to.new }
     {
         let items = self.vehicle.hear(&VehicleEvent::Trigger(cause));
@@ -165,8 +171,10 @@ impl World {
         to: &mut H,
     ) -> Result<World, SimFault>
         ensures step { (w : model.World) → WorldStandsFor self w →
-            CameTo (H.grew to.old to.new) (H.partly to.old to.new) result (model.vehicle_hears w (vehicle.Answered call)) }
-        ensures cause { IfErr result (λ e. HasCause e (H.faults to.old) (H.faults to.new)) }
+            CameTo (H.grew to.old to.new) (H.partly to.old to.new) result
+            (model.vehicle_hears w (vehicle.Answered call)) }
+        ensures stood { OnOk result (H.faults to.new ≡ H.faults to.old) }
+        ensures cause { IfErr result (λ e. SimFaultCause e (H.faults to.old) (H.faults to.new)) }
         ensures counted { H.faults to.old ≤ H.faults to.new }
     {
         let items = self.vehicle.hear(&VehicleEvent::Answered(call));
@@ -181,8 +189,10 @@ impl World {
         to: &mut H,
     ) -> Result<World, SimFault>
         ensures step { (w : model.World) → WorldStandsFor self w →
-            CameTo (H.grew to.old to.new) (H.partly to.old to.new) result (model.vehicle_hears w (vehicle.Arrives frame.now)) }
-        ensures cause { IfErr result (λ e. HasCause e (H.faults to.old) (H.faults to.new)) }
+            CameTo (H.grew to.old to.new) (H.partly to.old to.new) result
+            (model.vehicle_hears w (vehicle.Arrives frame.now)) }
+        ensures stood { OnOk result (H.faults to.new ≡ H.faults to.old) }
+        ensures cause { IfErr result (λ e. SimFaultCause e (H.faults to.old) (H.faults to.new)) }
         ensures counted { H.faults to.old ≤ H.faults to.new }
     {
         let items = self.vehicle.hear(&VehicleEvent::Frame(frame.lend()));
@@ -198,13 +208,15 @@ impl World {
         to: &mut H,
     ) -> Result<World, SimFault>
         ensures step { (w : model.World) → WorldStandsFor self w →
-            CameTo (H.grew to.old to.new) (H.partly to.old to.new) result (model.point_hears w call (point.Arrives frame.now)) }
-        ensures cause { IfErr result (λ e. HasCause e (H.faults to.old) (H.faults to.new)) }
+            CameTo (H.grew to.old to.new) (H.partly to.old to.new) result
+            (model.point_hears w call (point.Arrives frame.now)) }
+        ensures stood { OnOk result (H.faults to.new ≡ H.faults to.old) }
+        ensures cause { IfErr result (λ e. SimFaultCause e (H.faults to.old) (H.faults to.new)) }
         ensures counted { H.faults to.old ≤ H.faults to.new }
     {
         match hear_session(&mut self.sessions, call, frame) {
             Some(items) => self.gives(alloc, items.as_slice(), to),
-            None => self.nothing(alloc, to),
+            None => self.tell_nothing(alloc, to),
         }
     }
 
@@ -229,7 +241,8 @@ impl World {
     ) -> Result<World, SimFault>
         ensures step { (w : model.World) → WorldStandsFor self w →
             CameTo (H.grew to.old to.new) (H.partly to.old to.new) result (model.session_arrives call w) }
-        ensures cause { IfErr result (λ e. HasCause e (H.faults to.old) (H.faults to.new)) }
+        ensures stood { OnOk result (H.faults to.new ≡ H.faults to.old) }
+        ensures cause { IfErr result (λ e. SimFaultCause e (H.faults to.old) (H.faults to.new)) }
         ensures counted { H.faults to.old ≤ H.faults to.new }
     {
         let items = admit(&mut self.sessions, call)?;
@@ -241,11 +254,12 @@ impl World {
         requires { calls_drawn self < 4294967295 }
         ensures step { (w : model.World) → WorldStandsFor self w →
             CameTo (H.grew to.old to.new) (H.partly to.old to.new) result (model.step w Event.Answer) }
-        ensures cause { IfErr result (λ e. HasCause e (H.faults to.old) (H.faults to.new)) }
+        ensures stood { OnOk result (H.faults to.new ≡ H.faults to.old) }
+        ensures cause { IfErr result (λ e. SimFaultCause e (H.faults to.old) (H.faults to.new)) }
         ensures counted { H.faults to.old ≤ H.faults to.new }
     {
         if !self.vehicle.dialling() {
-            return self.nothing(alloc, to);
+            return self.tell_nothing(alloc, to);
         }
         let drawn = self.draw(alloc)?;
         let call = drawn.calls;
@@ -263,12 +277,13 @@ impl World {
     ) -> Result<World, SimFault>
         ensures step { (w : model.World) → WorldStandsFor self w →
             CameTo (H.grew to.old to.new) (H.partly to.old to.new) result (model.deliver w true call k) }
-        ensures cause { IfErr result (λ e. HasCause e (H.faults to.old) (H.faults to.new)) }
+        ensures stood { OnOk result (H.faults to.new ≡ H.faults to.old) }
+        ensures cause { IfErr result (λ e. SimFaultCause e (H.faults to.old) (H.faults to.new)) }
         ensures counted { H.faults to.old ≤ H.faults to.new }
     {
         match find_frame(&self.traffic, true, call, k) {
             Some(frame) => self.comes_up(alloc, call, &frame, to),
-            None => self.nothing(alloc, to),
+            None => self.tell_nothing(alloc, to),
         }
     }
 
@@ -282,15 +297,16 @@ impl World {
     ) -> Result<World, SimFault>
         ensures step { (w : model.World) → WorldStandsFor self w →
             CameTo (H.grew to.old to.new) (H.partly to.old to.new) result (model.deliver w false call k) }
-        ensures cause { IfErr result (λ e. HasCause e (H.faults to.old) (H.faults to.new)) }
+        ensures stood { OnOk result (H.faults to.new ≡ H.faults to.old) }
+        ensures cause { IfErr result (λ e. SimFaultCause e (H.faults to.old) (H.faults to.new)) }
         ensures counted { H.faults to.old ≤ H.faults to.new }
     {
         if self.vehicle.call() != Some(call) {
-            return self.nothing(alloc, to);
+            return self.tell_nothing(alloc, to);
         }
         match find_frame(&self.traffic, false, call, k) {
             Some(frame) => self.comes_down(alloc, &frame, to),
-            None => self.nothing(alloc, to),
+            None => self.tell_nothing(alloc, to),
         }
     }
 }

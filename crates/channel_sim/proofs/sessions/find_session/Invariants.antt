@@ -1,6 +1,7 @@
 use Rattle.std.proofs.Common.{◌≡◌, List, drop}
 use Rattle.psap_machine.specs.Point.{Point}
-use Rattle.channel_sim.specs.SessionsStand.{SessionsStandFor, session_place}
+use Rattle.channel_sim.specs.SessionsStand.{SessionsStandFor}
+use Rattle.channel_sim.specs.inner.Sessions.{session_place}
 use Rattle.channel_sim.proofs.SessionsLemmas.{advanced}
 use Rattle.channel_sim.proofs.sessions.find_session.Given as goal
 

@@ -2,7 +2,8 @@ use Rattle.std.proofs.Common.{◌≡◌, sym, subst}
 use Rattle.psap_machine.specs.PointRows as point
 use Rattle.psap_machine.specs.SessionStands.{SessionStandsFor}
 use Rattle.channel_sim.specs.World.{session_hears}
-use Rattle.channel_sim.specs.SessionsStand.{SessionsStandFor, HearingStandsFor}
+use Rattle.channel_sim.specs.SessionsStand.{SessionsStandFor}
+use Rattle.channel_sim.specs.inner.Sessions.{HearingStandsFor}
 use Rattle.channel_sim.proofs.SessionsLemmas.{hears_at, hears_nowhere}
 use Rattle.channel_sim.proofs.sessions.hear_session.Goals as goal
 

@@ -1,4 +1,4 @@
-use Rattle.std.proofs.Common.{◌+◌, drop, subst, sym, arith}
+use Rattle.std.proofs.Common.{◌+◌, drop, subst, sym, ◌∙◌}
 use Rattle.std.proofs.lemmas.Result.{err_from_is_err_and}
 use Rattle.channel_sim.specs.World.{told}
 use Rattle.channel_sim.proofs.TellingLemmas.{told-take_more, told-around}
@@ -20,5 +20,5 @@ loop-note-preserved g c =
           subst (g.H.Listener.grew c.args.to.now c.hear.new.self)
           (sym (told-take_more c.args.tick c.args.items.now c.loop-note.note-index c.note-item.result c.loop-note-test.true c.note-item.is))
           (g.met.H.Listener.twice _ _ _ _ _ c.loop-note.invariant.grew c.in_ok-hear.ensures.ok);
-      counted = omega (arith, c.loop-note.invariant.counted, c.in_ok-hear.ensures.counted);
+      stood = c.in_ok-hear.ensures.stood ∙ c.loop-note.invariant.stood;
     }

@@ -1,11 +1,11 @@
-use Rattle.std.proofs.Common.{◌≤◌, take}
+use Rattle.std.proofs.Common.{◌≡◌, take}
 use Rattle.channel_sim.specs.World.{told}
 use Rattle.channel_sim.proofs.telling.tell.Given as goal
 
--- the listener grew by the items so far, and its count did not fall
+-- the listener grew by the items so far, and its count stood
 abbrev pub invariant-loop-note : goal.invariant-loop-note
 invariant-loop-note g l =
     record {
       grew : g.H.Listener.grew l.initial.to l.to (told l.tick (take l.note-index l.items));
-      counted : g.H.Listener.faults l.initial.to ≤ g.H.Listener.faults l.to;
+      stood : g.H.Listener.faults l.to ≡ g.H.Listener.faults l.initial.to;
     }

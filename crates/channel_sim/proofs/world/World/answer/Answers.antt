@@ -21,7 +21,7 @@ returns-in_err-answered-clause-step g c =
     let Partly = g.H.Listener.partly c.args.to.now c.answered.new.to in
     let part = subst (λ n. Partly (model.vehicle_hears (model.drawn w) (vehicle.Answered n)).entries) drew.calls (c.in_err-answered.ensures.step (model.drawn w) drew) in
     rw failed.1
-    (subst (λ b. Partly (if b then model.answer w else model.nothing w).entries) (c.if-not-dialling.ensures w.vehicle stands.vehicle)
+    (subst (λ b. Partly (if b then model.answer w else model.nothing_step w).entries) (c.if-not-dialling.ensures w.vehicle stands.vehicle)
     (g.met.H.Listener.longer _ _ _ _ part))
 
 pub returns-clause-step : goal.returns-clause-step
@@ -37,7 +37,7 @@ returns-clause-step g c =
     let arrived =
     subst (λ n. CameTo (g.H.Listener.grew c.answered.new.to c.session_arrives.new.to) (g.H.Listener.partly c.answered.new.to c.session_arrives.new.to) c.session_arrives.result (model.session_arrives n first.world))
     drew.calls (c.session_arrives.ensures.step first.world did.1) in
-    subst (λ b. CameTo (g.H.Listener.grew c.args.to.now c.session_arrives.new.to) (g.H.Listener.partly c.args.to.now c.session_arrives.new.to) c.session_arrives.result (if b then model.answer w else model.nothing w))
+    subst (λ b. CameTo (g.H.Listener.grew c.args.to.now c.session_arrives.new.to) (g.H.Listener.partly c.args.to.now c.session_arrives.new.to) c.session_arrives.result (if b then model.answer w else model.nothing_step w))
     (c.if-not-dialling.ensures w.vehicle stands.vehicle)
     (came_after g.H.Listener.grew g.H.Listener.partly law.twice law.then_partly c.args.to.now c.answered.new.to c.session_arrives.new.to c.session_arrives.result first
     (model.session_arrives (w.calls + 1)) did.0 arrived)
