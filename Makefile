@@ -1,13 +1,21 @@
-.PHONY: demo build test bench
+.PHONY: demo build examples test bench
 
-demo: build
-	crates/ecall/out/ecall run < examples/first-call.script
+PROGRAM = crates/ecall/out/ecall
+
+demo:
+	@echo 'ecall run < examples/first-call.script, built in half a minute without any proof (`make build` proves it):'
+	@cd crates/ecall && rt try -- run < ../../examples/first-call.script
 
 build:
+	rt all check --jobs 4
 	cd crates/ecall && rt run -- run < /dev/null
+
+examples: build
+	examples/check $(PROGRAM)
 
 test:
 	rt ci
+	examples/check $(PROGRAM)
 
 bench: build
-	python3 bench/run.py crates/ecall/out/ecall
+	bench/run.py $(PROGRAM)

@@ -1,6 +1,7 @@
 #!/usr/bin/env python3
-"""run.py PROGRAM: how many sets of data `PROGRAM decode` reads and describes a second, in 4 MB of address space, how many of
-them it would only decode, and what a decoder that asn1c generates from format2.asn1 makes of the same sets."""
+"""run.py PROGRAM: how many sets of data `PROGRAM decode` reads and describes a second, in 4 MB of address space; how much
+processor time that takes beside a plain program and beside a decoder that asn1c generates from format2.asn1; what decoding alone
+takes of both; and with how many calls the text is written. Parts that need a tool that isn't there are skipped in a line."""
 import glob
 import os
 import re
@@ -9,14 +10,25 @@ import shutil
 import subprocess
 import sys
 import tempfile
-import time
 
 HERE = os.path.dirname(os.path.abspath(__file__))
+PLAIN = os.path.join(HERE, "..", "..", "shared", "plain")
 COUNTS = (1_000, 120_000)
-ROUNDS = 7
-SAMPLES = 40
+MOST = COUNTS[-1]
+ROUNDS = 9
+SAMPLES = 20
 ADDRESS_SPACE = 4 * 2**20
 MOST_OCTETS = 140
+
+
+class Skipped(Exception):
+    """A part of the measuring that can't be done here, with the reason."""
+
+
+def need(*tools):
+    for tool in tools:
+        if shutil.which(tool) is None:
+            raise Skipped(f"{tool} is not installed")
 
 
 def confine():
@@ -24,108 +36,170 @@ def confine():
     resource.setrlimit(resource.RLIMIT_AS, (ADDRESS_SPACE, ADDRESS_SPACE))
 
 
-def least_time(command, path=None, preexec_fn=None):
-    """The least of some times of a command, in seconds."""
-    best = None
-    for _ in range(ROUNDS):
-        with open(path or os.devnull, "rb") as sets:
-            begin = time.perf_counter()
-            status = subprocess.call(command, stdin=sets, stdout=subprocess.DEVNULL, stderr=subprocess.DEVNULL, preexec_fn=preexec_fn)
-            took = time.perf_counter() - begin
-        if status:
-            raise OSError(f"`{' '.join(command)}` ended with status {status}")
-        best = took if best is None else min(best, took)
-    return best
+def spent(command, path, preexec_fn=None):
+    """The processor time of a command over a file in seconds, its own and the system's for it; its text is thrown away."""
+    with open(path, "rb") as sets:
+        child = subprocess.Popen(command, stdin=sets, stdout=subprocess.DEVNULL, stderr=subprocess.DEVNULL, preexec_fn=preexec_fn)
+        _, status, used = os.wait4(child.pid, 0)
+        child.returncode = os.waitstatus_to_exitcode(status)
+    if child.returncode:
+        raise OSError(f"`{' '.join(command)}` ended with status {child.returncode}")
+    return used.ru_utime + used.ru_stime
 
 
-def table(program, folder):
-    """Prints the program's rates, and returns the file of the most sets with its seconds."""
+def least(commands, path, preexec_fn=None):
+    """The least processor time of each command in some rounds, which go over all commands in turn."""
+    rounds = [[spent(command, path, preexec_fn) for command in commands] for _ in range(ROUNDS)]
+    return [min(times) for times in zip(*rounds)]
+
+
+def write_sets(folder, count, *words):
+    path = os.path.join(folder, "-".join([str(count), *words]) + ".hex")
+    with open(path, "wb") as sets:
+        subprocess.run([sys.executable, os.path.join(HERE, "sets.py"), str(count), *words], stdout=sets, check=True)
+    return path
+
+
+def rates(program, folder):
     print(f"{'sets':>8} {'input':>10} {'seconds':>9} {'sets/s':>10} {'MB/s in':>8}")
     for count in COUNTS:
-        path = os.path.join(folder, f"{count}.hex")
-        with open(path, "wb") as sets:
-            subprocess.run([sys.executable, os.path.join(HERE, "sets.py"), str(count)], stdout=sets, check=True)
+        path = write_sets(folder, count)
+        [seconds] = least([[program, "decode"]], path, confine)
         size = os.path.getsize(path)
-        seconds = least_time([program, "decode"], path, confine)
         print(f"{count:>8} {size:>10} {seconds:>9.3f} {count / seconds:>10.0f} {size / seconds / 1e6:>8.1f}")
-    return path, seconds
 
 
-def instructions(program, line):
-    """How many instructions `PROGRAM decode` needs for one line."""
-    run = ["valgrind", "--tool=callgrind", "--callgrind-out-file=/dev/null", program, "decode"]
-    said = subprocess.run(run, input=line.encode() + b"\n", capture_output=True).stderr.decode()
+def plain_program(folder):
+    """Builds the plain program, outside this repository and outside its own folder."""
+    if not os.path.isdir(PLAIN):
+        raise Skipped("its folder is not here")
+    need("cargo")
+    build = ["cargo", "build", "--release", "--quiet", "--target-dir", folder]
+    if subprocess.run(build, cwd=PLAIN, capture_output=True).returncode:
+        raise Skipped("it does not build")
+    [built] = [path for path in glob.glob(os.path.join(folder, "release", "*")) if os.path.isfile(path) and os.access(path, os.X_OK)]
+    return built
+
+
+def generated_codec(folder):
+    """Builds generated.c with what asn1c generates from the module."""
+    need("asn1c", "cc")
+    os.mkdir(folder)
+    make = ["asn1c", "-gen-PER", "-fcompound-names", "-pdu=ECallMessage", os.path.join(HERE, "format2.asn1")]
+    if subprocess.run(make, cwd=folder, capture_output=True).returncode:
+        raise Skipped("asn1c refuses the module")
+    os.remove(os.path.join(folder, "converter-sample.c"))
+    built = os.path.join(folder, "generated")
+    sources = [os.path.join(HERE, "generated.c"), *glob.glob(os.path.join(folder, "*.c"))]
+    if subprocess.run(["cc", "-O2", f"-I{folder}", "-o", built, *sources, "-lm"], capture_output=True).returncode:
+        raise Skipped("what asn1c generates does not compile")
+    return built
+
+
+def attempt(what, build, folder):
+    try:
+        return build(folder)
+    except Skipped as reason:
+        print(f"{what}: skipped, {reason}")
+        return None
+
+
+def beside(program, plain, generated, path):
+    """The processor time of whole commands that read the same lines, each with its ratio to the program's."""
+    commands = {"ecall decode": [program, "decode"]}
+    if plain:
+        commands["plain program, the same text"] = [plain, "decode"]
+    if generated:
+        commands["generated decoder, the same text"] = [generated, "text"]
+        commands["generated decoder, its own text"] = [generated, "own"]
+    text = [subprocess.run(command, stdin=open(path, "rb"), capture_output=True).stdout for command in commands.values()]
+    same = text[: len(commands) - 1] if generated else text
+    if any(other != text[0] for other in same):
+        raise OSError("the texts differ")
+    times = least(list(commands.values()), path)
+    print(f"\n{MOST} known sets, the whole command: its text is {len(text[0])} bytes")
+    for what, seconds, written in zip(commands, times, text):
+        more = "" if written == text[0] else f", {len(written)} bytes"
+        print(f"  {what:<34} {seconds:7.3f} s  {times[0] / seconds:5.2f}{more}")
+    print("  (processor time; last, the time of `ecall decode` over this one)")
+
+
+def instructions(command, text):
+    """How many instructions a command needs for this input."""
+    run = ["valgrind", "--tool=cachegrind", "--cache-sim=no", "--cachegrind-out-file=/dev/null", *command]
+    said = subprocess.run(run, input=text.encode(), capture_output=True).stderr.decode()
     count = re.search(r"refs:\s+([\d,]+)", said)
     if count is None:
-        raise OSError("valgrind counts no instructions here")
+        raise Skipped("valgrind counts no instructions here")
     return int(count.group(1).replace(",", ""))
 
 
-def decoded_alone(program, path, seconds):
-    """The share of decoding in the instructions for a set: those for a set that is refused for the octet 1 behind it, after
+def decoding(program, sets):
+    """The program's instructions for decoding one of these sets: those for a set that is refused for the octet 1 behind it, after
     all else was read, less those for one that is refused at its first octet."""
-    if shutil.which("valgrind") is None:
-        raise OSError("valgrind is not installed")
+    ours = [program, "decode"]
+    return sum(instructions(ours, f"{it}01\n") - instructions(ours, f"03{it[2:]}01\n") for it in sets) / len(sets)
+
+
+def alone(program, generated, path):
+    """Decoding without text, of both."""
+    need("valgrind")
     with open(path) as lines:
         sets = [line.strip() for line, _ in zip(lines, range(SAMPLES))]
     sets = [digits for digits in sets if len(digits) < 2 * MOST_OCTETS]
-    nothing = instructions(program, "")
-    whole = sum(instructions(program, digits) - nothing for digits in sets)
-    decoding = sum(instructions(program, digits + "01") - instructions(program, "03" + digits[2:] + "01") for digits in sets)
-    share = decoding / whole
-    count = COUNTS[-1]
-    print(f"decoded alone: {count / seconds / share:.0f} sets/s, from {100 * share:.0f} % of the instructions for a line")
+    text = "".join(f"{digits}\n" for digits in sets)
+    ours = decoding(program, sets)
+    whole = (instructions([program, "decode"], text) - instructions([program, "decode"], "")) / len(sets)
+    print(f"\nDecoding alone, instructions for a set, over {len(sets)} known sets")
+    print(f"  {'ecall decode':<34} {ours:8.0f}    of {whole:.0f} for a line with its text")
+    if generated:
+        few, many = (instructions([generated, "decode", str(rounds)], text) for rounds in (1, 11))
+        theirs = (many - few) / 10 / len(sets)
+        print(f"  {'generated decoder':<34} {theirs:8.0f}    {theirs / ours:.1f} times as many")
 
 
-def generated(folder):
-    """Builds the decoder that asn1c generates from the module, and returns its command."""
-    for needed in ("asn1c", "cc"):
-        if shutil.which(needed) is None:
-            raise OSError(f"{needed} is not installed")
-    module = os.path.join(HERE, "format2.asn1")
-    for option in ("-gen-PER", "-gen-UPER"):
-        built = subprocess.run(["asn1c", option, "-fcompound-names", "-pdu=ECallMessage", module], cwd=folder, capture_output=True)
-        if built.returncode == 0:
-            break
-    else:
-        raise OSError("asn1c refuses the module")
-    decoder = os.path.join(folder, "decoder")
-    compile_all = ["cc", "-O2", "-DPDU=ECallMessage", "-I.", "-o", decoder, *glob.glob("*.c", root_dir=folder), "-lm"]
-    if subprocess.run(compile_all, cwd=folder, capture_output=True).returncode:
-        raise OSError("what asn1c generates does not compile")
-    return decoder
+def in_memory(generated, path):
+    """The generated decoder and encoder alone, by the clock: all sets held in memory, ten times over."""
+    print(f"\n{MOST} known sets held in memory, processor time for a set")
+    for what in ("decode", "encode"):
+        took = []
+        for _ in range(3):
+            with open(path, "rb") as sets:
+                said = subprocess.run([generated, what, "10"], stdin=sets, capture_output=True, check=True).stdout
+            took.append(float(said.split()[0]))
+        print(f"  {f'generated {what}r':<34} {min(took) / 10 / MOST * 1e9:8.0f} ns")
 
 
-def compare(folder, path):
-    """The generated decoder over the same sets, one behind the other in a file: with its text, and without."""
-    try:
-        inner = os.path.join(folder, "asn1c")
-        os.mkdir(inner)
-        decoder = generated(inner)
-        binary = os.path.join(folder, "sets.uper")
-        with open(path) as lines, open(binary, "wb") as sets:
-            sets.write(b"".join(bytes.fromhex(line) for line in lines))
-        for output, what in (("-otext", "decoded and printed"), ("-onull", "decoded alone")):
-            seconds = least_time([decoder, "-iper", output, binary])
-            print(f"asn1c, {what}: {COUNTS[-1] / seconds:.0f} sets/s")
-    except OSError as reason:
-        print(f"asn1c: comparison skipped, {reason}")
+def writes(program, path):
+    need("strace")
+    with tempfile.NamedTemporaryFile("r") as told:
+        trace = ["strace", "-c", "-e", "trace=write", "-o", told.name, program, "decode"]
+        with open(path, "rb") as sets:
+            subprocess.run(trace, stdin=sets, stdout=subprocess.DEVNULL, stderr=subprocess.DEVNULL)
+        # the columns are: share, seconds, microseconds for a call, calls, errors where there are some, name
+        rows = [row.split() for row in told.read().splitlines() if row.endswith(" write")]
+    if not rows:
+        raise Skipped("strace counts no calls here")
+    print(f"\nCalls of `write` for {MOST} known sets: {rows[0][3]}")
 
 
 def main(program):
     with tempfile.TemporaryDirectory() as folder:
-        try:
-            path, seconds = table(program, folder)
-        except OSError as reason:
-            sys.exit(f"{reason}: run it on the output of bench/sets.py to see why")
-        try:
-            decoded_alone(program, path, seconds)
-        except OSError as reason:
-            print(f"decoded alone: not measured, {reason}")
-        compare(folder, path)
+        rates(program, folder)
+        known = write_sets(folder, MOST, "known")
+        plain = attempt("plain program", plain_program, os.path.join(folder, "plain"))
+        generated = attempt("generated codec", generated_codec, os.path.join(folder, "generated"))
+        beside(program, plain, generated, known)
+        for what, part in (("decoding alone", lambda _: alone(program, generated, known)), ("calls of write", lambda _: writes(program, known))):
+            attempt(what, part, folder)
+        if generated:
+            in_memory(generated, known)
 
 
 if __name__ == "__main__":
     if len(sys.argv) != 2:
         sys.exit(__doc__)
-    main(sys.argv[1])
+    try:
+        main(os.path.abspath(sys.argv[1]))
+    except OSError as reason:
+        sys.exit(f"{reason}: run it on the output of bench/sets.py to see why")

@@ -1,5 +1,6 @@
 #!/usr/bin/env python3
-"""sets.py COUNT: writes so many lines of mixed sets of data of format 2, in hexadecimal, always the same ones.
+"""sets.py COUNT [known]: writes so many lines of mixed sets of data of format 2, in hexadecimal, always the same ones. With the
+word `known`, none has an addition or a category of vehicle that came later than the module.
 
 The encoder follows docs/FORMATS.md and shares nothing with the program that it measures."""
 import random
@@ -28,14 +29,15 @@ def delta(draw):
     return bits(draw.randint(0, 1023), 10) + bits(draw.randint(0, 1023), 10)
 
 
-def set_of_data(draw):
+def set_of_data(draw, later):
     has = lambda chance: draw.random() < chance
+    came_later = lambda: has(0.05 if later else 0)
     extra, first, second, passengers = has(0.2), has(0.5), has(0.4), has(0.6)
-    more, message_more, fuel_more = has(0.1), has(0.05), has(0.05)
+    more, message_more, fuel_more = has(0.1 if later else 0), came_later(), came_later()
     text = bits(2, 8) + ("1" if message_more else "0") + ("1" if extra else "0")
     text += ("1" if more else "0") + "".join("1" if here else "0" for here in (first, second, passengers))
     text += bits(draw.randint(1, 255), 8) + bits(draw.getrandbits(3), 3)
-    text += "1" + bits(draw.randint(0, 63), 7) if has(0.05) else "0" + bits(draw.randint(0, 12), 4)
+    text += "1" + bits(draw.randint(0, 63), 7) if came_later() else "0" + bits(draw.randint(0, 12), 4)
     text += "".join(bits(ALPHABET.index(draw.choice(ALPHABET)), 6) for _ in range(17))
     stored = [has(0.3) for _ in range(7)]
     text += ("1" if fuel_more else "0") + "".join("1" if here else "0" for here in stored)
@@ -58,11 +60,11 @@ def set_of_data(draw):
     return bytes(int(text[i:i + 8], 2) for i in range(0, len(text), 8))
 
 
-def main(count):
+def main(count, later):
     draw = random.Random(112)
     for _ in range(count):
-        print(set_of_data(draw).hex())
+        print(set_of_data(draw, later).hex())
 
 
 if __name__ == "__main__":
-    main(int(sys.argv[1]))
+    main(int(sys.argv[1]), sys.argv[2:] != ["known"])

@@ -1,6 +1,5 @@
 -- How a run ends, from where it stands and what the last line's reading and writing left.
-use Rattle.std.specs.Prelude.{◌≡◌, ℕ, ◌+◌, ◌⊎◌, Bool, true, false, List, [], ◌++◌, length, Option, Some, None, Ok, Err}
-use Rattle.std.specs.Io.KnownBytes.{IsAtEnd}
+use Rattle.std.specs.Prelude.{◌≡◌, ℕ, ◌+◌, ◌≤◌, ◌⊎◌, Bool, true, false, List, [], ◌++◌, length, Option, Some, None, Ok, Err}
 use Rattle.std.proofs.Common.{sym, ◌∙◌, ap, refl, subst, append_assoc, inl, inr, arith, length-append}
 use Rattle.std.proofs.lemmas.List.{append-nil}
 use Rattle.std.proofs.lemmas.Bool.{false≢true}
@@ -15,8 +14,8 @@ use Rattle.trace_text.specs.declared.script.FactLine.{FactLine}
 use Rattle.trace_text.specs.declared.script.FactLine.TheVariants as fact
 use Rattle.trace_text.specs.declared.script.ScriptLine.TheVariants as line
 use Rattle.trace_text.specs.EntryLine.{text_of}
-use Rattle.trace_text.specs.ListenerLaws.{text_of-append}
-use Rattle.trace_text.specs.Feed.{Draws}
+use Rattle.trace_text.specs.inner.ListenerLaws.{text_of-append}
+use Rattle.trace_text.specs.Feed.{Draws, IsDone}
 use Rattle.trace_text.specs.Lines as bytes
 use Rattle.trace_text.specs.Reading.{Reading, MayFollow, first_reading, FindsLine, FindsTooMany, ReadsLine}
 use Rattle.trace_text.specs.Safety.{Agreed}
@@ -25,13 +24,16 @@ use Rattle.channel_sim.proofs.FitKept.{trace_agreed}
 use Rattle.ivs_machine.specs.declared.facts.Facts.TheVariants as facts
 use Rattle.ecall_top.specs.declared.command.Command.TheVariants as command
 use Rattle.ecall_top.specs.declared.status.Status.TheVariants as status
-use Rattle.ecall_top.specs.Outcome.{Streams, CutShort, IsSettled, Outcome}
-use Rattle.ecall_top.specs.Progress.{ReadSoFar, behind, event_of, entries_of, entries_in, world_behind}
-use Rattle.ecall_top.specs.Reply.{played, script_trace, ended, run_reply}
+use Rattle.trace_text.specs.Lines.{most_bytes}
+use Rattle.ecall_top.specs.Outcome.{Streams, CutShort, IsSettled, IsWhole, Outcome}
+use Rattle.ecall_top.specs.inner.Progress.{ReadSoFar, events_before, event_of, entries_of, entries_in, world_left}
+use Rattle.ecall_top.specs.Run.{played, script_trace, ended, run_reply}
 use Rattle.ecall_top.specs.Refusals.{refusal_line}
-use Rattle.ecall_top.specs.Standing.{Standing, IsTidy}
+use Rattle.ecall_top.specs.declared.refusal.Refused.{Refused}
+use Rattle.ecall_top.specs.declared.refusal.Refused.TheVariants as refused
+use Rattle.ecall_top.specs.inner.Standing.{Standing, IsTidy}
 use Rattle.ecall_top.proofs.ScriptRead.{read_line, read_refused, read_bad, read_end, script_from-passed, script_from-none, no_fact_judged, IsNoFact}
-use Rattle.ecall_top.proofs.Takings.{AtHand, taken_first, at_hand, too_many_follow, taken_whole, at_end, front_whole, taken_behind}
+use Rattle.ecall_top.proofs.Takings.{AtHand, taken_first, at_hand, too_many_follow, too_many_whole, taken_whole, front_within, whole_end, whole_last, front_whole, taken_behind}
 use Rattle.ecall_top.proofs.TextSoFar.{played-line, played-nothing, partly_replied}
 
 -- a run stands at its beginning
@@ -57,9 +59,9 @@ script_agreed script = by_ready script.ready
     by_ready (Some octets) = trace_agreed (facts.Ready octets) script.events
 
 -- a run was cut short, with a front of its reply written
-run_cut : (start : Streams) (left held : Option (List ℕ)) (input : List ℕ) → Took start.left left input → GrewPartly start.held held (run_reply input).text → CutShort (Some command.Run) start (record { left = left; held = held }) input
+pub run_cut : (start : Streams) (left held : Option (List ℕ)) (input : List ℕ) → Took start.left left input → GrewPartly start.held held (run_reply input).text → CutShort (Some command.Run) start (record { left = left; held = held }) input
 run_cut start left held input took wrote =
-    record { took = took; answered = input; covers = refl; reply = run_reply input; replies = refl; wrote = wrote }
+    record { took = took; reply = run_reply input; replies = refl; wrote = wrote }
 
 -- the input was read to its end
 pub ends_done : (start now : Streams) (old new : Reading) (Stands : Said → List Event → Type 0) (left : Option (List ℕ)) → Standing start now old Stands → ReadsLine old new now.left left (Ok false) → Outcome (Some command.Run) start (record { left = left; held = now.held }) status.Done
@@ -78,7 +80,7 @@ ends_done start now old new Stands left s reads =
             subst P (sym script) s.wrote;
       },
       ap (λ x. (ended (text_of (script_trace x)) x.refused).status) script,
-      at_end start now old new left s.front reads.taken s.taken reads.draws reads.finds.0.ended,
+      whole_end start now old new left s.front reads.taken s.taken reads.draws reads.limit reads.finds.0,
     )
 
 -- the reply to a script that is known
@@ -97,9 +99,10 @@ reply_partly held held' input script same grew =
 pub record Ending (start now : Streams) (old new : Reading) (Stands : Said → List Event → Type 0) (left : Option (List ℕ)) (s : Standing start now old Stands) (bad : BadLine) : Type 0 where
   pub taken : List ℕ
   pub draws : Draws old.feed new.feed now.left left taken
-  pub done : new.feed.ended ≡ true → new.feed.pending ≡ []
+  pub done : IsDone new.feed
   pub front : List ℕ
-  pub whole : s.front ++ (old.feed.pending ++ taken) ≡ front ++ new.feed.pending
+  pub split : s.front ++ (old.feed.pending ++ taken) ≡ front ++ new.feed.pending
+  pub within : length front ≤ most_bytes
   pub script : (more : List ℕ) → MayFollow new.feed more → script_of (front ++ more) ≡ record { ready = s.said.ready; events = s.events; refused = Some bad }
 
 -- a line that is refused for its length or its bytes
@@ -110,7 +113,8 @@ ending_bad start now old new Stands left s bad reads =
       draws = reads.draws;
       done = reads.done;
       front = s.front ++ reads.finds.front;
-      whole = front_whole s.front (old.feed.pending ++ reads.taken) reads.finds.front new.feed.pending reads.finds.whole;
+      split = front_whole s.front (old.feed.pending ++ reads.taken) reads.finds.front new.feed.pending reads.finds.whole;
+      within = front_within start now old new s.front reads.finds.front s.taken reads.finds.given reads.limit;
       script =
           read_bad s.front old new s.said s.events (old.feed.pending ++ reads.taken) bad s.read
           (at_hand start now old new left s.front reads.taken s.taken reads.draws) reads.finds;
@@ -124,7 +128,8 @@ ending_line start now old new Stands left s why reads judge =
       draws = reads.draws;
       done = reads.done;
       front = s.front ++ reads.finds.0.front;
-      whole = front_whole s.front (old.feed.pending ++ reads.taken) reads.finds.0.front new.feed.pending reads.finds.0.whole;
+      split = front_whole s.front (old.feed.pending ++ reads.taken) reads.finds.0.front new.feed.pending reads.finds.0.whole;
+      within = front_within start now old new s.front reads.finds.0.front s.taken reads.finds.0.given reads.limit;
       script =
           read_refused s.front old new s.said s.events (old.feed.pending ++ reads.taken) why s.read
           (at_hand start now old new left s.front reads.taken s.taken reads.draws) reads.finds.0 judge;
@@ -132,25 +137,27 @@ ending_line start now old new Stands left s why reads judge =
 
 -- behind the end of the input nothing is pending
 pending_follows : (start now : Streams) (old new : Reading) (Stands : Said → List Event → Type 0) (left : Option (List ℕ)) (s : Standing start now old Stands) (bad : BadLine) → (r : Ending start now old new Stands left s bad) → script_of (s.front ++ (old.feed.pending ++ r.taken)) ≡ record { ready = s.said.ready; events = s.events; refused = Some bad }
-pending_follows start now old new Stands left s bad r =
-    ap script_of r.whole ∙ r.script new.feed.pending (λ e. r.done e)
+pending_follows start now old new Stands left s bad r = ap script_of r.split ∙ r.script new.feed.pending (λ e. r.done e)
 
 -- what comes behind a refused line can't change the reply, or it ended with the input
-settled : (start now : Streams) (old new : Reading) (Stands : Said → List Event → Type 0) (left : Option (List ℕ)) (s : Standing start now old Stands) (bad : BadLine) → (r : Ending start now old new Stands left s bad) → (b : Bool) → new.feed.ended ≡ b → IsSettled (Some command.Run) (s.front ++ (old.feed.pending ++ r.taken)) (run_reply (s.front ++ (old.feed.pending ++ r.taken))) ⊎ IsAtEnd left
-settled start now old new Stands left s bad r true ended = inr (at_end start now old new left s.front r.taken s.taken r.draws ended)
+settled : (start now : Streams) (old new : Reading) (Stands : Said → List Event → Type 0) (left : Option (List ℕ)) (s : Standing start now old Stands) (bad : BadLine) → (r : Ending start now old new Stands left s bad) → (b : Bool) → new.feed.ended ≡ b → IsSettled (Some command.Run) (s.front ++ (old.feed.pending ++ r.taken)) (run_reply (s.front ++ (old.feed.pending ++ r.taken))) ⊎ IsWhole left (s.front ++ (old.feed.pending ++ r.taken))
+settled start now old new Stands left s bad r true ended = inr (whole_last start now old new left s.front r.front r.taken s.taken r.draws r.done r.within r.split ended)
 settled start now old new Stands left s bad r false open_ended =
     inl (
-      r.front,
-      new.feed.pending,
-      r.whole,
-      λ more.
+    record {
+      front = r.front;
+      rest = new.feed.pending;
+      split = r.split;
+      within = r.within;
+      replies = λ more.
           let goes_on : MayFollow new.feed more = λ ended. absurd (false≢true (sym open_ended ∙ ended)) in
-          ap (λ x. ended (text_of (script_trace x)) x.refused) (pending_follows start now old new Stands left s bad r ∙ sym (r.script more goes_on)),
+          ap (λ x. ended (text_of (script_trace x)) x.refused) (pending_follows start now old new Stands left s bad r ∙ sym (r.script more goes_on));
+    }
     )
 
 -- the refusal was written
-pub ends_refused : (start now : Streams) (old new : Reading) (Stands : Said → List Event → Type 0) (left held : Option (List ℕ)) (s : Standing start now old Stands) (bad : BadLine) → Ending start now old new Stands left s bad → Grew now.held held (refusal_line bad) → Outcome (Some command.Run) start (record { left = left; held = held }) status.Refused
-ends_refused start now old new Stands left held s bad r grew =
+pub ends_refused : (start now : Streams) (old new : Reading) (Stands : Said → List Event → Type 0) (left held : Option (List ℕ)) (s : Standing start now old Stands) (bad : BadLine) (why : Refused) → Ending start now old new Stands left s bad → why ≡ refused.Line bad → Grew now.held held (refusal_line why) → Outcome (Some command.Run) start (record { left = left; held = held }) (status.Refused why)
+ends_refused start now old new Stands left held s bad why r says grew =
     let input : List ℕ = s.front ++ (old.feed.pending ++ r.taken) in
     let script : script_of input ≡ record { ready = s.said.ready; events = s.events; refused = Some bad } = pending_follows start now old new Stands left s bad r in (
       input,
@@ -158,20 +165,22 @@ ends_refused start now old new Stands left held s bad r grew =
       record {
         took = taken_whole start now old new left s.front r.taken s.taken r.draws;
         replies = refl;
-        wrote = reply_wrote start.held held input _ script (Grew-append start.held now.held held _ (refusal_line bad) s.wrote grew);
+        wrote =
+            reply_wrote start.held held input _ script
+            (Grew-append start.held now.held held _ (refusal_line (refused.Line bad)) s.wrote (subst (λ (w : Refused). Grew now.held held (refusal_line w)) says grew));
       },
-      ap (λ x. (ended (text_of (script_trace x)) x.refused).status) script,
+      ap (λ x. (ended (text_of (script_trace x)) x.refused).status) script ∙ ap status.Refused (sym says),
       settled start now old new Stands left s bad r new.feed.ended refl,
     )
 
 -- the refusal could not be written whole
-pub cut_refused : (start now : Streams) (old new : Reading) (Stands : Said → List Event → Type 0) (left held : Option (List ℕ)) (s : Standing start now old Stands) (bad : BadLine) → Ending start now old new Stands left s bad → GrewPartly now.held held (refusal_line bad) → Outcome (Some command.Run) start (record { left = left; held = held }) status.WriteFault
-cut_refused start now old new Stands left held s bad r grew =
+pub cut_refused : (start now : Streams) (old new : Reading) (Stands : Said → List Event → Type 0) (left held : Option (List ℕ)) (s : Standing start now old Stands) (bad : BadLine) (why : Refused) → Ending start now old new Stands left s bad → why ≡ refused.Line bad → GrewPartly now.held held (refusal_line why) → Outcome (Some command.Run) start (record { left = left; held = held }) status.WriteFault
+cut_refused start now old new Stands left held s bad why r says grew =
     let input : List ℕ = s.front ++ (old.feed.pending ++ r.taken) in (
       input,
       run_cut start left held input (taken_whole start now old new left s.front r.taken s.taken r.draws)
           (reply_partly start.held held input _ (pending_follows start now old new Stands left s bad r)
-          (GrewPartly-after start.held now.held held _ (refusal_line bad) s.wrote grew)),
+          (GrewPartly-after start.held now.held held _ (refusal_line (refused.Line bad)) s.wrote (subst (λ (w : Refused). GrewPartly now.held held (refusal_line w)) says grew))),
     )
 
 -- what was written so far, where nothing more is
@@ -181,6 +190,15 @@ cut_here start now old new Stands left taken s draws =
     run_cut start left now.held (s.front ++ (old.feed.pending ++ taken)) (taken_whole start now old new left s.front taken s.taken draws)
     (partly_replied start.held now.held s.front (old.feed.pending ++ taken) old s.said s.events s.tidy s.read hand.follows
     (GrewPartly-whole start.held now.held _ s.wrote))
+
+-- nothing more was read or written
+pub cut_between : (start now : Streams) (old : Reading) (Stands : Said → List Event → Type 0) → Standing start now old Stands → (input : List ℕ) × CutShort (Some command.Run) start now input
+cut_between start now old Stands s = (
+  s.front ++ old.feed.pending,
+  run_cut start now.left now.held (s.front ++ old.feed.pending) s.taken.took
+      (partly_replied start.held now.held s.front old.feed.pending old s.said s.events s.tidy s.read s.taken.done
+      (GrewPartly-whole start.held now.held _ s.wrote)),
+)
 
 -- a read failed
 pub ends_unread : (start now : Streams) (old new : Reading) (Stands : Said → List Event → Type 0) (left : Option (List ℕ)) (s : Standing start now old Stands) → ReadsLine old new now.left left (Err fault.ReadFault) → Outcome (Some command.Run) start (record { left = left; held = now.held }) status.ReadFault
@@ -199,9 +217,10 @@ ends_too_long start now old new Stands left s reads =
         front = s.front ++ f.front;
         unended = f.«open»;
         rest = f.rest;
-        whole = ap (λ b. s.front ++ b) f.whole ∙ sym (append_assoc s.front f.front (f.«open» ++ f.rest));
+        split = ap (λ b. s.front ++ b) f.whole ∙ sym (append_assoc s.front f.front (f.«open» ++ f.rest));
         full = simp length-append (omega (arith, s.taken.given, f.full));
         beyond = f.beyond;
+        lines = too_many_whole start now old new left s.front reads.taken s.taken reads.draws f;
         inner = f.inner;
         short = f.short;
         unrefused = (
@@ -210,7 +229,7 @@ ends_too_long start now old new Stands left s reads =
           ap (λ x. (ended (text_of (script_trace x)) x.refused).status)
               (ap (λ b. script_of (s.front ++ b)) (sym (append-nil f.front))
               ∙ (s.read.script (f.front ++ []) (too_many_follow old new (old.feed.pending ++ reads.taken) hand f)
-              ∙ ap (behind s.events) (
+              ∙ ap (events_before s.events) (
               ap (script_from s.said (old.lines + 1)) (f.lines [])
               ∙ (script_from-passed s.said f.passed (old.lines + 1) [] f.each ∙ script_from-none s.said (old.lines + 1 + length f.passed))))),
         );
@@ -241,7 +260,7 @@ text_behind said events text tidy (line.Fact (fact.Set octets)) judge =
     ∙ sym (ap (λ t. t ++ text_of (entries_of said events (line.Fact (fact.Set octets)))) (ap text_of (ap (played said.ready) none ∙ played-nothing said.ready))
     ∙ ap text_of (no_entries said.ready))
   where
-    no_entries : (ready : Option (List ℕ)) → entries_in (world_behind ready events) (line.Fact (fact.Set octets)) ≡ []
+    no_entries : (ready : Option (List ℕ)) → entries_in (world_left ready events) (line.Fact (fact.Set octets)) ≡ []
     no_entries None = refl
     no_entries (Some o) = refl
 

@@ -1,3 +1,6 @@
+mod WholeLines
+mod Sets
+mod ReplyLaws
 mod Takings
 mod SetsGiven
 mod SetsRead
@@ -7,3 +10,4 @@ mod Endings
 mod Staged
 mod Turned
 mod Worded
+mod Handed

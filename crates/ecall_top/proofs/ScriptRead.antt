@@ -12,7 +12,7 @@ use Rattle.trace_text.specs.declared.script.ScriptLine.TheVariants as line
 use Rattle.trace_text.specs.Lines.{lines_of, line_fault, is_comment, IsPassedOver, IsLine}
 use Rattle.trace_text.specs.Reading.{Reading, MayFollow, FindsLine, FindsEnd, FindsBad}
 use Rattle.trace_text.specs.Script.{Said, Script, script_of, script_from, script_line, judged, placed, placed_line, said_after, in_front}
-use Rattle.ecall_top.specs.Progress.{behind, ReadSoFar, event_of}
+use Rattle.ecall_top.specs.inner.Progress.{events_before, ReadSoFar, event_of}
 use Rattle.ecall_top.proofs.Takings.{AtHand, front_follows}
 
 pub judged-passed : (said : Said) (text : List ℕ) → IsPassedOver text → judged said text ≡ Ok None
@@ -48,17 +48,17 @@ unfolding script_from
 script_from-bad said text number rest why h = rw (script_from, h) refl
 
 -- a line's events stand behind those before it
-behind-in_front : (events : List Event) (says : ScriptLine) (script : Script) → behind events (in_front says script) ≡ behind (events ++ event_of says) script
-behind-in_front events (line.Fact f) script = ap (λ es. behind es script) (sym (append-nil events))
-behind-in_front events (line.Event e) script =
+events_before-in_front : (events : List Event) (says : ScriptLine) (script : Script) → events_before events (in_front says script) ≡ events_before (events ++ event_of says) script
+events_before-in_front events (line.Fact f) script = ap (λ es. events_before es script) (sym (append-nil events))
+events_before-in_front events (line.Event e) script =
     ap (λ es. record script { events = es }) (sym (append_assoc events (e ∷ []) script.events))
 
 -- behind a line that is found, the script goes on with that line
-line_found : (front : List ℕ) (old new : Reading) (said : Said) (events : List Event) (bytes : List ℕ) → ReadSoFar front old said events → AtHand old new bytes → (finds : FindsLine old new bytes) → (more : List ℕ) → MayFollow new.feed more → script_of ((front ++ finds.front) ++ more) ≡ behind events (script_from said new.lines (new.text ∷ lines_of more))
+line_found : (front : List ℕ) (old new : Reading) (said : Said) (events : List Event) (bytes : List ℕ) → ReadSoFar front old said events → AtHand old new bytes → (finds : FindsLine old new bytes) → (more : List ℕ) → MayFollow new.feed more → script_of ((front ++ finds.front) ++ more) ≡ events_before events (script_from said new.lines (new.text ∷ lines_of more))
 line_found front old new said events bytes read hand finds more follows =
     ap script_of (append_assoc front finds.front more)
     ∙ (read.script (finds.front ++ more) (front_follows old new bytes finds.front more hand finds.whole follows)
-    ∙ ap (behind events) (
+    ∙ ap (events_before events) (
     ap (script_from said (old.lines + 1)) (finds.lines more follows)
     ∙ (script_from-passed said finds.passed (old.lines + 1) (new.text ∷ lines_of more) finds.each
     ∙ ap (λ n. script_from said n (new.text ∷ lines_of more)) (omega (arith, finds.last)))))
@@ -68,16 +68,16 @@ pub read_line : (front : List ℕ) (old new : Reading) (said : Said) (events : L
 read_line front old new said events bytes says read hand finds judge = record {
   script = λ more follows.
       line_found front old new said events bytes read hand finds more follows
-      ∙ (ap (behind events) (script_from-line said new.text new.lines (lines_of more) says judge)
-      ∙ (behind-in_front events says (script_from (said_after said says) (new.lines + 1) (lines_of more))
-      ∙ ap (λ n. behind (events ++ event_of says) (script_from (said_after said says) (n + 1) (lines_of more))) refl));
+      ∙ (ap (events_before events) (script_from-line said new.text new.lines (lines_of more) says judge)
+      ∙ (events_before-in_front events says (script_from (said_after said says) (new.lines + 1) (lines_of more))
+      ∙ ap (λ n. events_before (events ++ event_of says) (script_from (said_after said says) (n + 1) (lines_of more))) refl));
 }
 
 -- a line that is found and then refused ends the script, whatever follows
 pub read_refused : (front : List ℕ) (old new : Reading) (said : Said) (events : List Event) (bytes : List ℕ) (why : Reason) → ReadSoFar front old said events → AtHand old new bytes → (finds : FindsLine old new bytes) → judged said new.text ≡ Err why → (more : List ℕ) → MayFollow new.feed more → script_of ((front ++ finds.front) ++ more) ≡ record { ready = said.ready; events = events; refused = Some (record { line = new.lines; reason = why }) }
 read_refused front old new said events bytes why read hand finds judge more follows =
     line_found front old new said events bytes read hand finds more follows
-    ∙ (ap (behind events) (script_from-bad said new.text new.lines (lines_of more) why judge)
+    ∙ (ap (events_before events) (script_from-bad said new.text new.lines (lines_of more) why judge)
     ∙ ap (λ es. record { ready = said.ready; events = es; refused = Some (record { line = new.lines; reason = why }) }) (append-nil events))
 
 -- so does a line that is refused for its length or its bytes
@@ -86,7 +86,7 @@ read_bad front old new said events bytes bad read hand finds more follows =
     let found : (text : List ℕ) × (rest : List (List ℕ)) × (lines_of (finds.front ++ more) ≡ finds.passed ++ text ∷ rest) × (line_fault text ≡ Some bad.reason) = finds.lines more follows in
     ap script_of (append_assoc front finds.front more)
     ∙ (read.script (finds.front ++ more) (front_follows old new bytes finds.front more hand finds.whole follows)
-    ∙ (ap (behind events) (
+    ∙ (ap (events_before events) (
     ap (script_from said (old.lines + 1)) found.2
     ∙ (script_from-passed said finds.passed (old.lines + 1) (found.0 ∷ found.1) finds.each
     ∙ (script_from-bad said found.0 (old.lines + 1 + length finds.passed) found.1 bad.reason (judged-fault said found.0 bad.reason found.3)
@@ -97,7 +97,7 @@ read_bad front old new said events bytes bad read hand finds more follows =
 pub read_end : (front : List ℕ) (old new : Reading) (said : Said) (events : List Event) (bytes : List ℕ) → ReadSoFar front old said events → AtHand old new bytes → FindsEnd old new bytes → script_of (front ++ bytes) ≡ record { ready = said.ready; events = events; refused = None }
 read_end front old new said events bytes read hand finds =
     read.script bytes hand.follows
-    ∙ (ap (behind events) (
+    ∙ (ap (events_before events) (
     ap (script_from said (old.lines + 1)) (finds.lines ∙ sym (append-nil finds.passed))
     ∙ (script_from-passed said finds.passed (old.lines + 1) [] finds.each
     ∙ script_from-none said (old.lines + 1 + length finds.passed)))

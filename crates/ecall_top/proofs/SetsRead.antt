@@ -1,7 +1,6 @@
 -- What sets that were read say of the reply of `decode`, and how that command ends.
-use Rattle.std.specs.Prelude.{◌≡◌, ℕ, ◌+◌, ◌⊎◌, Bool, true, false, List, [], ◌∷◌, ◌++◌, length, Option, Some, None, Result, Ok, Err}
+use Rattle.std.specs.Prelude.{◌≡◌, ℕ, ◌+◌, ◌≤◌, ◌⊎◌, Bool, true, false, List, [], ◌∷◌, ◌++◌, length, Option, Some, None, Result, Ok, Err}
 use Rattle.std.specs.List.{AllByRecursion}
-use Rattle.std.specs.Io.KnownBytes.{IsAtEnd}
 use Rattle.std.proofs.Common.{sym, ◌∙◌, ap, refl, subst, append_assoc, inl, inr, arith, length-append}
 use Rattle.std.proofs.lemmas.List.{append-nil}
 use Rattle.std.proofs.lemmas.Bool.{false≢true}
@@ -11,31 +10,32 @@ use Rattle.trace_text.specs.declared.reason.Reason.{Reason}
 use Rattle.trace_text.specs.declared.reason.BadLine.{BadLine}
 use Rattle.trace_text.specs.declared.fault.LineFault.{LineFault}
 use Rattle.trace_text.specs.declared.fault.LineFault.TheVariants as fault
-use Rattle.trace_text.specs.Feed.{Draws}
-use Rattle.trace_text.specs.Lines.{lines_of, line_fault, IsPassedOver, IsLine, Numbered}
+use Rattle.trace_text.specs.Feed.{Draws, IsDone}
+use Rattle.trace_text.specs.Lines.{lines_of, line_fault, IsPassedOver, IsLine, Numbered, most_bytes}
 use Rattle.trace_text.specs.Reading.{Reading, MayFollow, first_reading, FindsLine, FindsEnd, FindsBad, FindsTooMany, ReadsLine}
-use Rattle.trace_text.specs.Words.{words}
+use Rattle.trace_text.specs.Words.{only_word_of, words}
 use Rattle.ecall_top.specs.declared.command.Command.TheVariants as command
 use Rattle.ecall_top.specs.declared.status.Status.{Status}
 use Rattle.ecall_top.specs.declared.status.Status.TheVariants as status
-use Rattle.ecall_top.specs.Decoding.{AreDecoded, IsDecoded, IsLineDecoded, judged_set, in_front_of, octets_of_words, some_octets}
-use Rattle.ecall_top.specs.Ends.{FailsWith}
-use Rattle.ecall_top.specs.Outcome.{Streams, CutShort, IsSettled, Outcome}
-use Rattle.ecall_top.specs.Refusals.{Reply, refusal_line}
-use Rattle.ecall_top.specs.SetTurns.{DecodedSoFar, SetsStanding, GivesSet, LineGives, DecodesLine, SetTurns}
-use Rattle.ecall_top.proofs.Takings.{AtHand, taken_first, at_hand, front_follows, too_many_follow, taken_whole, at_end, front_whole, taken_behind}
+use Rattle.ecall_top.specs.Decode.{AreDecoded, IsDecoded, IsLineDecoded, judged_set, octets_of_word, some_octets}
+use Rattle.ecall_top.specs.inner.Ends.{FailsWith, EndsReading, by_line, in_front}
+use Rattle.ecall_top.specs.Outcome.{Streams, CutShort, IsSettled, IsWhole, Outcome}
+use Rattle.ecall_top.specs.Refusals.{Reply, refusal_line, refusal_reply, in_front_of}
+use Rattle.ecall_top.specs.declared.refusal.Refused.{Refused}
+use Rattle.ecall_top.specs.declared.refusal.Refused.TheVariants as refused
+use Rattle.ecall_top.specs.inner.DecodeTurns.{DecodedSoFar, SetsStanding, GivesSet, IsRefusedSet, BreaksOff, in_description, in_refusal, DecodesLine, SetTurns}
+use Rattle.ecall_top.specs.inner.DecodeTurns as turns
+use Rattle.ecall_top.proofs.Takings.{AtHand, taken_first, at_hand, front_follows, too_many_follow, too_many_whole, taken_whole, front_within, whole_end, whole_last, front_whole, taken_behind}
+use Rattle.ecall_top.proofs.Sets.{decoded_some}
 
 -- the reply that says no more
 abbrev done_reply : Reply
 done_reply = record { text = []; status = status.Done }
 
-abbrev refused_reply : List ℕ → Reply
-refused_reply text = record { text = text; status = status.Refused }
-
 judged_set-passed : (text : List ℕ) → IsPassedOver text → judged_set text ≡ Ok None
 judged_set-passed text h = rw (judged_set, h.0, h.1) refl
 
-judged_set-line : (text : List ℕ) → IsLine text → judged_set text ≡ some_octets (octets_of_words (words text))
+judged_set-line : (text : List ℕ) → IsLine text → judged_set text ≡ some_octets (octets_of_word (only_word_of (words text)))
 judged_set-line text h = rw (judged_set, h.0, h.1) refl
 
 judged_set-fault : (text : List ℕ) (why : Reason) → line_fault text ≡ Some why → judged_set text ≡ Err why
@@ -62,20 +62,19 @@ line_decoded front old new text bytes read hand finds more follows r decoded =
     (passed_decoded finds.passed (old.lines + 1) (new.text ∷ lines_of more) r finds.each
     (subst (λ (n : ℕ). AreDecoded n (new.text ∷ lines_of more) r) (omega (arith, finds.last)) decoded))))
 
--- what a line gives that ends the command is its whole reply
-gives_end : (place : Result (Option (List ℕ)) Reason) (number : ℕ) (text : List ℕ) (Rest : Reply → Type 0) → LineGives place number true text → IsLineDecoded number place Rest (refused_reply text)
-gives_end place number text Rest (inl stop) =
-    subst (λ (p : Result (Option (List ℕ)) Reason). IsLineDecoded number p Rest (refused_reply text)) (sym stop.placed)
-    (inr (record { refusal = stop.refusal; stops = stop.stops; whole = ap refused_reply stop.whole }))
-gives_end place number text Rest (inr refusal) =
-    subst (λ (p : Result (Option (List ℕ)) Reason). IsLineDecoded number p Rest (refused_reply text)) (sym refusal.placed)
-    (ap refused_reply refusal.whole)
+-- why a line is refused is its whole reply
+refused_end : (place : Result (Option (List ℕ)) Reason) (number : ℕ) (why : Refused) (Rest : Reply → Type 0) → IsRefusedSet place number why → IsLineDecoded number place Rest (refusal_reply why)
+refused_end place number why Rest (turns.by_line reason placed says) =
+    subst (λ (p : Result (Option (List ℕ)) Reason). IsLineDecoded number p Rest (refusal_reply why)) (sym placed) (ap refusal_reply says)
+refused_end place number why Rest (turns.by_set octets refusal placed stops says) =
+    subst (λ (p : Result (Option (List ℕ)) Reason). IsLineDecoded number p Rest (refusal_reply why)) (sym placed)
+    (inr (record { refusal = refusal; stops = stops; says = ap refusal_reply says }))
 
 -- a set that a line gives stands in front of the rest's reply
 gives_set : (place : Result (Option (List ℕ)) Reason) (number : ℕ) (text : List ℕ) (Rest : Reply → Type 0) (r : Reply) → GivesSet place text → Rest r → IsLineDecoded number place Rest (in_front_of text r)
 gives_set place number text Rest r set replied =
     subst (λ (p : Result (Option (List ℕ)) Reason). IsLineDecoded number p Rest (in_front_of text r)) (sym set.placed)
-    (inl (record { msd = set.msd; rest = r; shown = set.shown; replied = replied; whole = ap (λ t. in_front_of t r) set.whole }))
+    (inl (record { msd = set.msd; rest = r; shown = set.shown; replied = replied; says = ap (λ t. in_front_of t r) set.says }))
 
 -- behind a line that gives a set, the description stands with the text so far
 set_behind : (front : List ℕ) (old new : Reading) (text bytes more_text : List ℕ) → DecodedSoFar front old text → AtHand old new bytes → (finds : FindsLine old new bytes) → GivesSet (judged_set new.text) more_text → DecodedSoFar (front ++ finds.front) new (text ++ more_text)
@@ -83,11 +82,6 @@ set_behind front old new text bytes more_text read hand finds set = λ more foll
     in_front_twice ((front ++ finds.front) ++ more) text more_text r
     (line_decoded front old new text bytes read hand finds more follows (in_front_of more_text r)
     (gives_set (judged_set new.text) new.lines more_text (AreDecoded (new.lines + 1) (lines_of more)) r set decoded))
-
--- the text so far is the reply to the front of the input that it is for
-front_decoded : (front : List ℕ) (reading : Reading) (text : List ℕ) → DecodedSoFar front reading text → IsDecoded (front ++ []) (in_front_of text done_reply)
-unfolding lines_of
-front_decoded front reading text read = read [] (λ ended. refl) done_reply refl
 
 -- nothing was described yet
 pub sets_first : (start : Streams) → SetsStanding start start first_reading
@@ -101,108 +95,117 @@ sets_first start =
     }
 
 -- the text so far was written, or a part of it, and more was taken
-cut_behind : (start : Streams) (left held : Option (List ℕ)) (front more : List ℕ) (reading : Reading) (text : List ℕ) → Took start.left left (front ++ more) → DecodedSoFar front reading text → GrewPartly start.held held text → CutShort (Some command.Decode) start (record { left = left; held = held }) (front ++ more)
-cut_behind start left held front more reading text took read grew =
+cut_behind : (start : Streams) (left held : Option (List ℕ)) (front more : List ℕ) (reading : Reading) (text : List ℕ) → Took start.left left (front ++ more) → DecodedSoFar front reading text → MayFollow reading.feed more → GrewPartly start.held held text → CutShort (Some command.Decode) start (record { left = left; held = held }) (front ++ more)
+cut_behind start left held front more reading text took read follows grew =
+    let rest : (r : Reply) × AreDecoded (reading.lines + 1) (lines_of more) r = decoded_some (reading.lines + 1) (lines_of more) in
     record {
       took = took;
-      answered = front ++ [];
-      covers = (more, append_assoc front [] more);
-      reply = in_front_of text done_reply;
-      replies = front_decoded front reading text read;
-      wrote = GrewPartly-longer start.held held text [] grew;
+      reply = in_front_of text rest.0;
+      replies = read more follows rest.0 rest.1;
+      wrote = GrewPartly-longer start.held held text rest.0.text grew;
     }
 
 -- A line ends the command: a front of the input, the bytes behind it, and the reply that ends there, whatever follows
 -- the front.
-record Ending (start now : Streams) (old new : Reading) (left : Option (List ℕ)) (s : SetsStanding start now old) (text : List ℕ) : Type 0 where
+record Ending (start now : Streams) (old new : Reading) (left : Option (List ℕ)) (s : SetsStanding start now old) (why : Refused) : Type 0 where
   taken : List ℕ
   draws : Draws old.feed new.feed now.left left taken
-  done : new.feed.ended ≡ true → new.feed.pending ≡ []
+  done : IsDone new.feed
   front : List ℕ
-  whole : s.front ++ (old.feed.pending ++ taken) ≡ front ++ new.feed.pending
-  replies : (more : List ℕ) → MayFollow new.feed more → IsDecoded (front ++ more) (in_front_of s.text (refused_reply text))
+  split : s.front ++ (old.feed.pending ++ taken) ≡ front ++ new.feed.pending
+  within : length front ≤ most_bytes
+  replies : (more : List ℕ) → MayFollow new.feed more → IsDecoded (front ++ more) (in_front_of s.text (refusal_reply why))
 
 -- a line that is refused for its length or its bytes
-ending_bad : (start now : Streams) (old new : Reading) (left : Option (List ℕ)) (s : SetsStanding start now old) (bad : BadLine) → ReadsLine old new now.left left (Err (fault.Bad bad)) → Ending start now old new left s (refusal_line bad)
+ending_bad : (start now : Streams) (old new : Reading) (left : Option (List ℕ)) (s : SetsStanding start now old) (bad : BadLine) → ReadsLine old new now.left left (Err (fault.Bad bad)) → Ending start now old new left s (refused.Line bad)
 ending_bad start now old new left s bad reads =
     let f : FindsBad old new (old.feed.pending ++ reads.taken) bad = reads.finds in
     let hand : AtHand old new (old.feed.pending ++ reads.taken) = at_hand start now old new left s.front reads.taken s.taken reads.draws in
+    let r : Reply = refusal_reply (refused.Line bad) in
     record {
       taken = reads.taken;
       draws = reads.draws;
       done = reads.done;
       front = s.front ++ f.front;
-      whole = front_whole s.front (old.feed.pending ++ reads.taken) f.front new.feed.pending f.whole;
+      split = front_whole s.front (old.feed.pending ++ reads.taken) f.front new.feed.pending f.whole;
+      within = front_within start now old new s.front f.front s.taken f.given reads.limit;
       replies = λ more follows.
           let found : (text : List ℕ) × (rest : List (List ℕ)) × (lines_of (f.front ++ more) ≡ f.passed ++ text ∷ rest) × (line_fault text ≡ Some bad.reason) = f.lines more follows in
-          subst (λ (b : List ℕ). IsDecoded b (in_front_of s.text (refused_reply (refusal_line bad)))) (sym (append_assoc s.front f.front more))
-          (s.read (f.front ++ more) (front_follows old new (old.feed.pending ++ reads.taken) f.front more hand f.whole follows) (refused_reply (refusal_line bad))
-          (subst (λ (ls : List (List ℕ)). AreDecoded (old.lines + 1) ls (refused_reply (refusal_line bad))) (sym found.2)
-          (passed_decoded f.passed (old.lines + 1) (found.0 ∷ found.1) (refused_reply (refusal_line bad)) f.each
+          subst (λ (b : List ℕ). IsDecoded b (in_front_of s.text r)) (sym (append_assoc s.front f.front more))
+          (s.read (f.front ++ more) (front_follows old new (old.feed.pending ++ reads.taken) f.front more hand f.whole follows) r
+          (subst (λ (ls : List (List ℕ)). AreDecoded (old.lines + 1) ls r) (sym found.2)
+          (passed_decoded f.passed (old.lines + 1) (found.0 ∷ found.1) r f.each
           (bad_decoded (old.lines + 1 + length f.passed) found.0 found.1 (omega (arith, f.number)) found.3))));
     }
   where
-    bad_decoded : (number : ℕ) (text : List ℕ) (rest : List (List ℕ)) → bad.line ≡ number → line_fault text ≡ Some bad.reason → AreDecoded number (text ∷ rest) (refused_reply (refusal_line bad))
+    bad_decoded : (number : ℕ) (text : List ℕ) (rest : List (List ℕ)) → bad.line ≡ number → line_fault text ≡ Some bad.reason → AreDecoded number (text ∷ rest) (refusal_reply (refused.Line bad))
     bad_decoded number text rest same fails =
-        subst (λ (place : Result (Option (List ℕ)) Reason). IsLineDecoded number place (AreDecoded (number + 1) rest) (refused_reply (refusal_line bad))) (sym (judged_set-fault text bad.reason fails))
-        (ap (λ n. refused_reply (refusal_line (record { line = n; reason = bad.reason }))) same)
+        subst (λ (place : Result (Option (List ℕ)) Reason). IsLineDecoded number place (AreDecoded (number + 1) rest) (refusal_reply (refused.Line bad))) (sym (judged_set-fault text bad.reason fails))
+        (ap (λ n. refusal_reply (refused.Line (record { line = n; reason = bad.reason }))) same)
 
 -- a line that is refused for what it says
-ending_line : (start now : Streams) (old new : Reading) (left : Option (List ℕ)) (s : SetsStanding start now old) (text : List ℕ) → ReadsLine old new now.left left (Ok true) → LineGives (judged_set new.text) new.lines true text → Ending start now old new left s text
-ending_line start now old new left s text reads gives =
+ending_line : (start now : Streams) (old new : Reading) (left : Option (List ℕ)) (s : SetsStanding start now old) (why : Refused) → ReadsLine old new now.left left (Ok true) → IsRefusedSet (judged_set new.text) new.lines why → Ending start now old new left s why
+ending_line start now old new left s why reads refused_is =
     record {
       taken = reads.taken;
       draws = reads.draws;
       done = reads.done;
       front = s.front ++ reads.finds.0.front;
-      whole = front_whole s.front (old.feed.pending ++ reads.taken) reads.finds.0.front new.feed.pending reads.finds.0.whole;
+      split = front_whole s.front (old.feed.pending ++ reads.taken) reads.finds.0.front new.feed.pending reads.finds.0.whole;
+      within = front_within start now old new s.front reads.finds.0.front s.taken reads.finds.0.given reads.limit;
       replies = λ more follows.
           line_decoded s.front old new s.text (old.feed.pending ++ reads.taken) s.read
-          (at_hand start now old new left s.front reads.taken s.taken reads.draws) reads.finds.0 more follows (refused_reply text)
-          (gives_end (judged_set new.text) new.lines text (AreDecoded (new.lines + 1) (lines_of more)) gives);
+          (at_hand start now old new left s.front reads.taken s.taken reads.draws) reads.finds.0 more follows (refusal_reply why)
+          (refused_end (judged_set new.text) new.lines why (AreDecoded (new.lines + 1) (lines_of more)) refused_is);
     }
 
 -- the reply to all that was taken
-ending_replies : (start now : Streams) (old new : Reading) (left : Option (List ℕ)) (s : SetsStanding start now old) (text : List ℕ) → (e : Ending start now old new left s text) → IsDecoded (s.front ++ (old.feed.pending ++ e.taken)) (in_front_of s.text (refused_reply text))
-ending_replies start now old new left s text e =
-    subst (λ (b : List ℕ). IsDecoded b (in_front_of s.text (refused_reply text))) (sym e.whole) (e.replies new.feed.pending (λ ended. e.done ended))
+ending_replies : (start now : Streams) (old new : Reading) (left : Option (List ℕ)) (s : SetsStanding start now old) (why : Refused) → (e : Ending start now old new left s why) → IsDecoded (s.front ++ (old.feed.pending ++ e.taken)) (in_front_of s.text (refusal_reply why))
+ending_replies start now old new left s why e =
+    subst (λ (b : List ℕ). IsDecoded b (in_front_of s.text (refusal_reply why))) (sym e.split) (e.replies new.feed.pending (λ ended. e.done ended))
 
 -- what comes behind a line that ends the command can't change the reply, or it ended with the input
-settled : (start now : Streams) (old new : Reading) (left : Option (List ℕ)) (s : SetsStanding start now old) (text : List ℕ) → (e : Ending start now old new left s text) → (b : Bool) → new.feed.ended ≡ b → IsSettled (Some command.Decode) (s.front ++ (old.feed.pending ++ e.taken)) (in_front_of s.text (refused_reply text)) ⊎ IsAtEnd left
-settled start now old new left s text e true ended = inr (at_end start now old new left s.front e.taken s.taken e.draws ended)
-settled start now old new left s text e false open_ended =
-    inl (e.front, new.feed.pending, e.whole, λ more. e.replies more (λ ended. absurd (false≢true (sym open_ended ∙ ended))))
+settled : (start now : Streams) (old new : Reading) (left : Option (List ℕ)) (s : SetsStanding start now old) (why : Refused) → (e : Ending start now old new left s why) → (b : Bool) → new.feed.ended ≡ b → IsSettled (Some command.Decode) (s.front ++ (old.feed.pending ++ e.taken)) (in_front_of s.text (refusal_reply why)) ⊎ IsWhole left (s.front ++ (old.feed.pending ++ e.taken))
+settled start now old new left s why e true ended = inr (whole_last start now old new left s.front e.front e.taken s.taken e.draws e.done e.within e.split ended)
+settled start now old new left s why e false open_ended =
+    inl (
+    record {
+      front = e.front;
+      rest = new.feed.pending;
+      split = e.split;
+      within = e.within;
+      replies = λ more. e.replies more (λ ended. absurd (false≢true (sym open_ended ∙ ended)));
+    }
+    )
 
--- what a line gives that ends the command was written
-ends_refused : (start now : Streams) (old new : Reading) (left held : Option (List ℕ)) (s : SetsStanding start now old) (text : List ℕ) → Ending start now old new left s text → Grew now.held held text → Outcome (Some command.Decode) start (record { left = left; held = held }) status.Refused
-ends_refused start now old new left held s text e grew = (
+-- why a line is refused was written
+ends_refused : (start now : Streams) (old new : Reading) (left held : Option (List ℕ)) (s : SetsStanding start now old) (why : Refused) → Ending start now old new left s why → Grew now.held held (refusal_line why) → Outcome (Some command.Decode) start (record { left = left; held = held }) (status.Refused why)
+ends_refused start now old new left held s why e grew = (
   s.front ++ (old.feed.pending ++ e.taken),
-  in_front_of s.text (refused_reply text),
+  in_front_of s.text (refusal_reply why),
   record {
     took = taken_whole start now old new left s.front e.taken s.taken e.draws;
-    replies = ending_replies start now old new left s text e;
-    wrote = Grew-append start.held now.held held s.text text s.wrote grew;
+    replies = ending_replies start now old new left s why e;
+    wrote = Grew-append start.held now.held held s.text (refusal_line why) s.wrote grew;
   },
   refl,
-  settled start now old new left s text e new.feed.ended refl,
+  settled start now old new left s why e new.feed.ended refl,
 )
 
 -- it could not be written whole
-cut_refused : (start now : Streams) (old new : Reading) (left held : Option (List ℕ)) (s : SetsStanding start now old) (text : List ℕ) → Ending start now old new left s text → GrewPartly now.held held text → Outcome (Some command.Decode) start (record { left = left; held = held }) status.WriteFault
-cut_refused start now old new left held s text e grew = (
+cut_refused : (start now : Streams) (old new : Reading) (left held : Option (List ℕ)) (s : SetsStanding start now old) (why : Refused) → Ending start now old new left s why → GrewPartly now.held held (refusal_line why) → Outcome (Some command.Decode) start (record { left = left; held = held }) status.WriteFault
+cut_refused start now old new left held s why e grew = (
   s.front ++ (old.feed.pending ++ e.taken),
   record {
     took = taken_whole start now old new left s.front e.taken s.taken e.draws;
-    answered = s.front ++ (old.feed.pending ++ e.taken);
-    covers = ([], append-nil (s.front ++ (old.feed.pending ++ e.taken)));
-    reply = in_front_of s.text (refused_reply text);
-    replies = ending_replies start now old new left s text e;
-    wrote = GrewPartly-after start.held now.held held s.text text s.wrote grew;
+    reply = in_front_of s.text (refusal_reply why);
+    replies = ending_replies start now old new left s why e;
+    wrote = GrewPartly-after start.held now.held held s.text (refusal_line why) s.wrote grew;
   },
 )
 
 -- the input was read to its end
-pub sets_done : (start now : Streams) (old new : Reading) (left : Option (List ℕ)) → SetsStanding start now old → ReadsLine old new now.left left (Ok false) → Outcome (Some command.Decode) start (record { left = left; held = now.held }) status.Done
+sets_done : (start now : Streams) (old new : Reading) (left : Option (List ℕ)) → SetsStanding start now old → ReadsLine old new now.left left (Ok false) → Outcome (Some command.Decode) start (record { left = left; held = now.held }) status.Done
 sets_done start now old new left s reads =
     let f : FindsEnd old new (old.feed.pending ++ reads.taken) = reads.finds.0 in
     let hand : AtHand old new (old.feed.pending ++ reads.taken) = at_hand start now old new left s.front reads.taken s.taken reads.draws in (
@@ -217,14 +220,15 @@ sets_done start now old new left s reads =
         wrote = subst (λ (t : List ℕ). Grew start.held now.held t) (sym (append-nil s.text)) s.wrote;
       },
       refl,
-      at_end start now old new left s.front reads.taken s.taken reads.draws f.ended,
+      whole_end start now old new left s.front reads.taken s.taken reads.draws reads.limit f,
     )
 
 -- what was written so far, where nothing more is
 cut_here : (start now : Streams) (old new : Reading) (left : Option (List ℕ)) (taken : List ℕ) → (s : SetsStanding start now old) → Draws old.feed new.feed now.left left taken → CutShort (Some command.Decode) start (record { left = left; held = now.held }) (s.front ++ (old.feed.pending ++ taken))
 cut_here start now old new left taken s draws =
     cut_behind start left now.held s.front (old.feed.pending ++ taken) old s.text
-    (taken_whole start now old new left s.front taken s.taken draws) s.read (GrewPartly-whole start.held now.held s.text s.wrote)
+    (taken_whole start now old new left s.front taken s.taken draws) s.read
+    (at_hand start now old new left s.front taken s.taken draws).follows (GrewPartly-whole start.held now.held s.text s.wrote)
 
 -- the input is too long
 sets_too_long : (start now : Streams) (old new : Reading) (left : Option (List ℕ)) → SetsStanding start now old → ReadsLine old new now.left left (Err fault.TooLong) → Outcome (Some command.Decode) start (record { left = left; held = now.held }) status.TooLong
@@ -238,9 +242,10 @@ sets_too_long start now old new left s reads =
         front = s.front ++ f.front;
         unended = f.«open»;
         rest = f.rest;
-        whole = ap (λ b. s.front ++ b) f.whole ∙ sym (append_assoc s.front f.front (f.«open» ++ f.rest));
+        split = ap (λ b. s.front ++ b) f.whole ∙ sym (append_assoc s.front f.front (f.«open» ++ f.rest));
         full = simp length-append (omega (arith, s.taken.given, f.full));
         beyond = f.beyond;
+        lines = too_many_whole start now old new left s.front reads.taken s.taken reads.draws f;
         inner = f.inner;
         short = f.short;
         unrefused = (
@@ -275,15 +280,15 @@ cut_described start now old new left held s text reads set grew = (
       (taken_behind start now old new left held s.front s.taken reads).took
       (set_behind s.front old new s.text (old.feed.pending ++ reads.taken) text s.read
       (at_hand start now old new left s.front reads.taken s.taken reads.draws) reads.finds.0 set)
-      (GrewPartly-after start.held now.held held s.text text s.wrote grew),
+      reads.done (GrewPartly-after start.held now.held held s.text text s.wrote grew),
 )
 
 -- a line that was read and described, or refused
-pub sets_line : (start now : Streams) (old new : Reading) (line : Numbered) (left held : Option (List ℕ)) → line ≡ record { number = new.lines; text = new.text } → ReadsLine old new now.left left (Ok true) → (answer : Option Status) → DecodesLine (some_octets (octets_of_words (words line.text))) line.number now.held held answer → SetsStanding start now old → SetTurns start (record { left = left; held = held }) old new answer
+sets_line : (start now : Streams) (old new : Reading) (line : Numbered) (left held : Option (List ℕ)) → line ≡ record { number = new.lines; text = new.text } → ReadsLine old new now.left left (Ok true) → (answer : Option Status) → DecodesLine (some_octets (octets_of_word (only_word_of (words line.text)))) line.number now.held held answer → SetsStanding start now old → SetTurns start (record { left = left; held = held }) old new answer
 sets_line start now old new line left held line_is reads answer decodes s =
     by_answer answer
     (subst (λ (place : Result (Option (List ℕ)) Reason). DecodesLine place new.lines now.held held answer) (sym (judged_set-line new.text reads.finds.0.says))
-    (subst (λ (l : Numbered). DecodesLine (some_octets (octets_of_words (words l.text))) l.number now.held held answer) line_is decodes))
+    (subst (λ (l : Numbered). DecodesLine (some_octets (octets_of_word (only_word_of (words l.text)))) l.number now.held held answer) line_is decodes))
   where
     by_answer : (answer : Option Status) → DecodesLine (judged_set new.text) new.lines now.held held answer → SetTurns start (record { left = left; held = held }) old new answer
     by_answer None d = (
@@ -291,9 +296,9 @@ sets_line start now old new line left held line_is reads answer decodes s =
       omega (arith, reads.finds.0.last),
       omega (arith, reads.few, reads.limit),
     )
-    by_answer (Some status.Refused) d = ends_refused start now old new left held s d.0 (ending_line start now old new left s d.0 reads d.1) d.2
-    by_answer (Some status.WriteFault) (true, text, gives, grew) = cut_refused start now old new left held s text (ending_line start now old new left s text reads gives) grew
-    by_answer (Some status.WriteFault) (false, text, gives, grew) = cut_described start now old new left held s text reads gives grew
+    by_answer (Some (status.Refused why)) d = ends_refused start now old new left held s why (ending_line start now old new left s why reads d.0) d.1
+    by_answer (Some status.WriteFault) (in_refusal why refused_is grew) = cut_refused start now old new left held s why (ending_line start now old new left s why reads refused_is) grew
+    by_answer (Some status.WriteFault) (in_description text gives grew) = cut_described start now old new left held s text reads gives grew
     by_answer (Some status.Done) d = absurd d
     by_answer (Some status.Usage) d = absurd d
     by_answer (Some status.Broken) d = absurd d
@@ -302,13 +307,13 @@ sets_line start now old new line left held line_is reads answer decodes s =
     by_answer (Some status.TooLong) d = absurd d
 
 -- a line that couldn't be read ends the command
-pub sets_failed : (start now : Streams) (old new : Reading) (left held : Option (List ℕ)) → (f : LineFault) → ReadsLine old new now.left left (Err f) → (answer : Status) → FailsWith f now.held held answer → SetsStanding start now old → Outcome (Some command.Decode) start (record { left = left; held = held }) answer
+sets_failed : (start now : Streams) (old new : Reading) (left held : Option (List ℕ)) → (f : LineFault) → ReadsLine old new now.left left (Err f) → (answer : Status) → FailsWith f now.held held answer → SetsStanding start now old → Outcome (Some command.Decode) start (record { left = left; held = held }) answer
 sets_failed start now old new left held (fault.Bad bad) reads answer (inl h) s =
     subst (λ (a : Status). Outcome (Some command.Decode) start (record { left = left; held = held }) a) (sym h.0)
-    (ends_refused start now old new left held s (refusal_line bad) (ending_bad start now old new left s bad reads) h.1)
+    (ends_refused start now old new left held s (refused.Line bad) (ending_bad start now old new left s bad reads) h.1)
 sets_failed start now old new left held (fault.Bad bad) reads answer (inr h) s =
     subst (λ (a : Status). Outcome (Some command.Decode) start (record { left = left; held = held }) a) (sym h.0)
-    (cut_refused start now old new left held s (refusal_line bad) (ending_bad start now old new left s bad reads) h.1)
+    (cut_refused start now old new left held s (refused.Line bad) (ending_bad start now old new left s bad reads) h.1)
 sets_failed start now old new left held fault.ReadFault reads answer fails s =
     subst (λ (h : Option (List ℕ)). Outcome (Some command.Decode) start (record { left = left; held = h }) answer) (sym fails.1)
     (subst (λ (a : Status). Outcome (Some command.Decode) start (record { left = left; held = now.held }) a) (sym fails.0)
@@ -317,3 +322,27 @@ sets_failed start now old new left held fault.TooLong reads answer fails s =
     subst (λ (h : Option (List ℕ)). Outcome (Some command.Decode) start (record { left = left; held = h }) answer) (sym fails.1)
     (subst (λ (a : Status). Outcome (Some command.Decode) start (record { left = left; held = now.held }) a) (sym fails.0)
     (sets_too_long start now old new left s reads))
+
+-- a line that wasn't read ends the command
+pub sets_unread : (start now : Streams) (old new : Reading) (left held : Option (List ℕ)) (answer : Status) → EndsReading old new now.left left now.held held answer → SetsStanding start now old → Outcome (Some command.Decode) start (record { left = left; held = held }) answer
+sets_unread start now old new left held answer (by_line f reads fails) s = sets_failed start now old new left held f reads answer fails s
+sets_unread start now old new left held answer (in_front is left_is held_is) s =
+    subst (λ (h : Option (List ℕ)). Outcome (Some command.Decode) start (record { left = left; held = h }) answer) (sym held_is)
+    (subst (λ (l : Option (List ℕ)). Outcome (Some command.Decode) start (record { left = l; held = now.held }) answer) (sym left_is)
+    (subst (λ (a : Status). Outcome (Some command.Decode) start now a) (sym is) (
+      s.front ++ old.feed.pending,
+      cut_behind start now.left now.held s.front old.feed.pending old s.text s.taken.took s.read s.taken.done
+          (GrewPartly-whole start.held now.held s.text s.wrote),
+    )))
+
+-- a line was read, with all as it was written, and then described or refused
+pub sets_found : (start now : Streams) (old new : Reading) (line : Numbered) (left between held : Option (List ℕ)) → between ≡ now.held → line ≡ record { number = new.lines; text = new.text } → ReadsLine old new now.left left (Ok true) → (answer : Option Status) → DecodesLine (some_octets (octets_of_word (only_word_of (words line.text)))) line.number between held answer → SetsStanding start now old → SetTurns start (record { left = left; held = held }) old new answer
+sets_found start now old new line left between held same line_is reads answer decodes s =
+    sets_line start now old new line left held line_is reads answer
+    (subst (λ (h : Option (List ℕ)). DecodesLine (some_octets (octets_of_word (only_word_of (words line.text)))) line.number h held answer) same decodes) s
+
+-- the end of the input was read, with all as it was written
+pub sets_ended : (start now : Streams) (old new : Reading) (left between : Option (List ℕ)) → between ≡ now.held → SetsStanding start now old → ReadsLine old new now.left left (Ok false) → Outcome (Some command.Decode) start (record { left = left; held = between }) status.Done
+sets_ended start now old new left between same s reads =
+    subst (λ (h : Option (List ℕ)). Outcome (Some command.Decode) start (record { left = left; held = h }) status.Done) (sym same)
+    (sets_done start now old new left s reads)

@@ -17,8 +17,8 @@ use Rattle.ecall_top.specs.declared.stage.Stage.{Stage}
 use Rattle.ecall_top.specs.declared.stage.Stage.TheVariants as stage
 use Rattle.ecall_top.specs.declared.stage.Halt.{Halt}
 use Rattle.ecall_top.specs.declared.stage.Halt.TheVariants as halt
-use Rattle.ecall_top.specs.Progress.{entries_in, world_behind}
-use Rattle.ecall_top.specs.Stage.{StageStandsFor, Obeys, PlaysEvent, calls_in}
+use Rattle.ecall_top.specs.inner.Progress.{entries_in, world_left}
+use Rattle.ecall_top.specs.inner.Stage.{StageStandsFor, Obeys, PlaysEvent, calls_in}
 
 -- the world behind one more event
 world_after-push : (w : model.World) → (es : List Event) (e : Event) → world_after w (es ++ e ∷ []) ≡ (step (world_after w es) e).world
@@ -36,7 +36,7 @@ pub obeys_event : (Grew Partly : List Entry → Type 0) (old : Stage) (world : W
 obeys_event Grew Partly old world said events octets e ready calls (Ok (stage.Facts r)) plays = absurd plays
 obeys_event Grew Partly old world said events octets e ready calls (Ok (stage.Playing new)) plays = (
   place_of_event said octets e ready,
-  subst (λ (r : Option (List ℕ)). Grew (entries_in (world_behind r events) (line.Event e))) (sym ready) plays.0,
+  subst (λ (r : Option (List ℕ)). Grew (entries_in (world_left r events) (line.Event e))) (sym ready) plays.0,
   (
     octets,
     ap (λ r. record { ready = r; eventful = true }) ready,
@@ -47,7 +47,7 @@ obeys_event Grew Partly old world said events octets e ready calls (Ok (stage.Pl
 obeys_event Grew Partly old world said events octets e ready calls (Err (halt.Refused why)) plays = absurd plays
 obeys_event Grew Partly old world said events octets e ready calls (Err (halt.Sim fault)) plays = (
   place_of_event said octets e ready,
-  subst (λ (r : Option (List ℕ)). Partly (entries_in (world_behind r events) (line.Event e))) (sym ready) plays,
+  subst (λ (r : Option (List ℕ)). Partly (entries_in (world_left r events) (line.Event e))) (sym ready) plays,
 )
 
 -- the first event, behind ready facts

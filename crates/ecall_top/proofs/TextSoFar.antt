@@ -8,17 +8,18 @@ use Rattle.trace_text.specs.declared.reason.BadLine.{BadLine}
 use Rattle.trace_text.specs.declared.script.ScriptLine.{ScriptLine}
 use Rattle.trace_text.specs.declared.script.ScriptLine.TheVariants as line
 use Rattle.trace_text.specs.EntryLine.{text_of}
-use Rattle.trace_text.specs.ListenerLaws.{text_of-append}
+use Rattle.trace_text.specs.inner.ListenerLaws.{text_of-append}
 use Rattle.trace_text.specs.Script.{Said, Script, script_from}
 use Rattle.channel_sim.specs.World.{World, step, first_world, trace_from, world_after}
-use Rattle.ecall_top.specs.Progress.{behind, event_of, entries_of, entries_in, world_behind, ReadSoFar}
+use Rattle.ecall_top.specs.inner.Progress.{events_before, event_of, entries_of, entries_in, world_left, ReadSoFar}
 use Rattle.trace_text.specs.Lines as bytes
 use Rattle.trace_text.specs.Reading.{Reading, MayFollow}
 use Rattle.call_io.specs.Bytes.{GrewPartly}
 use Rattle.call_io.proofs.BytesLemmas.{GrewPartly-longer}
-use Rattle.ecall_top.specs.Reply.{played, script_trace, ended, run_reply}
+use Rattle.ecall_top.specs.Run.{played, script_trace, ended, run_reply}
 use Rattle.ecall_top.specs.Refusals.{refusal_line}
-use Rattle.ecall_top.specs.Standing.{IsTidy}
+use Rattle.ecall_top.specs.declared.refusal.Refused.TheVariants as refused
+use Rattle.ecall_top.specs.inner.Standing.{IsTidy}
 use Rattle.ecall_top.proofs.ScriptRead.{ready_kept}
 
 -- events one behind the other are traced one behind the other
@@ -32,7 +33,7 @@ trace_from-append w (e ∷ es) fs =
 pub played-line : (said : Said) (events : List Event) → (says : ScriptLine) → played said.ready (events ++ event_of says) ≡ played said.ready events ++ entries_of said events says
 played-line said events says = by_ready said.ready says
   where
-    by_ready : (ready : Option (List ℕ)) → (says : ScriptLine) → played ready (events ++ event_of says) ≡ played ready events ++ entries_in (world_behind ready events) says
+    by_ready : (ready : Option (List ℕ)) → (says : ScriptLine) → played ready (events ++ event_of says) ≡ played ready events ++ entries_in (world_left ready events) says
     by_ready None says = refl
     by_ready (Some octets) (line.Fact f) =
         ap (trace_from (first_world (facts.Ready octets))) (append-nil events) ∙ sym (append-nil (trace_from (first_world (facts.Ready octets)) events))
@@ -50,7 +51,7 @@ begins_append a b c h = record { rest = h.rest ++ c; whole = sym (append_assoc a
 
 begins_ended : (a text : List ℕ) → (o : Option BadLine) → Begins a text → Begins a (ended text o).text
 begins_ended a text None h = h
-begins_ended a text (Some bad) h = begins_append a text (refusal_line bad) h
+begins_ended a text (Some bad) h = begins_append a text (refusal_line (refused.Line bad)) h
 
 pub played-nothing : (ready : Option (List ℕ)) → played ready [] ≡ []
 played-nothing None = refl
@@ -66,7 +67,7 @@ played-append (Some octets) es fs =
     }
 
 -- the text so far is a front of the text of the reply
-text_so_far : (said : Said) (events : List Event) → IsTidy said events → (texts : List (List ℕ)) (number : ℕ) → let script : Script = behind events (script_from said number texts) in Begins (text_of (played said.ready events)) (ended (text_of (script_trace script)) script.refused).text
+text_so_far : (said : Said) (events : List Event) → IsTidy said events → (texts : List (List ℕ)) (number : ℕ) → let script : Script = events_before events (script_from said number texts) in Begins (text_of (played said.ready events)) (ended (text_of (script_trace script)) script.refused).text
 text_so_far said events (inl eventful) texts number =
     let rest : Script = script_from said number texts in
     begins_ended _ _ rest.refused
@@ -74,8 +75,8 @@ text_so_far said events (inl eventful) texts number =
     (sym (ready_kept said eventful texts number)) (played-append said.ready events rest.events))
 text_so_far said events (inr none) texts number =
     record {
-      rest = (ended (text_of (script_trace (behind events (script_from said number texts)))) (script_from said number texts).refused).text;
-      whole = ap (λ t. text_of t ++ (ended (text_of (script_trace (behind events (script_from said number texts)))) (script_from said number texts).refused).text) (ap (played said.ready) none ∙ played-nothing said.ready);
+      rest = (ended (text_of (script_trace (events_before events (script_from said number texts)))) (script_from said number texts).refused).text;
+      whole = ap (λ t. text_of t ++ (ended (text_of (script_trace (events_before events (script_from said number texts)))) (script_from said number texts).refused).text) (ap (played said.ready) none ∙ played-nothing said.ready);
     }
 
 begins_partly : (old new : Option (List ℕ)) (a b : List ℕ) → Begins a b → GrewPartly old new a → GrewPartly old new b

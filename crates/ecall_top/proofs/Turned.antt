@@ -1,6 +1,8 @@
 -- What a turn of a run comes to, by how the line was read and played.
-use Rattle.std.specs.Prelude.{◌≡◌, ℕ, ◌+◌, ◌≤◌, true, List, Option, Some, Result, Ok, Err}
+use Rattle.std.specs.Prelude.{◌≡◌, ℕ, ◌+◌, ◌≤◌, true, List, [], Option, Some, None, Result, Ok, Err, false}
 use Rattle.std.proofs.Common.{sym, ap, refl, subst, arith, ◌∙◌, inl, inr}
+use Rattle.std.proofs.lemmas.List.{append-nil}
+use Rattle.call_io.specs.Bytes.{Grew}
 use Rattle.trace_text.specs.declared.event.Event.{Event}
 use Rattle.trace_text.specs.declared.reason.Reason.{Reason}
 use Rattle.trace_text.specs.declared.reason.BadLine.{BadLine}
@@ -17,17 +19,20 @@ use Rattle.ecall_top.specs.declared.status.Status.{Status}
 use Rattle.ecall_top.specs.declared.status.Status.TheVariants as status
 use Rattle.ecall_top.specs.Outcome.{Streams, Outcome}
 use Rattle.ecall_top.specs.Refusals.{refusal_line}
-use Rattle.ecall_top.specs.Stage.{StageStandsFor, Obeys, calls_in}
+use Rattle.ecall_top.specs.declared.refusal.Refused.{Refused}
+use Rattle.ecall_top.specs.declared.refusal.Refused.TheVariants as refused
+use Rattle.ecall_top.specs.inner.Stage.{StageStandsFor, Obeys, calls_in}
 use Rattle.ecall_top.specs.declared.stage.Halt.{Halt}
 use Rattle.ecall_top.specs.declared.stage.Halt.TheVariants as halt
 use Rattle.trace_text.specs.declared.text_out.TextOut.{TextOut}
-use Rattle.trace_text.specs.Listener.{TextGrew, TextGrewPartly, sink_name}
-use Rattle.ecall_top.specs.Standing.{Standing}
+use Rattle.trace_text.specs.Listener.{TextGrew, TextGrewPartly, sink, sink_name}
+use Rattle.call_io.specs.Ways.{Way, Onward}
+use Rattle.ecall_top.specs.inner.Standing.{Standing}
 use Rattle.ecall_top.specs.declared.command.Command.TheVariants as command
-use Rattle.ecall_top.specs.Ends.{Writes, FailsWith}
-use Rattle.ecall_top.specs.Turns.{Plays, Turns}
+use Rattle.ecall_top.specs.inner.Ends.{EndsWithText, FailsWith, EndsReading, by_line, in_front}
+use Rattle.ecall_top.specs.inner.RunTurns.{Plays, Turns}
 use Rattle.ecall_top.proofs.ScriptRead.{judged-line}
-use Rattle.ecall_top.proofs.Endings.{ending_bad, ending_line, ends_refused, cut_refused, ends_unread, ends_too_long, stands_behind, cut_line}
+use Rattle.ecall_top.proofs.Endings.{ends_done, ending_bad, ending_line, ends_refused, cut_refused, ends_unread, ends_too_long, stands_behind, cut_line, cut_between}
 
 -- what is read in a line is what it says
 answer_ok : (line : Numbered) (says : ScriptLine) → (r : Result ScriptLine Reason) → Ok says ≡ script_answer line r → r ≡ Ok says
@@ -50,24 +55,23 @@ plays_said line says number stands calls held held' t reads number_is plays said
     subst (λ (r : Result ScriptLine Reason). Plays (placed_line said r) line.number said events calls held held' t) (sym (answer_ok line says (script_line line.text) reads))
     (subst (λ (n : ℕ). Plays (placed said says) n said events calls held held' t) number_is (plays said events s))
 
-refused_by : (place : Result (Option ScriptLine) Reason) (number : ℕ) (said : Said) (events : List Event) (calls : ℕ) (held held' : Option (List ℕ)) (why : Reason) → place ≡ Err why → (answer : Status) → Writes held held' (refusal_line (record { line = number; reason = why })) status.Refused answer → Plays place number said events calls held held' (turn.End answer)
-refused_by place number said events calls held held' why refused answer (inl h) =
+pub refused_by : (place : Result (Option ScriptLine) Reason) (number : ℕ) (said : Said) (events : List Event) (calls : ℕ) (held held' : Option (List ℕ)) (reason : Reason) (why : Refused) → place ≡ Err reason → why ≡ refused.Line (record { line = number; reason = reason }) → (answer : Status) → EndsWithText held held' (refusal_line why) (status.Refused why) answer → Plays place number said events calls held held' (turn.End answer)
+refused_by place number said events calls held held' reason why placed says answer (inl h) =
     subst (λ (a : Status). Plays place number said events calls held held' (turn.End a)) (sym h.0)
-    (record { why = why; placed = refused; wrote = h.1 })
-refused_by place number said events calls held held' why refused answer (inr h) =
+    (record { reason = reason; placed = placed; says = says; wrote = h.1 })
+refused_by place number said events calls held held' reason why placed says answer (inr h) =
     subst (λ (a : Status). Plays place number said events calls held held' (turn.End a)) (sym h.0)
-    (inl (record { why = why; placed = refused; wrote = h.1 }))
+    (inl (why, record { reason = reason; placed = placed; says = says; wrote = h.1 }))
 
 -- what is refused was refused
-pub plays_refused : (line : Numbered) (bad : BadLine) (stands : Said → List Event → Type 0) (calls : ℕ) (held held' : Option (List ℕ)) (answer : Status) → Err bad ≡ script_answer line (script_line line.text) → Writes held held' (refusal_line bad) status.Refused answer → (said : Said) (events : List Event) → stands said events → Plays (placed_line said (script_line line.text)) line.number said events calls held held' (turn.End answer)
-plays_refused line bad stands calls held held' answer reads writes said events s =
+pub plays_refused : (line : Numbered) (bad : BadLine) (stands : Said → List Event → Type 0) (calls : ℕ) (held held' : Option (List ℕ)) (answer : Status) → Err bad ≡ script_answer line (script_line line.text) → EndsWithText held held' (refusal_line (refused.Line bad)) (status.Refused (refused.Line bad)) answer → (said : Said) (events : List Event) → stands said events → Plays (placed_line said (script_line line.text)) line.number said events calls held held' (turn.End answer)
+plays_refused line bad stands calls held held' answer reads ends said events s =
     let why : Why line (script_line line.text) bad = answer_err line bad (script_line line.text) reads in
-    refused_by (placed_line said (script_line line.text)) line.number said events calls held held' why.why
-    (ap (placed_line said) why.reads) answer
-    (subst (λ (b : BadLine). Writes held held' (refusal_line b) status.Refused answer) why.bad_is writes)
+    refused_by (placed_line said (script_line line.text)) line.number said events calls held held' why.why (refused.Line bad)
+    (ap (placed_line said) why.reads) (ap refused.Line why.bad_is) answer ends
 
 -- a line that was read and played
-pub turns_played : (start now : Streams) (old new : Reading) (stage : Stage) (line : Numbered) (left held : Option (List ℕ)) → line ≡ record { number = new.lines; text = new.text } → ReadsLine old new now.left left (Ok true) → calls_in stage ≤ old.lines → (t : Turn) → ((said : Said) (events : List Event) → StageStandsFor stage said events → Plays (placed_line said (script_line line.text)) line.number said events (calls_in stage + 1) now.held held t) → Standing start now old (StageStandsFor stage) → Turns start (record { left = left; held = held }) old new t
+turns_played : (start now : Streams) (old new : Reading) (stage : Stage) (line : Numbered) (left held : Option (List ℕ)) → line ≡ record { number = new.lines; text = new.text } → ReadsLine old new now.left left (Ok true) → calls_in stage ≤ old.lines → (t : Turn) → ((said : Said) (events : List Event) → StageStandsFor stage said events → Plays (placed_line said (script_line line.text)) line.number said events (calls_in stage + 1) now.held held t) → Standing start now old (StageStandsFor stage) → Turns start (record { left = left; held = held }) old new t
 turns_played start now old new stage line left held line_is reads few t plays s =
     by_turn t
     (subst (λ (l : Numbered). Plays (placed_line s.said (script_line l.text)) l.number s.said s.events (calls_in stage + 1) now.held held t) line_is (plays s.said s.events s.stands))
@@ -82,12 +86,12 @@ turns_played start now old new stage line left held line_is reads few t plays s 
       omega (arith, reads.finds.0.last),
       omega (arith, reads.few, reads.limit),
     )
-    by_turn (turn.End status.Refused) h =
-        ends_refused start now old new (StageStandsFor stage) left held s (record { line = new.lines; reason = h.why })
-        (ending_line start now old new (StageStandsFor stage) left s h.why reads (in_place _ h.placed)) h.wrote
+    by_turn (turn.End (status.Refused why)) h =
+        ends_refused start now old new (StageStandsFor stage) left held s (record { line = new.lines; reason = h.reason }) why
+        (ending_line start now old new (StageStandsFor stage) left s h.reason reads (in_place _ h.placed)) h.says h.wrote
     by_turn (turn.End status.WriteFault) (inl h) =
-        cut_refused start now old new (StageStandsFor stage) left held s (record { line = new.lines; reason = h.why })
-        (ending_line start now old new (StageStandsFor stage) left s h.why reads (in_place _ h.placed)) h.wrote
+        cut_refused start now old new (StageStandsFor stage) left held s (record { line = new.lines; reason = h.1.reason }) h.0
+        (ending_line start now old new (StageStandsFor stage) left s h.1.reason reads (in_place _ h.1.placed)) h.1.says h.1.wrote
     by_turn (turn.End status.WriteFault) (inr h) =
         cut_line start now old new (StageStandsFor stage) left held s h.says (record { reads = reads; judge = in_place _ h.placed }) h.wrote
     by_turn (turn.End status.Memory) h =
@@ -95,22 +99,27 @@ turns_played start now old new stage line left held line_is reads few t plays s 
     by_turn (turn.End _) h = absurd h
 
 -- a line that was refused for its length or its bytes
-pub turns_bad : (start now : Streams) (old new : Reading) (stage : Stage) (left held : Option (List ℕ)) (bad : BadLine) → ReadsLine old new now.left left (Err (fault.Bad bad)) → (answer : Status) → Writes now.held held (refusal_line bad) status.Refused answer → Standing start now old (StageStandsFor stage) → Outcome (Some command.Run) start (record { left = left; held = held }) answer
+turns_bad : (start now : Streams) (old new : Reading) (stage : Stage) (left held : Option (List ℕ)) (bad : BadLine) → ReadsLine old new now.left left (Err (fault.Bad bad)) → (answer : Status) → EndsWithText now.held held (refusal_line (refused.Line bad)) (status.Refused (refused.Line bad)) answer → Standing start now old (StageStandsFor stage) → Outcome (Some command.Run) start (record { left = left; held = held }) answer
 turns_bad start now old new stage left held bad reads answer (inl h) s =
     subst (λ (a : Status). Outcome (Some command.Run) start (record { left = left; held = held }) a) (sym h.0)
-    (ends_refused start now old new (StageStandsFor stage) left held s bad (ending_bad start now old new (StageStandsFor stage) left s bad reads) h.1)
+    (ends_refused start now old new (StageStandsFor stage) left held s bad (refused.Line bad) (ending_bad start now old new (StageStandsFor stage) left s bad reads) refl h.1)
 turns_bad start now old new stage left held bad reads answer (inr h) s =
     subst (λ (a : Status). Outcome (Some command.Run) start (record { left = left; held = held }) a) (sym h.0)
-    (cut_refused start now old new (StageStandsFor stage) left held s bad (ending_bad start now old new (StageStandsFor stage) left s bad reads) h.1)
+    (cut_refused start now old new (StageStandsFor stage) left held s bad (refused.Line bad) (ending_bad start now old new (StageStandsFor stage) left s bad reads) refl h.1)
 
--- a listener that writes lines still writes to the same sink, whatever came of them
-pub told_same_sink : {O : Type 0} (held : O → Option (List ℕ)) (old new : TextOut O) (stage : Stage) (said : Said) (events : List Event) (says : ScriptLine) → (answer : Result Stage Halt) → Obeys (TextGrew held old new) (TextGrewPartly held old new) stage said events says answer → sink_name new ≡ sink_name old
-told_same_sink held old new stage said events says (Ok next) h = h.1.0
-told_same_sink held old new stage said events says (Err (halt.Refused why)) h = h.1.0
-told_same_sink held old new stage said events says (Err (halt.Sim fault)) h = h.1.0
+-- Still the same sink is written to, which went onward.
+pub record KeepsSink {O : Type 0} (way : O → Way) (old new : TextOut O) : Type 0 where
+  pub same : sink_name new ≡ sink_name old
+  pub onward : Onward (way (sink old)) (way (sink new))
+
+-- a listener that writes lines keeps its sink, whatever came of them
+pub told_same_sink : {O : Type 0} (held : O → Option (List ℕ)) (way : O → Way) (old new : TextOut O) (stage : Stage) (said : Said) (events : List Event) (says : ScriptLine) → (answer : Result Stage Halt) → Obeys (TextGrew held way old new) (TextGrewPartly held way old new) stage said events says answer → KeepsSink way old new
+told_same_sink held way old new stage said events says (Ok next) h = record { same = h.1.0; onward = h.1.2 }
+told_same_sink held way old new stage said events says (Err (halt.Refused why)) h = record { same = h.1.0; onward = h.1.2 }
+told_same_sink held way old new stage said events says (Err (halt.Sim fault)) h = record { same = h.1.0; onward = h.1.2 }
 
 -- a line that couldn't be read ends the run
-pub turns_failed : (start now : Streams) (old new : Reading) (stage : Stage) (left held : Option (List ℕ)) → (f : LineFault) → ReadsLine old new now.left left (Err f) → (answer : Status) → FailsWith f now.held held answer → Standing start now old (StageStandsFor stage) → Outcome (Some command.Run) start (record { left = left; held = held }) answer
+turns_failed : (start now : Streams) (old new : Reading) (stage : Stage) (left held : Option (List ℕ)) → (f : LineFault) → ReadsLine old new now.left left (Err f) → (answer : Status) → FailsWith f now.held held answer → Standing start now old (StageStandsFor stage) → Outcome (Some command.Run) start (record { left = left; held = held }) answer
 turns_failed start now old new stage left held (fault.Bad bad) reads answer writes s = turns_bad start now old new stage left held bad reads answer writes s
 turns_failed start now old new stage left held fault.ReadFault reads answer fails s =
     subst (λ (h : Option (List ℕ)). Outcome (Some command.Run) start (record { left = left; held = h }) answer) (sym fails.1)
@@ -120,3 +129,35 @@ turns_failed start now old new stage left held fault.TooLong reads answer fails 
     subst (λ (h : Option (List ℕ)). Outcome (Some command.Run) start (record { left = left; held = h }) answer) (sym fails.1)
     (subst (λ (a : Status). Outcome (Some command.Run) start (record { left = left; held = now.held }) a) (sym fails.0)
     (ends_too_long start now old new (StageStandsFor stage) left s reads))
+
+-- a line that wasn't read ends the run
+pub turns_unread : (start now : Streams) (old new : Reading) (stage : Stage) (left held : Option (List ℕ)) (answer : Status) → EndsReading old new now.left left now.held held answer → Standing start now old (StageStandsFor stage) → Outcome (Some command.Run) start (record { left = left; held = held }) answer
+turns_unread start now old new stage left held answer (by_line f reads fails) s = turns_failed start now old new stage left held f reads answer fails s
+turns_unread start now old new stage left held answer (in_front is left_is held_is) s =
+    subst (λ (h : Option (List ℕ)). Outcome (Some command.Run) start (record { left = left; held = h }) answer) (sym held_is)
+    (subst (λ (l : Option (List ℕ)). Outcome (Some command.Run) start (record { left = l; held = now.held }) answer) (sym left_is)
+    (subst (λ (a : Status). Outcome (Some command.Run) start now a) (sym is) (cut_between start now old (StageStandsFor stage) s)))
+
+-- a line was read, with all as it was written, and then played
+pub turns_found : (start now : Streams) (old new : Reading) (stage : Stage) (line : Numbered) (left between held : Option (List ℕ)) → between ≡ now.held → line ≡ record { number = new.lines; text = new.text } → ReadsLine old new now.left left (Ok true) → calls_in stage ≤ old.lines → (t : Turn) → ((said : Said) (events : List Event) → StageStandsFor stage said events → Plays (placed_line said (script_line line.text)) line.number said events (calls_in stage + 1) between held t) → Standing start now old (StageStandsFor stage) → Turns start (record { left = left; held = held }) old new t
+turns_found start now old new stage line left between held same line_is reads few t plays s =
+    turns_played start now old new stage line left held line_is reads few t
+    (λ said events stands.
+    subst (λ (h : Option (List ℕ)). Plays (placed_line said (script_line line.text)) line.number said events (calls_in stage + 1) h held t) same (plays said events stands)) s
+
+-- the end of the input was read, with all as it was written
+pub turns_ended : (start now : Streams) (old new : Reading) (stage : Stage) (left between : Option (List ℕ)) → between ≡ now.held → Standing start now old (StageStandsFor stage) → ReadsLine old new now.left left (Ok false) → Outcome (Some command.Run) start (record { left = left; held = between }) status.Done
+turns_ended start now old new stage left between same s reads =
+    subst (λ (h : Option (List ℕ)). Outcome (Some command.Run) start (record { left = left; held = h }) status.Done) (sym same)
+    (ends_done start now old new (StageStandsFor stage) left s reads)
+
+-- what is said is refused in its place
+pub plays_out_of_place : (number : ℕ) (says : ScriptLine) (reason : Reason) (stands : Said → List Event → Type 0) (calls : ℕ) (held between held' : Option (List ℕ)) (answer : Status) → ((said : Said) (events : List Event) → stands said events → (placed said says ≡ Err reason) × Grew held between []) → EndsWithText between held' (refusal_line (refused.Line (record { line = number; reason = reason }))) (status.Refused (refused.Line (record { line = number; reason = reason }))) answer → (said : Said) (events : List Event) → stands said events → Plays (placed said says) number said events calls held held' (turn.End answer)
+plays_out_of_place number says reason stands calls held between held' answer obeys ends said events s =
+    let o : (placed said says ≡ Err reason) × Grew held between [] = obeys said events s in
+    refused_by (placed said says) number said events calls held held' reason (refused.Line (record { line = number; reason = reason })) o.0 refl answer
+    (subst (λ (h : Option (List ℕ)). EndsWithText h held' (refusal_line (refused.Line (record { line = number; reason = reason }))) (status.Refused (refused.Line (record { line = number; reason = reason }))) answer) (grew_nothing held between o.1) ends)
+  where
+    grew_nothing : (a b : Option (List ℕ)) → Grew a b [] → b ≡ a
+    grew_nothing None b h = h
+    grew_nothing (Some xs) b h = h ∙ ap Some (append-nil xs)

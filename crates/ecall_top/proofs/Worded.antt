@@ -5,29 +5,22 @@ use Rattle.call_io.proofs.BytesLemmas.{Took-nothing}
 use Rattle.ecall_top.specs.declared.command.Command.{Command}
 use Rattle.ecall_top.specs.declared.status.Status.{Status}
 use Rattle.ecall_top.specs.declared.status.Status.TheVariants as status
-use Rattle.ecall_top.specs.Ends.{Writes}
+use Rattle.ecall_top.specs.inner.Ends.{EndsWithText}
 use Rattle.ecall_top.specs.Outcome.{Outcome}
-use Rattle.ecall_top.specs.Reply.{usage_line}
+use Rattle.ecall_top.specs.Replies.{usage_line}
 
 -- the usage line was written, or a part of it
-pub used : (left held held' : Option (List ℕ)) (answer : Status) → Writes held held' usage_line status.Usage answer → Outcome None (record { left = left; held = held }) (record { left = left; held = held' }) answer
-used left held held' answer (inl writes) =
-    subst (λ (a : Status). Outcome None (record { left = left; held = held }) (record { left = left; held = held' }) a) (sym writes.0) (
+pub used : (left held held' : Option (List ℕ)) (answer : Status) → EndsWithText held held' usage_line status.Usage answer → Outcome None (record { left = left; held = held }) (record { left = left; held = held' }) answer
+used left held held' answer (inl ends) =
+    subst (λ (a : Status). Outcome None (record { left = left; held = held }) (record { left = left; held = held' }) a) (sym ends.0) (
       record { text = usage_line; status = status.Usage },
-      record { took = Took-nothing left; replies = refl; wrote = writes.1 },
+      record { took = Took-nothing left; replies = refl; wrote = ends.1 },
       refl,
     )
-used left held held' answer (inr writes) =
-    subst (λ (a : Status). Outcome None (record { left = left; held = held }) (record { left = left; held = held' }) a) (sym writes.0) (
+used left held held' answer (inr ends) =
+    subst (λ (a : Status). Outcome None (record { left = left; held = held }) (record { left = left; held = held' }) a) (sym ends.0) (
       [],
-      record {
-        took = Took-nothing left;
-        answered = [];
-        covers = ([], refl);
-        reply = record { text = usage_line; status = status.Usage };
-        replies = refl;
-        wrote = writes.1;
-      },
+      record { took = Took-nothing left; reply = record { text = usage_line; status = status.Usage }; replies = refl; wrote = ends.1 },
     )
 
 -- an answer to a command is one to words that name it

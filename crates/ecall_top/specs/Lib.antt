@@ -1,13 +1,8 @@
 pub mod Commands
-pub mod Decoding
-pub mod Ends
+pub mod Decode
 pub mod Outcome
-pub mod Progress
 pub mod Refusals
-pub mod Reply
-pub mod SetTurns
-pub mod Stage
-pub mod Standing
+pub mod Replies
+pub mod Run
 pub mod Status
-pub mod Taken
-pub mod Turns
+pub mod inner

@@ -1,21 +1,32 @@
--- What an answer of `ecall` says of the bytes that it took from its input and wrote to its output. This project's
--- profile. Cited by the contract of `ecall`. Where a source or a sink doesn't tell its bytes, nothing is said of them.
-use Rattle.std.specs.Prelude.{◌≡◌, ℕ, ◌<◌, ◌≤◌, ◌⊎◌, List, [], ◌++◌, length, Option, Some}
+-- What an answer of `ecall` says of the bytes that it took from its input and wrote to its output, and of the reads and
+-- writes that failed. This project's profile. Cited by the contract of `ecall`. Where a source or a sink doesn't tell
+-- its bytes, nothing is said of them.
+use Rattle.std.specs.Prelude.{◌≡◌, ℕ, ◌<◌, ◌≤◌, ◌⊎◌, List, [], ◌∷◌, ◌++◌, length, Option}
 use Rattle.std.specs.List.{AllByRecursion}
 use Rattle.std.specs.Io.KnownBytes.{IsAtEnd}
 use Rattle.call_io.specs.Bytes.{Took, Grew, GrewPartly}
+use Rattle.call_io.specs.Counts.{Rose}
+use Rattle.trace_text.specs.Characters.{newline}
 use Rattle.trace_text.specs.Feed.{IsInner}
+use Rattle.trace_text.specs.Lines.{most_bytes, most_in_line}
 use Rattle.ecall_top.specs.declared.command.Command.{Command}
-use Rattle.ecall_top.specs.declared.command.Command.TheVariants as command
 use Rattle.ecall_top.specs.declared.status.Status.{Status}
 use Rattle.ecall_top.specs.declared.status.Status.TheVariants as status
 use Rattle.ecall_top.specs.Refusals.{Reply}
-use Rattle.ecall_top.specs.Reply.{Replies}
+use Rattle.ecall_top.specs.Replies.{Replies}
 
 -- The bytes told by a source and a sink.
 pub record Streams : Type 0 where
   pub left : Option (List ℕ)
   pub held : Option (List ℕ)
+
+-- what these two tell
+abbrev pub streams_of : {I O : Type 0} → (left : I → Option (List ℕ)) → (held : O → Option (List ℕ)) → I → O → Streams
+streams_of left held input output = record { left = left input; held = held output }
+
+-- these bytes are whole lines: there are none, or a newline ends them
+abbrev pub AreWholeLines : List ℕ → Type 0
+AreWholeLines bytes = (bytes ≡ []) ⊎ ((before : List ℕ) × (bytes ≡ before ++ newline ∷ []))
 
 -- This input was taken, and answered whole: the sink grew by exactly the text of this reply to it.
 pub record Answered (asked : Option Command) (old new : Streams) (input : List ℕ) (r : Reply) : Type 0 where
@@ -23,47 +34,61 @@ pub record Answered (asked : Option Command) (old new : Streams) (input : List �
   pub replies : Replies asked input r
   pub wrote : Grew old.held new.held r.text
 
--- what was answered of an input that was taken: of `run` all of it, of other commands a front of it
-abbrev pub Covers : Option Command → (answered input : List ℕ) → Type 0
-Covers (Some command.Run) answered input = answered ≡ input
-Covers _ answered input = (rest : List ℕ) × (answered ++ rest ≡ input)
-
--- This input was taken, and the answer was cut short: the sink grew by a front of the text of the reply.
+-- This input was taken, and the answer was cut short: the sink grew by a front of the text of the reply to it.
 pub record CutShort (asked : Option Command) (old new : Streams) (input : List ℕ) : Type 0 where
   pub took : Took old.left new.left input
-  pub answered : List ℕ
-  pub covers : Covers asked answered input
   pub reply : Reply
-  pub replies : Replies asked answered reply
+  pub replies : Replies asked input reply
   pub wrote : GrewPartly old.held new.held reply.text
 
--- What comes behind a front of the input can't change the reply.
-abbrev pub IsSettled : Option Command → List ℕ → Reply → Type 0
-IsSettled asked input r =
-    (front rest : List ℕ) × (input ≡ front ++ rest) × ((more : List ℕ) → Replies asked (front ++ more) r)
+-- The reply is settled by a front of the input, within the bytes that an input may have: whatever comes behind that
+-- front, the reply is this one.
+pub record IsSettled (asked : Option Command) (input : List ℕ) (r : Reply) : Type 0 where
+  pub front : List ℕ
+  pub rest : List ℕ
+  pub split : input ≡ front ++ rest
+  pub within : length front ≤ most_bytes
+  pub replies : (more : List ℕ) → Replies asked (front ++ more) r
 
--- The input has more than 16,777,216 bytes, and no line that ended, or was too long, within them was refused: a front
--- of whole lines, none of them refused, a line that isn't ended nor too long, and at least one byte behind.
-pub record IsTooLong (asked : Option Command) (input : List ℕ) : Type 0 where
+-- The input was read to its end, and has no more bytes than it may have.
+pub record IsWhole (left : Option (List ℕ)) (input : List ℕ) : Type 0 where
+  pub «end» : IsAtEnd left
+  pub within : length input ≤ most_bytes
+
+-- The input has more bytes than it may have, and no line that ended, or was too long, within these was refused: they
+-- are whole lines, none of them refused, and a line that neither ended nor is too long; and at least one byte follows.
+pub record RunsOver (asked : Option Command) (input : List ℕ) : Type 0 where
   pub front : List ℕ
   pub unended : List ℕ
   pub rest : List ℕ
-  pub whole : input ≡ front ++ (unended ++ rest)
-  pub full : length (front ++ unended) ≡ 16777216
+  pub split : input ≡ front ++ (unended ++ rest)
+  pub full : length (front ++ unended) ≡ most_bytes
   pub beyond : 0 < length rest
+  pub lines : AreWholeLines front
   pub inner : AllByRecursion IsInner unended
-  pub short : length unended ≤ 512
+  pub short : length unended ≤ most_in_line
   pub unrefused : (r : Reply) × Replies asked front r × (r.status ≡ status.Done)
 
--- what an answer says
+-- what an answer says of the bytes taken and written
 abbrev pub Outcome : Option Command → (old new : Streams) → Status → Type 0
 Outcome asked old new status.Done =
-    (input : List ℕ) × (r : Reply) × Answered asked old new input r × (r.status ≡ status.Done) × IsAtEnd new.left
+    (input : List ℕ) × (r : Reply) × Answered asked old new input r × (r.status ≡ status.Done) × IsWhole new.left input
 Outcome asked old new status.Usage = (r : Reply) × Answered asked old new [] r × (r.status ≡ status.Usage)
-Outcome asked old new status.Refused =
-    (input : List ℕ) × (r : Reply) × Answered asked old new input r × (r.status ≡ status.Refused) × (IsSettled asked input r ⊎ IsAtEnd new.left)
+Outcome asked old new (status.Refused why) =
+    (input : List ℕ) × (r : Reply) × Answered asked old new input r × (r.status ≡ status.Refused why)
+    × (IsSettled asked input r ⊎ IsWhole new.left input)
 Outcome asked old new status.Broken = ⊥
 Outcome asked old new status.ReadFault = (input : List ℕ) × CutShort asked old new input
 Outcome asked old new status.WriteFault = (input : List ℕ) × CutShort asked old new input
 Outcome asked old new status.Memory = (input : List ℕ) × CutShort asked old new input
-Outcome asked old new status.TooLong = (input : List ℕ) × CutShort asked old new input × IsTooLong asked input
+Outcome asked old new status.TooLong = (input : List ℕ) × CutShort asked old new input × RunsOver asked input
+
+-- what an answer says of the source's count of faults: a read failed, or else none did
+abbrev pub ReadCause : Status → (old new : ℕ) → Type 0
+ReadCause status.ReadFault old new = Rose old new
+ReadCause _ old new = new ≡ old
+
+-- what an answer says of the sink's count of faults: a write failed, or else none did
+abbrev pub WriteCause : Status → (old new : ℕ) → Type 0
+WriteCause status.WriteFault old new = Rose old new
+WriteCause _ old new = new ≡ old

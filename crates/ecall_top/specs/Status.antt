@@ -6,7 +6,7 @@ use Rattle.ecall_top.specs.declared.status.Status.TheVariants as status
 abbrev pub status_code : Status → ℕ
 status_code status.Done = 0
 status_code status.Usage = 1
-status_code status.Refused = 2
+status_code (status.Refused why) = 2
 status_code status.Broken = 3
 status_code status.ReadFault = 4
 status_code status.WriteFault = 5

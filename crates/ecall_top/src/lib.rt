@@ -1,20 +1,26 @@
 //! The commands of `ecall`: words and a whole input in, text and a status out.
 #![tactic(auto)]
 
-ghost use Rattle.std.specs.Prelude.{◌≡◌, ◌≤◌, ◌⊎◌, List, ℕ, Some, None, map};
+ghost use Rattle.std.specs.Prelude.{◌≡◌, ◌≤◌, ◌⊎◌, [], List, ℕ, Some, None, map};
 ghost use Rattle.std.specs.String.{string_bytes};
-ghost use Rattle.call_io.specs.Counts.{Rose};
+ghost use Rattle.call_io.specs.Blocks.{held, pending, sink, sink_name, way};
+ghost use Rattle.call_io.specs.Ways.{Onward};
 ghost use Rattle.trace_text.specs.Safety.{Agreed};
 ghost use Rattle.trace_text.specs.Script.{script_of};
 ghost use Rattle.ecall_top.specs.Commands.{command_of};
-ghost use Rattle.ecall_top.specs.Ends.{Writes};
-ghost use Rattle.ecall_top.specs.Outcome.{Outcome};
-ghost use Rattle.ecall_top.specs.Reply.{usage_line, script_trace};
+ghost use Rattle.ecall_top.specs.Outcome.{Outcome, ReadCause, WriteCause, streams_of};
+ghost use Rattle.ecall_top.specs.Replies.{usage_line};
+ghost use Rattle.ecall_top.specs.Run.{script_trace};
+ghost use Rattle.ecall_top.specs.inner.Ends.{EndsWithText, HandsOver};
 
-mod command;
-mod decoding;
 #[cfg(test)]
-mod decoding_tests;
+mod block_tests;
+mod command;
+mod decode;
+#[cfg(test)]
+mod decode_tests;
+mod laws;
+mod reading;
 mod refusal;
 mod run;
 mod stage;
@@ -23,8 +29,10 @@ mod status;
 mod tests;
 
 use crate::command::read_command;
-use call_io::{Sink, Source, write_all};
+use call_io::{Block, Sink, Source, write_all};
 pub use command::Command;
+pub use laws::reply_laws;
+pub use refusal::Refused;
 pub use status::Status;
 use std::alloc::Global;
 
@@ -38,6 +46,9 @@ const USAGE: &[u8] =
 /// `run` reads a script and writes its trace. It takes memory for the frames and sessions of the script's calls; where
 /// there is none, it answers `Memory`. `decode` reads sets of data in hexadecimal, one a line, and describes each in
 /// twenty lines. Other words write the usage line.
+///
+/// What is written is handed to `output` in blocks: where one is full, before each read of `input`, and at the end. After
+/// a failed read or write nothing more is read or written.
 pub fn ecall<I: Source, O: Sink>(
     alloc: Global,
     words: &[String],
@@ -45,7 +56,7 @@ pub fn ecall<I: Source, O: Sink>(
     output: &mut O,
 ) -> Status
     // What was taken, what was written, and that it is the reply to the words and the input.
-    ensures outcome { Outcome (command_of (map string_bytes words.now)) (record { left = I.left input.old; held = O.held output.old }) (record { left = I.left input.new; held = O.held output.new }) result }
+    ensures outcome { Outcome (command_of (map string_bytes words.now)) (streams_of I.left O.held input.old output.old) (streams_of I.left O.held input.new output.new) result }
     // Every acknowledged set was shown earlier by the point for that call, octet for octet: in the trace of every script.
     ensures agreed { (script : List ℕ) → Agreed (script_trace (script_of script)) }
 
@@ -53,26 +64,87 @@ pub fn ecall<I: Source, O: Sink>(
     ensures usage { command_of (map string_bytes words.now) ≡ None → (result ≡ Status.Usage) ⊎ (result ≡ Status.WriteFault) }
     // Decoding takes no memory.
     ensures in_place { command_of (map string_bytes words.now) ≡ Some Command.Decode → result ≡ Status.Memory → ⊥ }
-    ensures unread { result ≡ Status.ReadFault → Rose (I.faults input.old) (I.faults input.new) }
-    ensures unwritten { result ≡ Status.WriteFault → Rose (O.faults output.old) (O.faults output.new) }
+    // A read failed where the answer says so, and else none did; the same of writes.
+    ensures unread { ReadCause result (I.faults input.old) (I.faults input.new) }
+    ensures unwritten { WriteCause result (O.faults output.old) (O.faults output.new) }
     ensures reads_counted { I.faults input.old ≤ I.faults input.new }
     ensures writes_counted { O.faults output.old ≤ O.faults output.new }
 {
+    let mut block = Block::over(output);
+    carry_out(alloc, words, input, &mut block)
+}
+
+/// Carries out the command over a block with nothing pending, and hands the sink all that it wrote.
+fn carry_out<I: Source, O: Sink>(
+    alloc: Global,
+    words: &[String],
+    input: &mut I,
+    output: &mut Block<'_, O>,
+) -> Status
+    requires { pending output.old ≡ [] }
+    ensures outcome { Outcome (command_of (map string_bytes words.now)) (streams_of I.left (λ block. O.held (sink block)) input.old output.old) (streams_of I.left (λ block. O.held (sink block)) input.new output.new) result }
+    ensures usage { command_of (map string_bytes words.now) ≡ None → (result ≡ Status.Usage) ⊎ (result ≡ Status.WriteFault) }
+    ensures in_place { command_of (map string_bytes words.now) ≡ Some Command.Decode → result ≡ Status.Memory → ⊥ }
+    ensures unread { ReadCause result (I.faults input.old) (I.faults input.new) }
+    ensures unwritten { WriteCause result (O.faults (sink output.old)) (O.faults (sink output.new)) }
+    ensures reads_counted { I.faults input.old ≤ I.faults input.new }
+    ensures writes_counted { O.faults (sink output.old) ≤ O.faults (sink output.new) }
+    ensures same_sink { sink_name output.new ≡ sink_name output.old }
+{
+    let status = reply(alloc, words, input, output);
+    hand_over(status, output)
+}
+
+/// Carries out the command over a block, which may keep some of what was written pending.
+fn reply<I: Source, O: Sink>(
+    alloc: Global,
+    words: &[String],
+    input: &mut I,
+    output: &mut Block<'_, O>,
+) -> Status
+    ensures outcome { Outcome (command_of (map string_bytes words.now)) (streams_of I.left (held O.held) input.old output.old) (streams_of I.left (held O.held) input.new output.new) result }
+    ensures usage { command_of (map string_bytes words.now) ≡ None → (result ≡ Status.Usage) ⊎ (result ≡ Status.WriteFault) }
+    ensures in_place { command_of (map string_bytes words.now) ≡ Some Command.Decode → result ≡ Status.Memory → ⊥ }
+    ensures unread { ReadCause result (I.faults input.old) (I.faults input.new) }
+    ensures unwritten { WriteCause result (O.faults (sink output.old)) (O.faults (sink output.new)) }
+    ensures reads_counted { I.faults input.old ≤ I.faults input.new }
+    ensures writes_counted { O.faults (sink output.old) ≤ O.faults (sink output.new) }
+    ensures onward { Onward (way O.held output.old) (way O.held output.new) }
+{
     match read_command(words) {
         Some(Command::Run) => run::run(alloc, input, output),
-        Some(Command::Decode) => decoding::decode_sets(input, output),
+        Some(Command::Decode) => decode::decode_sets(input, output),
         None => usage(output),
     }
 }
 
 /// Writes the usage line.
 fn usage<O: Sink>(output: &mut O) -> Status
-    ensures writes { Writes (O.held output.old) (O.held output.new) usage_line Status.Usage result }
-    ensures unwritten { result ≡ Status.WriteFault → Rose (O.faults output.old) (O.faults output.new) }
+    ensures ends { EndsWithText (O.held output.old) (O.held output.new) usage_line Status.Usage result }
+    ensures unwritten { WriteCause result (O.faults output.old) (O.faults output.new) }
     ensures counted { O.faults output.old ≤ O.faults output.new }
+    ensures onward { Onward (O.way output.old) (O.way output.new) }
 {
     match write_all(output, USAGE) {
         Ok(()) => Status::Usage,
         Err(_) => Status::WriteFault,
+    }
+}
+
+/// Hands the sink all that is pending, and answers how the command ended: so, or with a failed write.
+fn hand_over<O: Sink>(status: Status, output: &mut Block<'_, O>) -> Status
+    ensures over { HandsOver status (pending output.new) result }
+    ensures kept { held O.held output.new ≡ held O.held output.old }
+    ensures unwritten { (before : ℕ) → WriteCause status before (O.faults (sink output.old)) → WriteCause result before (O.faults (sink output.new)) }
+    ensures counted { O.faults (sink output.old) ≤ O.faults (sink output.new) }
+    ensures onward { Onward (way O.held output.old) (way O.held output.new) }
+{
+    match status {
+        // A block is emptied before each read, so where one failed nothing is pending.
+        Status::ReadFault | Status::WriteFault => status,
+        _ => match output.empty() {
+            Ok(()) => status,
+            Err(_) => Status::WriteFault,
+        },
     }
 }

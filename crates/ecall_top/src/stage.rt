@@ -1,13 +1,12 @@
 //! What a script that is being played has come to.
 
-ghost use Rattle.std.specs.Prelude.{◌≡◌, ◌+◌, ◌<◌, ◌≤◌, List, Result, Ok, Err};
-ghost use Rattle.call_io.specs.Counts.{Rose};
+ghost use Rattle.std.specs.Prelude.{◌+◌, ◌<◌, ◌≤◌, List};
 ghost use Rattle.ivs_machine.specs.declared.facts.Facts.TheVariants as facts;
 ghost use Rattle.trace_text.specs.declared.event.Event.{Event};
 ghost use Rattle.trace_text.specs.Script.{Said};
 ghost use Rattle.channel_sim.specs.World as model;
 ghost use Rattle.channel_sim.specs.WorldStands.{WorldStandsFor, calls_drawn};
-ghost use Rattle.ecall_top.specs.Stage.{StageStandsFor, Obeys, PlaysEvent, calls_in};
+ghost use Rattle.ecall_top.specs.inner.Stage.{HaltWriteCause, StageStandsFor, Obeys, PlaysEvent, calls_in};
 
 use channel_sim::{SimFault, World};
 use ivs_machine::Facts;
@@ -34,7 +33,7 @@ pub(crate) enum Halt {
 fn play<H: Listener>(world: World, alloc: Global, event: &Event, to: &mut H) -> Result<Stage, Halt>
     requires { calls_drawn world < 4294967295 }
     ensures played { (w : model.World) → WorldStandsFor world w → PlaysEvent (H.grew to.old to.new) (H.partly to.old to.new) world (model.step w event.now) result }
-    ensures cause { result ≡ Err (Halt.Sim SimFault.Write) → Rose (H.faults to.old) (H.faults to.new) }
+    ensures unwritten { HaltWriteCause result (H.faults to.old) (H.faults to.new) }
     ensures counted { H.faults to.old ≤ H.faults to.new }
 {
     match world.step(alloc, event, to) {
@@ -51,7 +50,7 @@ fn begin<H: Listener>(
     to: &mut H,
 ) -> Result<Stage, Halt>
     ensures obeys { (said : Said) (events : List Event) → StageStandsFor (Stage.Facts ready) said events → Obeys (H.grew to.old to.new) (H.partly to.old to.new) (Stage.Facts ready) said events says.now result }
-    ensures cause { result ≡ Err (Halt.Sim SimFault.Write) → Rose (H.faults to.old) (H.faults to.new) }
+    ensures unwritten { HaltWriteCause result (H.faults to.old) (H.faults to.new) }
     ensures counted { H.faults to.old ≤ H.faults to.new }
 {
     match says {
@@ -72,7 +71,7 @@ fn go_on<H: Listener>(
 ) -> Result<Stage, Halt>
     requires { calls_drawn world < 4294967295 }
     ensures obeys { (said : Said) (events : List Event) → StageStandsFor (Stage.Playing world) said events → Obeys (H.grew to.old to.new) (H.partly to.old to.new) (Stage.Playing world) said events says.now result }
-    ensures cause { result ≡ Err (Halt.Sim SimFault.Write) → Rose (H.faults to.old) (H.faults to.new) }
+    ensures unwritten { HaltWriteCause result (H.faults to.old) (H.faults to.new) }
     ensures counted { H.faults to.old ≤ H.faults to.new }
 {
     match says {
@@ -91,7 +90,7 @@ impl Stage {
     ) -> Result<Stage, Halt>
         requires { calls_in self < 4294967295 }
         ensures obeys { (said : Said) (events : List Event) → StageStandsFor self said events → Obeys (H.grew to.old to.new) (H.partly to.old to.new) self said events says.now result }
-        ensures cause { result ≡ Err (Halt.Sim SimFault.Write) → Rose (H.faults to.old) (H.faults to.new) }
+        ensures unwritten { HaltWriteCause result (H.faults to.old) (H.faults to.new) }
         ensures counted { H.faults to.old ≤ H.faults to.new }
     {
         match self {

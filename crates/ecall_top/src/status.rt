@@ -3,6 +3,8 @@
 ghost use Rattle.std.specs.Prelude.{◌≡◌};
 ghost use Rattle.ecall_top.specs.Status.{status_code};
 
+use crate::refusal::Refused;
+
 /// How a call of `ecall` ended. The program's exit status is its number.
 #[derive(Clone, Copy, Debug, PartialEq, Eq)]
 pub enum Status {
@@ -10,8 +12,8 @@ pub enum Status {
     Done,
     /// The words are no form of words.
     Usage,
-    /// A line of the input is refused.
-    Refused,
+    /// A line of the input is refused, and why. It is the first such.
+    Refused(Refused),
     /// A rule is broken in a trace that is audited; no command of today answers it.
     Broken,
     /// A read failed.
@@ -32,7 +34,7 @@ impl Status {
         match self {
             Status::Done => 0,
             Status::Usage => 1,
-            Status::Refused => 2,
+            Status::Refused(_) => 2,
             Status::Broken => 3,
             Status::ReadFault => 4,
             Status::WriteFault => 5,

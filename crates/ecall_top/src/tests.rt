@@ -1,12 +1,13 @@
 //! What no clause says: that the words of the definitions mean what the protocol's description says, on traces worked
 //! out by hand, and that a run does not give up while memory is at hand.
 
-ghost use Rattle.std.specs.Prelude.{◌<◌};
+ghost use Rattle.std.specs.Prelude.{◌<◌, ◌^◌};
 
-use crate::{Status, ecall};
-use call_io::{MemSink, MemSource};
+use crate::{Refused, Status, ecall};
+use call_io::{MemSink, MemSource, Sink, Source};
 use std::alloc::{AllocError, Global};
 use std::test::Fail;
+use trace_text::{BadLine, Reason};
 
 /// A set of data, and the digits of its 140 octets, for which `H` stands in the expected lines.
 const SET: &str = "set 02000681d54970d65c3597ca0420c414640af05f080452e9960413e2550168\n";
@@ -58,17 +59,22 @@ pub(crate) fn source(
 }
 
 /// Carries out these words, one by one behind single spaces.
-pub(crate) fn call(
+pub(crate) fn call<I: Source, O: Sink>(
     alloc: Global,
     words: &str,
-    input: &mut MemSource,
-    output: &mut MemSink,
+    input: &mut I,
+    output: &mut O,
 ) -> Result<Status, AllocError> {
     let mut list = Vec::new(alloc);
     for word in words.split(' ') {
         list.push(String::from_str(alloc, word)?)?;
     }
     Ok(ecall(alloc, &list, input, output))
+}
+
+/// The status of a refused line.
+pub(crate) fn bad(line: u32, reason: Reason) -> Status {
+    Status::Refused(Refused::Line(BadLine { line, reason }))
 }
 
 /// A sink with room for any run here.
@@ -99,13 +105,13 @@ fn plays_scripts(rt: HostRuntime) -> Result<(), Fail> {
         // A fact line behind an event line, and an unknown word, behind comments and empty lines.
         (
             "trigger auto\n\n# late\nset 00\n",
-            Status::Refused,
+            bad(5, Reason::Late),
             "0 dial 1\n",
             "refused 5 8\n",
         ),
         (
             "# a comment\n\nhello\n",
-            Status::Refused,
+            bad(4, Reason::Word),
             "",
             "refused 4 1\n",
         ),
@@ -127,8 +133,13 @@ fn refuses_and_ends(rt: HostRuntime) -> Result<(), Fail> {
     let alloc = rt.alloc();
     let usage = "usage: ecall run|register|decode|encode|frames|replay|trial N|make N|conform\n";
     let table = [
-        ("run", "hello", Status::Refused, "refused 1 1\n"),
-        ("run", "trigger auto", Status::Refused, "refused 1 7\n"),
+        ("run", "hello", bad(1, Reason::Word), "refused 1 1\n"),
+        (
+            "run",
+            "trigger auto",
+            bad(1, Reason::Missing),
+            "refused 1 7\n",
+        ),
         ("run", "", Status::Done, ""),
         ("run", "\n\n# nothing\n", Status::Done, ""),
         ("run fast", "", Status::Usage, usage),
@@ -162,18 +173,33 @@ fn reads_a_byte_at_a_time(rt: HostRuntime) -> Result<(), Fail> {
 fn stops_at_each_failed_write(rt: HostRuntime) -> Result<(), Fail> {
     let alloc = rt.alloc();
     let want = expand(alloc, CALL_TRACE)?;
-    for fail in 1u64..=13 {
-        let mut input = source(alloc, &[SET, CALL], 4096, Vec::new(alloc))?;
+    // A write, and how many lines of the trace stand before it; those that one line of the script adds are one write, since
+    // the source gives a byte at a time.
+    for (fail, before) in [(1u64, 0), (2, 1), (3, 6), (4, 7), (5, 8), (6, 11)] {
+        let mut input = source(alloc, &[SET, CALL], 1, Vec::new(alloc))?;
         let mut fails = Vec::new(alloc);
         fails.push(fail)?;
         let mut output = sink(alloc, fails)?;
         let answer = call(alloc, "run", &mut input, &mut output)?;
         assert_eq!(rt; answer, Status::WriteFault, "write {fail}");
         assert!(rt; want.as_bytes().starts_with(output.bytes()), "write {fail}");
-        // Each line is one write, so the lines before the failed one stand.
         let lines = output.bytes().iter().filter(|b| **b == b'\n').count();
-        assert_eq!(rt; lines as u64 + 1, fail);
+        assert_eq!(rt; lines, before, "write {fail}");
     }
+    // Where the whole script is at hand, all of it is one write.
+    let mut input = source(alloc, &[SET, CALL], 4096, Vec::new(alloc))?;
+    let fails = vec![in alloc; 1]?;
+    let mut output = sink(alloc, fails)?;
+    assert_eq!(rt;
+        call(alloc, "run", &mut input, &mut output)?,
+        Status::WriteFault
+    );
+    assert!(rt; output.bytes().is_empty());
+    let mut input = source(alloc, &[SET, CALL], 4096, Vec::new(alloc))?;
+    let fails = vec![in alloc; 2]?;
+    let mut output = sink(alloc, fails)?;
+    assert_eq!(rt; call(alloc, "run", &mut input, &mut output)?, Status::Done);
+    assert_eq!(rt; output.bytes(), want.as_bytes());
     Ok(())
 }
 
@@ -195,16 +221,48 @@ fn stops_at_each_failed_read(rt: HostRuntime) -> Result<(), Fail> {
     Ok(())
 }
 
+/// As many newlines as one input may have bytes, and so many more, with this text behind them.
+fn newlines(alloc: Global, more: usize, text: &str) -> Result<MemSource, AllocError>
+    requires { more < 2 ^ 32 }
+{
+    let mut bytes = vec![in alloc; b'\n'; 16_777_216 + more]?;
+    bytes.extend_from_slice(text.as_bytes())?;
+    Ok(MemSource::new(bytes, 65_536, Vec::new(alloc)))
+}
+
 #[test]
-fn takes_no_more_than_its_bytes(rt: HostRuntime) -> Result<(), Fail> {
+fn takes_as_many_bytes_as_it_may(rt: HostRuntime) -> Result<(), Fail> {
     let alloc = rt.alloc();
-    for (more, status) in [(0, Status::Done), (1, Status::TooLong)] {
-        let newlines = vec![in alloc; b'\n'; 16_777_216 + more]?;
-        let mut input = MemSource::new(newlines, 65_536, Vec::new(alloc));
-        let mut output = sink(alloc, Vec::new(alloc))?;
-        assert_eq!(rt; call(alloc, "run", &mut input, &mut output)?, status);
-        assert!(rt; output.bytes().is_empty());
-    }
+    let mut input = newlines(alloc, 0, "")?;
+    let mut output = sink(alloc, Vec::new(alloc))?;
+    assert_eq!(rt; call(alloc, "run", &mut input, &mut output)?, Status::Done);
+    assert!(rt; output.bytes().is_empty());
+    Ok(())
+}
+
+#[test]
+fn takes_no_more_bytes(rt: HostRuntime) -> Result<(), Fail> {
+    let alloc = rt.alloc();
+    let mut input = newlines(alloc, 1, "")?;
+    let mut output = sink(alloc, Vec::new(alloc))?;
+    assert_eq!(rt;
+        call(alloc, "run", &mut input, &mut output)?,
+        Status::TooLong
+    );
+    assert!(rt; output.bytes().is_empty());
+    Ok(())
+}
+
+#[test]
+fn refuses_no_line_behind_them(rt: HostRuntime) -> Result<(), Fail> {
+    let alloc = rt.alloc();
+    let mut input = newlines(alloc, 0, "0z\n")?;
+    let mut output = sink(alloc, Vec::new(alloc))?;
+    assert_eq!(rt;
+        call(alloc, "decode", &mut input, &mut output)?,
+        Status::TooLong
+    );
+    assert!(rt; output.bytes().is_empty());
     Ok(())
 }
 
@@ -213,7 +271,7 @@ fn numbers_its_statuses(rt: HostRuntime) {
     let all = [
         Status::Done,
         Status::Usage,
-        Status::Refused,
+        bad(1, Reason::Word),
         Status::Broken,
         Status::ReadFault,
         Status::WriteFault,

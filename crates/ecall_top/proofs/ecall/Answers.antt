@@ -1,33 +1,6 @@
-use Rattle.std.specs.Prelude.{map}
-use Rattle.std.specs.String.{string_bytes}
-use Rattle.std.proofs.Common.{sym, ◌∙◌, ap, Some, None}
 use Rattle.trace_text.specs.Script.{script_of}
-use Rattle.ecall_top.specs.Commands.{command_of}
-use Rattle.ecall_top.specs.declared.command.Command.TheVariants as command
 use Rattle.ecall_top.proofs.Endings.{script_agreed}
-use Rattle.ecall_top.proofs.Worded.{used, named}
 use Rattle.ecall_top.proofs.ecall.Goals as goal
 
-pub returns-in-Some-Run-clause-outcome : goal.returns-in-Some-Run-clause-outcome
-returns-in-Some-Run-clause-outcome g c =
-    named (command_of (map string_bytes c.args.words.now)) (Some command.Run) (g.I.Source.left c.args.input.now) (g.I.Source.left c.run.new.input) (g.O.Sink.held c.args.output.now) (g.O.Sink.held c.run.new.output) c.run.result
-    (sym c.read_command.ensures ∙ (c.in-Some-Run.is ∙ ap Some c.in-Some-Run.field-0-is)) c.run.ensures.outcome
-
-pub returns-in-Some-Decode-clause-outcome : goal.returns-in-Some-Decode-clause-outcome
-returns-in-Some-Decode-clause-outcome g c =
-    named (command_of (map string_bytes c.args.words.now)) (Some command.Decode) (g.I.Source.left c.args.input.now) (g.I.Source.left c.decode_sets.new.input) (g.O.Sink.held c.args.output.now) (g.O.Sink.held c.decode_sets.new.output) c.decode_sets.result
-    (sym c.read_command.ensures ∙ (c.in-Some-Decode.is ∙ ap Some c.in-Some-Decode.field-0-is)) c.decode_sets.ensures.outcome
-
-pub returns-in-None-clause-outcome : goal.returns-in-None-clause-outcome
-returns-in-None-clause-outcome g c =
-    named (command_of (map string_bytes c.args.words.now)) None (g.I.Source.left c.args.input.now) (g.I.Source.left c.args.input.now) (g.O.Sink.held c.args.output.now) (g.O.Sink.held c.usage.new.output) c.usage.result
-    (sym c.in-None.ensures) (used (g.I.Source.left c.args.input.now) (g.O.Sink.held c.args.output.now) (g.O.Sink.held c.usage.new.output) c.usage.result c.usage.ensures.writes)
-
-pub returns-in-Some-Run-clause-agreed : goal.returns-in-Some-Run-clause-agreed
-returns-in-Some-Run-clause-agreed g c = λ script. script_agreed (script_of script)
-
-pub returns-in-Some-Decode-clause-agreed : goal.returns-in-Some-Decode-clause-agreed
-returns-in-Some-Decode-clause-agreed g c = λ script. script_agreed (script_of script)
-
-pub returns-in-None-clause-agreed : goal.returns-in-None-clause-agreed
-returns-in-None-clause-agreed g c = λ script. script_agreed (script_of script)
+pub returns-clause-agreed : goal.returns-clause-agreed
+returns-clause-agreed g c = λ script. script_agreed (script_of script)

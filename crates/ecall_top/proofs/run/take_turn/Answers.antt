@@ -1,16 +1,17 @@
-use Rattle.ecall_top.specs.Stage.{StageStandsFor}
-use Rattle.ecall_top.proofs.Endings.{ends_done}
-use Rattle.ecall_top.proofs.Turned.{turns_played, turns_failed}
+use Rattle.call_io.specs.Blocks.{held}
+use Rattle.ecall_top.proofs.Turned.{turns_found, turns_ended, turns_unread}
 use Rattle.ecall_top.proofs.run.take_turn.Goals as goal
 
 pub returns-then-found-clause-turns : goal.returns-then-found-clause-turns
 returns-then-found-clause-turns g c = λ start s.
-    turns_played start _ c.args.lines.now c.next.new.self c.args.stage c.line.result (g.I.Source.left c.next.new.source) (g.O.Sink.held c.play_line.new.output) c.line.ensures (rw c.if-found.true at c.in-Ok.ensures.reads) c.requires.few c.play_line.result c.play_line.ensures.plays s
+    let reads = rw c.if-found.true at c.in-Ok.ensures.reads in
+    turns_found start _ c.args.lines.now c.read_line.new.lines c.args.stage c.line.result (g.I.Source.left c.read_line.new.input) (held g.O.Sink.held c.read_line.new.output) (held g.O.Sink.held c.play_line.new.output) reads.1 c.line.ensures reads.0 c.requires.few c.play_line.result c.play_line.ensures.plays s
 
 pub returns-else-found-clause-turns : goal.returns-else-found-clause-turns
 returns-else-found-clause-turns g c = λ start s.
-    ends_done start _ c.args.lines.now c.next.new.self (StageStandsFor c.args.stage) (g.I.Source.left c.next.new.source) s (rw c.if-found.false at c.in-Ok.ensures.reads)
+    let reads = rw c.if-found.false at c.in-Ok.ensures.reads in
+    turns_ended start _ c.args.lines.now c.read_line.new.lines c.args.stage (g.I.Source.left c.read_line.new.input) (held g.O.Sink.held c.read_line.new.output) reads.1 s reads.0
 
 pub returns-in-Err-clause-turns : goal.returns-in-Err-clause-turns
 returns-in-Err-clause-turns g c = λ start s.
-    turns_failed start _ c.args.lines.now c.next.new.self c.args.stage (g.I.Source.left c.next.new.source) (g.O.Sink.held c.fail.new.output) c.in-Err.fault c.in-Err.ensures.reads c.fail.result c.fail.ensures.fails s
+    turns_unread start _ c.args.lines.now c.read_line.new.lines c.args.stage (g.I.Source.left c.read_line.new.input) (held g.O.Sink.held c.read_line.new.output) c.in-Err.status c.in-Err.ensures.reads s

@@ -1,6 +1,6 @@
 use Rattle.std.proofs.Common.{sym, subst}
 use Rattle.ecall_top.specs.declared.stage.Stage.{Stage}
-use Rattle.ecall_top.specs.Stage.{Obeys, StageStandsFor}
+use Rattle.ecall_top.specs.inner.Stage.{Obeys, StageStandsFor}
 use Rattle.ecall_top.proofs.stage.Stage.obey.Goals as goal
 
 pub returns-in-Playing-clause-obeys : goal.returns-in-Playing-clause-obeys

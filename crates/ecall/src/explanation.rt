@@ -1,0 +1,131 @@
+//! What a person is told of how a call ended.
+
+use ecall_top::{Refused, Status};
+use per_bits::{Reason as SetReason, Refusal};
+use std::fmt;
+use trace_text::{BadLine, Reason as LineReason};
+
+/// Why a call didn't end with status 0: what was wrong, where, and what helps. It is written as a part of one sentence.
+#[derive(Clone, Copy, Debug)]
+pub struct Explanation<'a> {
+    pub status: Status,
+    /// The first of the words that the call was given, if it was given any.
+    pub word: Option<&'a str>,
+}
+
+impl fmt::Display for Explanation<'_> {
+    fn fmt<W: fmt::Write>(&self, f: &mut fmt::Formatter<W>) -> fmt::Result {
+        match self.status {
+            Status::Done => write!(f, "all is done"),
+            Status::Usage => write_usage(f, self.word),
+            Status::Refused(Refused::Line(bad)) => write_line(f, bad),
+            Status::Refused(Refused::Set { line, refusal }) => write_set(f, line, refusal),
+            Status::Broken => write!(f, "a rule is broken at the line that the answer names"),
+            Status::ReadFault => write!(f, "reading failed; {BEGINNING}"),
+            Status::WriteFault => write!(f, "writing failed; {BEGINNING}"),
+            Status::Memory => write!(f, "no memory was left; {BEGINNING}"),
+            Status::TooLong => write!(f, "the input has more than 16,777,216 bytes; {BEGINNING}"),
+        }
+    }
+}
+
+/// What holds of all that was written where the answer was cut short.
+const BEGINNING: &str = "what was written is the beginning of an answer";
+
+/// What the commands do that are built.
+const BUILT: &str =
+    "`ecall run` plays a script and `ecall decode` describes sets of data, from standard input";
+
+/// Whether a command of this name is planned and not built yet.
+fn is_planned(word: &str) -> bool {
+    matches!(
+        word,
+        "register" | "encode" | "frames" | "replay" | "trial" | "make" | "conform"
+    )
+}
+
+/// Why the words are no form of words.
+fn write_usage<W: fmt::Write>(f: &mut fmt::Formatter<W>, word: Option<&str>) -> fmt::Result {
+    match word {
+        None => write!(f, "no command was given: {BUILT}"),
+        Some(word) if is_planned(word) => {
+            write!(f, "`{word}` is planned and isn't built yet: {BUILT}")
+        }
+        Some(_) => write!(f, "these words are no command: {BUILT}"),
+    }
+}
+
+/// What a line has that is refused for this reason.
+fn line_fault(reason: LineReason) -> &'static str {
+    match reason {
+        LineReason::Word => "a word that is none of those that may stand there",
+        LineReason::Number => "a number that isn't decimal, begins with 0, or is out of its range",
+        LineReason::Count => "too few or too many words",
+        LineReason::LineLong => "more than 512 bytes",
+        LineReason::Text => "a byte that is neither a printable character nor a space",
+        LineReason::Hex => "no even number of hexadecimal digits, or too many octets",
+        LineReason::Missing => "an event, with no set of data before it",
+        LineReason::Late => "a set of data, with an event before it",
+    }
+}
+
+/// What helps against that, behind the reason's number.
+fn line_help(reason: LineReason) -> &'static str {
+    match reason {
+        LineReason::Count => "; one space stands between two words",
+        LineReason::Text => "; a tab, a carriage return and a byte order mark are such bytes",
+        LineReason::Missing => "; put a `set` line in front of the first event",
+        LineReason::Late => "; put it in front of the first event",
+        LineReason::Word | LineReason::Number | LineReason::LineLong | LineReason::Hex => "",
+    }
+}
+
+fn write_line<W: fmt::Write>(f: &mut fmt::Formatter<W>, bad: BadLine) -> fmt::Result {
+    let line = bad.line;
+    let fault = line_fault(bad.reason);
+    let code = bad.reason.code();
+    let help = line_help(bad.reason);
+    write!(f, "line {line}: {fault} (reason {code}){help}")
+}
+
+fn write_set<W: fmt::Write>(f: &mut fmt::Formatter<W>, line: u32, refusal: Refusal) -> fmt::Result {
+    write!(f, "line {line}: no set of data: ")?;
+    write_set_fault(f, refusal.reason, refusal.value)?;
+    if !matches!(refusal.reason, SetReason::Size) {
+        let bit = refusal.place;
+        write!(f, ", at bit {bit} from 0")?;
+    }
+    let code = refusal.reason.code();
+    write!(f, " (reason {code})")
+}
+
+/// What stands at the place of a refusal, as far as its value says it.
+fn write_set_fault<W: fmt::Write>(
+    f: &mut fmt::Formatter<W>,
+    reason: SetReason,
+    value: u64,
+) -> fmt::Result {
+    match reason {
+        SetReason::Short => write!(f, "too few bits are left ({value} wanted)"),
+        SetReason::OutOfRange => write!(f, "the number {value}, which is above its range"),
+        SetReason::LongLength => write!(
+            f,
+            "a length whose eight bits begin with 1 and read {value}"
+        ),
+        SetReason::SmallLarge => {
+            write!(
+                f,
+                "a small number whose seven bits begin with 1 and read {value}"
+            )
+        }
+        SetReason::NoAddition => write!(f, "a section of {value} additions, none of them present"),
+        SetReason::EmptyOpen => write!(f, "an addition without octets"),
+        SetReason::BadOid if value == 0 => write!(f, "an object identifier without octets"),
+        SetReason::BadOid => write!(f, "an octet {value} that no object identifier has there"),
+        SetReason::Format => write!(f, "the format {value}, where 2 is the only one"),
+        SetReason::PadBits => write!(f, "a bit 1 where zero bits fill the last octet"),
+        SetReason::Trailing => write!(f, "an octet {value} behind the set, where each has to be 0"),
+        SetReason::Size if value == 0 => write!(f, "there are no octets"),
+        SetReason::Size => write!(f, "there are more than 140 octets"),
+    }
+}

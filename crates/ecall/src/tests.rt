@@ -1,0 +1,185 @@
+//! The sentences that a person is told.
+
+use crate::explanation::Explanation;
+use ecall_top::{Refused, Status};
+use per_bits::{Reason as SetReason, Refusal};
+use std::test::Fail;
+use trace_text::{BadLine, Reason as LineReason};
+
+#[test]
+fn explains_lines(rt: HostRuntime) -> Result<(), Fail> {
+    let table = [
+        (
+            LineReason::Word,
+            "a word that is none of those that may stand there (reason 1)",
+        ),
+        (
+            LineReason::Number,
+            "a number that isn't decimal, begins with 0, or is out of its range (reason 2)",
+        ),
+        (
+            LineReason::Count,
+            "too few or too many words (reason 3); one space stands between two words",
+        ),
+        (LineReason::LineLong, "more than 512 bytes (reason 4)"),
+        (
+            LineReason::Text,
+            "a byte that is neither a printable character nor a space (reason 5); a tab, a carriage return and a byte order mark are such bytes",
+        ),
+        (
+            LineReason::Hex,
+            "no even number of hexadecimal digits, or too many octets (reason 6)",
+        ),
+        (
+            LineReason::Missing,
+            "an event, with no set of data before it (reason 7); put a `set` line in front of the first event",
+        ),
+        (
+            LineReason::Late,
+            "a set of data, with an event before it (reason 8); put it in front of the first event",
+        ),
+    ];
+    for (reason, text) in &table {
+        let bad = BadLine {
+            line: 3,
+            reason: *reason,
+        };
+        let why = Explanation {
+            status: Status::Refused(Refused::Line(bad)),
+            word: Some("run"),
+        };
+        let want = format!(in rt.alloc(); "line 3: {text}")?;
+        assert_eq!(rt; format!(in rt.alloc(); "{why}")?.as_str(), want.as_str());
+    }
+    Ok(())
+}
+
+#[test]
+fn explains_sets(rt: HostRuntime) -> Result<(), Fail> {
+    let table = [
+        (
+            SetReason::Short,
+            8,
+            "too few bits are left (8 wanted), at bit 237 from 0 (reason 1)",
+        ),
+        (
+            SetReason::OutOfRange,
+            33,
+            "the number 33, which is above its range, at bit 237 from 0 (reason 2)",
+        ),
+        (
+            SetReason::LongLength,
+            128,
+            "a length whose eight bits begin with 1 and read 128, at bit 237 from 0 (reason 3)",
+        ),
+        (
+            SetReason::SmallLarge,
+            64,
+            "a small number whose seven bits begin with 1 and read 64, at bit 237 from 0 (reason 4)",
+        ),
+        (
+            SetReason::NoAddition,
+            5,
+            "a section of 5 additions, none of them present, at bit 237 from 0 (reason 5)",
+        ),
+        (
+            SetReason::EmptyOpen,
+            0,
+            "an addition without octets, at bit 237 from 0 (reason 6)",
+        ),
+        (
+            SetReason::BadOid,
+            0,
+            "an object identifier without octets, at bit 237 from 0 (reason 7)",
+        ),
+        (
+            SetReason::BadOid,
+            128,
+            "an octet 128 that no object identifier has there, at bit 237 from 0 (reason 7)",
+        ),
+        (
+            SetReason::Format,
+            3,
+            "the format 3, where 2 is the only one, at bit 237 from 0 (reason 8)",
+        ),
+        (
+            SetReason::PadBits,
+            1,
+            "a bit 1 where zero bits fill the last octet, at bit 237 from 0 (reason 9)",
+        ),
+        (
+            SetReason::Trailing,
+            7,
+            "an octet 7 behind the set, where each has to be 0, at bit 237 from 0 (reason 10)",
+        ),
+        (SetReason::Size, 0, "there are no octets (reason 11)"),
+        (
+            SetReason::Size,
+            141,
+            "there are more than 140 octets (reason 11)",
+        ),
+    ];
+    for (reason, value, text) in &table {
+        let refusal = Refusal {
+            place: 237,
+            reason: *reason,
+            value: *value,
+        };
+        let status = Status::Refused(Refused::Set { line: 3, refusal });
+        let why = Explanation {
+            status,
+            word: Some("decode"),
+        };
+        let want = format!(in rt.alloc(); "line 3: no set of data: {text}")?;
+        assert_eq!(rt; format!(in rt.alloc(); "{why}")?.as_str(), want.as_str());
+    }
+    Ok(())
+}
+
+#[test]
+fn explains_words_and_faults(rt: HostRuntime) -> Result<(), Fail> {
+    let table = [
+        (Status::Usage, None, "no command was given: "),
+        (
+            Status::Usage,
+            Some("make"),
+            "`make` is planned and isn't built yet: ",
+        ),
+        (
+            Status::Usage,
+            Some("--help"),
+            "these words are no command: ",
+        ),
+        (
+            Status::ReadFault,
+            Some("run"),
+            "reading failed; what was written is the beginning of an answer",
+        ),
+        (
+            Status::WriteFault,
+            Some("run"),
+            "writing failed; what was written is the beginning of an answer",
+        ),
+        (
+            Status::Memory,
+            Some("run"),
+            "no memory was left; what was written is the beginning of an answer",
+        ),
+        (
+            Status::TooLong,
+            Some("run"),
+            "the input has more than 16,777,216 bytes; what was written is the beginning of an answer",
+        ),
+    ];
+    for (status, word, text) in &table {
+        let why = Explanation {
+            status: *status,
+            word: *word,
+        };
+        assert!(rt;
+            format!(in rt.alloc(); "{why}")?.as_str().starts_with(text),
+            "{text}"
+        );
+    }
+    Ok(())
+}

@@ -1,0 +1,21 @@
+-- Each command has one reply to each input.
+use Rattle.std.specs.Prelude.{◌≡◌, ℕ, List, Option, Some, None}
+use Rattle.std.proofs.Common.{sym, ◌∙◌, refl}
+use Rattle.trace_text.specs.Lines.{lines_of}
+use Rattle.ecall_top.specs.declared.command.Command.{Command}
+use Rattle.ecall_top.specs.declared.command.Command.TheVariants as command
+use Rattle.ecall_top.specs.declared.status.Status.TheVariants as status
+use Rattle.ecall_top.specs.Refusals.{Reply}
+use Rattle.ecall_top.specs.Replies.{Replies, usage_line}
+use Rattle.ecall_top.specs.Run.{run_reply}
+use Rattle.ecall_top.proofs.Sets.{decoded_some, decoded_one}
+
+pub replies_some : (asked : Option Command) (input : List ℕ) → (r : Reply) × Replies asked input r
+replies_some None input = (record { text = usage_line; status = status.Usage }, refl)
+replies_some (Some command.Run) input = (run_reply input, refl)
+replies_some (Some command.Decode) input = decoded_some 1 (lines_of input)
+
+pub replies_one : (asked : Option Command) (input : List ℕ) (r s : Reply) → Replies asked input r → Replies asked input s → r ≡ s
+replies_one None input r s a b = a ∙ sym b
+replies_one (Some command.Run) input r s a b = a ∙ sym b
+replies_one (Some command.Decode) input r s a b = decoded_one 1 (lines_of input) r s a b

@@ -1,0 +1,23 @@
+use Rattle.std.specs.Prelude.{map}
+use Rattle.std.specs.String.{string_bytes}
+use Rattle.std.proofs.Common.{sym, ◌∙◌, ap, Some, None}
+use Rattle.call_io.specs.Blocks.{held}
+use Rattle.ecall_top.specs.Commands.{command_of}
+use Rattle.ecall_top.specs.declared.command.Command.TheVariants as command
+use Rattle.ecall_top.proofs.Worded.{used, named}
+use Rattle.ecall_top.proofs.reply.Goals as goal
+
+pub returns-in-Some-Run-clause-outcome : goal.returns-in-Some-Run-clause-outcome
+returns-in-Some-Run-clause-outcome g c =
+    named (command_of (map string_bytes c.args.words.now)) (Some command.Run) (g.I.Source.left c.args.input.now) (g.I.Source.left c.run.new.input) (held g.O.Sink.held c.args.output.now) (held g.O.Sink.held c.run.new.output) c.run.result
+    (sym c.read_command.ensures ∙ (c.in-Some-Run.is ∙ ap Some c.in-Some-Run.field-0-is)) c.run.ensures.outcome
+
+pub returns-in-Some-Decode-clause-outcome : goal.returns-in-Some-Decode-clause-outcome
+returns-in-Some-Decode-clause-outcome g c =
+    named (command_of (map string_bytes c.args.words.now)) (Some command.Decode) (g.I.Source.left c.args.input.now) (g.I.Source.left c.decode_sets.new.input) (held g.O.Sink.held c.args.output.now) (held g.O.Sink.held c.decode_sets.new.output) c.decode_sets.result
+    (sym c.read_command.ensures ∙ (c.in-Some-Decode.is ∙ ap Some c.in-Some-Decode.field-0-is)) c.decode_sets.ensures.outcome
+
+pub returns-in-None-clause-outcome : goal.returns-in-None-clause-outcome
+returns-in-None-clause-outcome g c =
+    named (command_of (map string_bytes c.args.words.now)) None (g.I.Source.left c.args.input.now) (g.I.Source.left c.args.input.now) (held g.O.Sink.held c.args.output.now) (held g.O.Sink.held c.usage.new.output) c.usage.result
+    (sym c.in-None.ensures) (used (g.I.Source.left c.args.input.now) (held g.O.Sink.held c.args.output.now) (held g.O.Sink.held c.usage.new.output) c.usage.result c.usage.ensures.ends)

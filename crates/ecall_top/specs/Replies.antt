@@ -1,0 +1,19 @@
+-- What `ecall` replies to words and a whole input. This project's profile. Cited by the contracts of `ecall` and of
+-- `reply_laws`.
+use Rattle.std.specs.Prelude.{◌≡◌, ℕ, List, [], ◌∷◌, ◌++◌, Option, Some, None, codes}
+use Rattle.trace_text.specs.Characters.{newline}
+use Rattle.ecall_top.specs.declared.command.Command.{Command}
+use Rattle.ecall_top.specs.declared.command.Command.TheVariants as command
+use Rattle.ecall_top.specs.declared.status.Status.TheVariants as status
+use Rattle.ecall_top.specs.Decode.{IsDecoded}
+use Rattle.ecall_top.specs.Refusals.{Reply}
+use Rattle.ecall_top.specs.Run.{run_reply}
+
+abbrev pub usage_line : List ℕ
+usage_line = codes "usage: ecall run|register|decode|encode|frames|replay|trial N|make N|conform" ++ newline ∷ []
+
+-- the reply to a command and an input, or to words that name none
+abbrev pub Replies : Option Command → List ℕ → Reply → Type 0
+Replies None input r = r ≡ record { text = usage_line; status = status.Usage }
+Replies (Some command.Run) input r = r ≡ run_reply input
+Replies (Some command.Decode) input r = IsDecoded input r

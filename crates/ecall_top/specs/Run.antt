@@ -1,0 +1,31 @@
+-- What `ecall run` replies to a script: its trace, and then the refusal of the first line that is refused. This
+-- project's profile. Cited by the reply to words and an input, and by the law that every trace is agreed.
+use Rattle.std.specs.Prelude.{ℕ, List, [], Option, Some, None}
+use Rattle.ivs_machine.specs.declared.facts.Facts.TheVariants as facts
+use Rattle.trace_text.specs.declared.entry.Entry.{Entry}
+use Rattle.trace_text.specs.declared.event.Event.{Event}
+use Rattle.trace_text.specs.declared.reason.BadLine.{BadLine}
+use Rattle.trace_text.specs.EntryLine.{text_of}
+use Rattle.trace_text.specs.Script.{Script, script_of}
+use Rattle.channel_sim.specs.World.{trace}
+use Rattle.ecall_top.specs.declared.refusal.Refused.TheVariants as refused
+use Rattle.ecall_top.specs.declared.status.Status.TheVariants as status
+use Rattle.ecall_top.specs.Refusals.{Reply, refusal_reply, in_front_of}
+
+-- the trace of these events, where the vehicle's facts are known; without facts there is no event
+abbrev pub played : Option (List ℕ) → List Event → List Entry
+played None events = []
+played (Some octets) events = trace (facts.Ready octets) events
+
+-- the trace of a script
+abbrev pub script_trace : Script → List Entry
+script_trace script = played script.ready script.events
+
+-- a text, and then the line that refuses a line, where one is refused
+abbrev pub ended : List ℕ → Option BadLine → Reply
+ended text None = record { text = text; status = status.Done }
+ended text (Some bad) = in_front_of text (refusal_reply (refused.Line bad))
+
+-- the reply of `run` to an input
+abbrev pub run_reply : List ℕ → Reply
+run_reply input = ended (text_of (script_trace (script_of input))) (script_of input).refused

@@ -1,0 +1,9 @@
+-- Definitions that only contracts of private functions cite: how a command stands between two lines, and what one more
+-- line makes of it. No public contract rests on them.
+pub mod DecodeTurns
+pub mod Ends
+pub mod Progress
+pub mod RunTurns
+pub mod Stage
+pub mod Standing
+pub mod Taken

@@ -1,0 +1,41 @@
+-- How far a run has come: what the lines so far said, and what is told of them. This project's profile. Cited by the
+-- contracts of the functions that play a script line by line.
+use Rattle.std.specs.Prelude.{◌≡◌, ℕ, ◌+◌, List, [], ◌∷◌, ◌++◌, Option, Some, None}
+use Rattle.ivs_machine.specs.declared.facts.Facts.TheVariants as facts
+use Rattle.trace_text.specs.declared.entry.Entry.{Entry}
+use Rattle.trace_text.specs.declared.event.Event.{Event}
+use Rattle.trace_text.specs.declared.script.ScriptLine.{ScriptLine}
+use Rattle.trace_text.specs.declared.script.ScriptLine.TheVariants as line
+use Rattle.trace_text.specs.Lines.{lines_of}
+use Rattle.trace_text.specs.Reading.{Reading, MayFollow}
+use Rattle.trace_text.specs.Script.{Said, Script, script_of, script_from}
+use Rattle.channel_sim.specs.World.{World, first_world, world_after, step}
+
+-- these events in front of a script's
+abbrev pub events_before : List Event → Script → Script
+events_before events script = record script { events = events ++ script.events }
+
+-- The lines in this front of a text said this and brought these events, and whatever may follow it is read behind them.
+pub record ReadSoFar (front : List ℕ) (reading : Reading) (said : Said) (events : List Event) : Type 0 where
+  pub script : (more : List ℕ) → MayFollow reading.feed more
+      → script_of (front ++ more) ≡ events_before events (script_from said (reading.lines + 1) (lines_of more))
+
+-- the event of a line, if it is an event line
+abbrev pub event_of : ScriptLine → List Event
+event_of (line.Fact f) = []
+event_of (line.Event e) = e ∷ []
+
+-- the world that these events leave, where the vehicle's facts are known
+abbrev pub world_left : Option (List ℕ) → List Event → Option World
+world_left None events = None
+world_left (Some octets) events = Some (world_after (first_world (facts.Ready octets)) events)
+
+-- what an event gives in a world
+abbrev pub entries_in : Option World → ScriptLine → List Entry
+entries_in None says = []
+entries_in (Some w) (line.Fact f) = []
+entries_in (Some w) (line.Event e) = (step w e).entries
+
+-- what a line gives in the world that these events leave
+abbrev pub entries_of : Said → List Event → ScriptLine → List Entry
+entries_of said events says = entries_in (world_left said.ready events) says
