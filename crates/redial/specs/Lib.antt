@@ -1,0 +1,3 @@
+pub mod Series
+pub mod SeriesRows
+pub mod inner
