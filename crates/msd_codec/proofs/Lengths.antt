@@ -132,7 +132,7 @@ pub flag_bits : (v : Bool) (n : ℕ) → n ≡ from_bool v → HasLength (Flag v
 flag_bits true n e = record { elements = element kind.truth (true ∷ []) ∷ []; spelled = record { written = λ h. refl; left = λ h. absurd (cc h) }; count = e }
 flag_bits false n e = record { elements = []; spelled = record { written = λ h. absurd (cc h); left = λ h. refl }; count = e }
 
-text_spelled : (cs : List ℕ) → AllPass is_vin_character cs → (es : List Element) × TextElements (length cs) cs es
+pub text_spelled : (cs : List ℕ) → AllPass is_vin_character cs → (es : List Element) × TextElements (length cs) cs es
 text_spelled [] pass = ([], refl)
 text_spelled (c ∷ cs) pass =
     let known = is_known c (All-head (λ x. is_vin_character x ≡ true) c cs pass) in

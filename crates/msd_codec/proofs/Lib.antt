@@ -7,7 +7,10 @@ pub mod Rest
 pub mod Values
 pub mod Alike
 pub mod SetLaws
+pub mod CanonicalBits
 pub mod Puts
 pub mod Texts
 pub mod Lengths
 pub mod Presence
+pub mod TextNumbers
+pub mod Joined

@@ -1,9 +1,10 @@
 -- The number that presence bits read.
-use Rattle.std.proofs.Common.{◌≡◌, ℕ, ◌+◌, ◌*◌, ◌^◌, ◌<◌, Bool, true, false, List, [], ◌∷◌, length, take, get_or, Result, refl, sym, ap, subst, ◌∙◌, arith}
+use Rattle.std.proofs.Common.{◌≡◌, ℕ, ◌+◌, ◌*◌, ◌^◌, ◌<◌, ◌≤◌, Bool, true, false, List, [], ◌∷◌, ◌++◌, length, take, get_or, Result, Ok, Err, refl, sym, ap, subst, ◌∙◌, arith}
+use Rattle.std.specs.Prelude.{OnOk}
 use Rattle.std.specs.Int.{from_bool}
 use Rattle.std.proofs.lemmas.List.{take_more}
 use Rattle.std.proofs.lemmas.Grind.{pow_more}
-use Rattle.per_bits.specs.Bits.{value_of, digits}
+use Rattle.per_bits.specs.Bits.{value_of, digits, room_bits}
 use Rattle.per_bits.proofs.Digits.{value_append, digits_value}
 use Rattle.per_types.specs.Kinds.{bits_of}
 use Rattle.per_types.specs.Spelling.{PresenceElements}
@@ -29,3 +30,18 @@ pub presence_put : {X E : Type 0} (ps : List Bool) (n : ℕ) (old new : List Boo
 presence_put ps n old new r is w =
     let same : digits (length ps) n ≡ ps = ap (digits (length ps)) is ∙ digits_value ps in
     put_of (PresenceElements (length ps) ps) old new r (λ a b s t. ap bits_of (s.1 ∙ sym t.1)) (subst (λ (qs : List Bool). AppendsSpelling (PresenceElements (length ps) qs) old r new) same w)
+
+-- bits that were put as the number that they read
+pub bits_put : {X E : Type 0} (ps : List Bool) (n : ℕ) (old new : List Bool) (r : Result X E) → n ≡ value_of ps → OnOk r ((length old + length ps ≤ room_bits) × (new ≡ old ++ digits (length ps) n)) → OnOk r (new ≡ old ++ ps)
+bits_put ps n old new (Ok x) is h = h.1 ∙ ap (λ (l : List Bool). old ++ l) (ap (digits (length ps)) is ∙ digits_value ps)
+bits_put ps n old new (Err e) is h = tt
+
+pub three_value : (a b c : Bool) (x y z : ℕ) → x ≡ from_bool a → y ≡ from_bool b → z ≡ from_bool c → 4 * x + 2 * y + z ≡ value_of (a ∷ b ∷ c ∷ [])
+three_value true true true x y z e f g = omega (arith, e, f, g)
+three_value true true false x y z e f g = omega (arith, e, f, g)
+three_value true false true x y z e f g = omega (arith, e, f, g)
+three_value true false false x y z e f g = omega (arith, e, f, g)
+three_value false true true x y z e f g = omega (arith, e, f, g)
+three_value false true false x y z e f g = omega (arith, e, f, g)
+three_value false false true x y z e f g = omega (arith, e, f, g)
+three_value false false false x y z e f g = omega (arith, e, f, g)

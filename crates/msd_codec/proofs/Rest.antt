@@ -7,7 +7,7 @@ use Rattle.std.proofs.Math.Seq.{drop-cons}
 use Rattle.std.proofs.lemmas.Bool.Decides.{nat_tests}
 use Rattle.per_bits.specs.declared.refusals.Refusal.{Refusal}
 use Rattle.per_bits.specs.declared.refusals.Reason.TheVariants.{PadBits, Trailing}
-use Rattle.msd_codec.specs.inner.Reading.{pad_fault, appended_fault}
+use Rattle.msd_codec.specs.Reading.{pad_fault, appended_fault}
 
 abbrev pub padding_refusal : ℕ → Refusal
 padding_refusal place = record { place = place; reason = PadBits; value = 1 }

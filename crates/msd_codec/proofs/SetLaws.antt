@@ -1,6 +1,6 @@
 -- The reading of a list of octets is what they show, or where they stop.
 use Rattle.std.proofs.Common.{◌≡◌, ℕ, zero, suc, ◌+◌, ◌-◌, ◌*◌, ◌/◌, ◌<◌, ◌≤◌, Bool, true, false, List, [], ◌∷◌, ◌++◌, length, take, drop, replicate, Option, Some, None, Result, Ok, Err, refl, sym, ap, subst, ◌∙◌, arith, append_assoc, append-nil, ◌⊎◌, inl, inr, lit<}
-use Rattle.std.specs.Prelude.{◌==◌, ◌||◌, nat_lt, min, ◌↔◌, if◌then◌else◌}
+use Rattle.std.specs.Prelude.{◌==◌, ◌||◌, nat_lt, min, ◌↔◌, MatchResult}
 use Rattle.std.proofs.lemmas.Bool.Decides.{nat_tests}
 use Rattle.std.proofs.lemmas.Bool.{cases_lt}
 use Rattle.std.proofs.lemmas.Int.{ints}
@@ -23,7 +23,7 @@ use Rattle.per_types.proofs.Decided.{only_type}
 use Rattle.per_types.proofs.Canonicals.{canonical_spells, one_canonical}
 use Rattle.msd_codec.specs.Module.{octet, timestamp, angle, angle_delta, vehicle_type, control_type, vehicle_identification, storages, propulsion_storage, vehicle_location, location_delta, msd_structure, additional_data, msd_message, ecall_message}
 use Rattle.msd_codec.specs.Sets.{HasSize, Shows, ShowsTree, StopsAtPadding, StopsAtAppended, StopsAt, at_size, at_element, at_padding, at_appended, AreCanonical}
-use Rattle.msd_codec.specs.inner.Reading.{rest_fault, pad_fault, appended_fault, pad_count}
+use Rattle.msd_codec.specs.Reading.{rest_fault, pad_fault, appended_fault, pad_count, unless, finished, reading_of}
 use Rattle.msd_values.specs.declared.msd.Msd.{Msd}
 use Rattle.msd_values.specs.Description.{description}
 use Rattle.msd_codec.specs.Trees.{tree}
@@ -80,22 +80,6 @@ only_set : IsOnlyReading (Elements false ecall_message) (tree_at ecall_message)
 only_set = only_type ecall_message has_values
 
 -- ---- the reading of octets
-
--- the value, unless something is refused
-abbrev unless : {X : Type 0} → Option Refusal → X → Result X Refusal
-unless None v = Ok v
-unless (Some refusal) v = Err refusal
-
-abbrev finished : List ℕ → Read Tree → Result Tree Refusal
-finished octets (Ok x) = unless (rest_fault octets x.1.start) x.0
-finished octets (Err e) = Err e.0
-
--- the value that the octets show, or their refusal
-pub reading_of : List ℕ → Result Tree Refusal
-reading_of octets =
-    if (length octets == 0) || nat_lt 140 (length octets)
-    then Err (record { place = 0; reason = Size; value = min 141 (length octets) })
-    else finished octets (tree_at ecall_message (all_bits octets))
 
 -- a reading's answer is the value that the octets show, or where they stop
 abbrev pub IsAnswer : List ℕ → Result Tree Refusal → Type 0
@@ -309,7 +293,7 @@ is_padded octets b more e =
       others_are = ap (drop (end_of b / 8)) e ∙ drop_at (padded b) more (end_of b / 8) (padded_long b);
     }
 
-shows_read : (octets : List ℕ) (v : Tree) → ShowsTree octets v → Ok v ≡ reading_of octets
+pub shows_read : (octets : List ℕ) (v : Tree) → ShowsTree octets v → Ok v ≡ reading_of octets
 shows_read octets v s =
     let p = is_padded octets s.spelling (replicate s.appended 0) s.made in
     let no_fault : rest_fault octets (length s.spelling) ≡ None =
@@ -336,7 +320,7 @@ appended_read octets refusal s =
     rest_others octets b p.pads_none ∙ ap (appended_fault (end_of b)) p.others_are ∙ appended_at s.zeros (end_of b) s.octet s.rest s.some ∙ ap (λ n. Some (appended_refusal n s.octet)) place in
     read_spelled octets s.value b _ s.size s.spells p.bits ∙ ap (λ o. unless o s.value) found ∙ ap (λ (r : Refusal). Err r) (sym s.refused)
 
-stops_read : (octets : List ℕ) (refusal : Refusal) → StopsAt octets refusal → Err refusal ≡ reading_of octets
+pub stops_read : (octets : List ℕ) (refusal : Refusal) → StopsAt octets refusal → Err refusal ≡ reading_of octets
 stops_read octets refusal (at_size s) = sym (read_unsized octets s.size ∙ ap (λ (r : Refusal). Err r) (sym s.refused))
 stops_read octets refusal (at_element s) = sym (read_sized octets s.size ∙ ap (finished octets) (sym ((only_set (all_bits octets) (Err (refusal, s.left))).1 s.stops)))
 stops_read octets refusal (at_padding s) = sym (padding_read octets refusal s)
@@ -350,6 +334,12 @@ pub answer_is : (octets : List ℕ) (answer : Result Tree Refusal) → AreOctets
 answer_is octets answer small e = subst (IsAnswer octets) (sym e) (reading_is octets small)
 
 -- ---- the laws
+
+pub read_exactly : (octets : List ℕ) (v : Tree) → AreOctets octets → (reading_of octets ≡ Ok v) ↔ ShowsTree octets v
+read_exactly octets v small = (λ e. answer_is octets (Ok v) small (sym e), λ s. sym (shows_read octets v s))
+
+pub refused_exactly : (octets : List ℕ) (refusal : Refusal) → AreOctets octets → (reading_of octets ≡ Err refusal) ↔ StopsAt octets refusal
+refused_exactly octets refusal small = (λ e. answer_is octets (Err refusal) small (sym e), λ s. sym (stops_read octets refusal s))
 
 pub decided : (octets : List ℕ) → AreOctets octets → ((msd : Msd) × Shows octets msd) ⊎ ((refusal : Refusal) × StopsAt octets refusal)
 decided octets small =
@@ -447,6 +437,13 @@ module _ (octets : List ℕ) (p : Part) (size : HasSize octets) (is : p ≡ all_
 
 pub exit_stopped : {X : Type 0} (octets : List ℕ) (r : Result X Refusal) (e : Refusal) → AreOctets octets → IsErrAnd r (λ y. y ≡ e) → reading_of octets ≡ Err e → IfErr r (λ refusal. StopsAt octets refusal)
 exit_stopped octets r e small is same = let p = err_from_is_err_and r is in rw (p.1, p.2) (answer_is octets (Err e) small (sym same))
+
+-- the answer, seen by view, is that of the reading
+abbrev pub IsReadAs : {X : Type 0} → (X → Tree) → List ℕ → Result X Refusal → Type 0
+IsReadAs view octets r = MatchResult r (λ x. reading_of octets ≡ Ok (view x)) (λ e. reading_of octets ≡ Err e)
+
+pub exit_read : {X : Type 0} (view : X → Tree) (octets : List ℕ) (r : Result X Refusal) (e : Refusal) → IsErrAnd r (λ y. y ≡ e) → reading_of octets ≡ Err e → IsReadAs view octets r
+exit_read view octets r e is same = let p = err_from_is_err_and r is in rw (p.1, p.2) same
 
 pub size_refused : (octets : List ℕ) (n : ℕ) → (length octets ≡ 0) ⊎ (140 < length octets) → n ≡ min 141 (length octets) → reading_of octets ≡ Err (record { place = 0; reason = Size; value = n })
 size_refused octets n h e = read_unsized octets h ∙ ap (λ (k : ℕ). Err (record { place = 0; reason = Size; value = k })) (sym e)

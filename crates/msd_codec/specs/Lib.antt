@@ -2,4 +2,6 @@ pub mod Module
 pub mod Trees
 pub mod Sets
 pub mod Places
+pub mod Canonical
+pub mod Reading
 pub mod inner

@@ -1,14 +1,16 @@
 //! What holds of all sets of data. The function here does nothing: its contract is the laws.
-ghost use Rattle.std.specs.Prelude.{◌≡◌, ◌↔◌, ◌⊎◌, ℕ, ◌≤◌, Bool, List, [], ◌++◌, length};
+ghost use Rattle.std.specs.Prelude.{◌≡◌, ◌↔◌, ◌⊎◌, ℕ, ◌≤◌, Bool, List, [], ◌++◌, length, Ok, Err};
 ghost use Rattle.per_bits.specs.Bits.{room_octets};
 ghost use Rattle.per_bits.specs.Parts.{AreOctets};
 ghost use Rattle.per_bits.specs.declared.refusals.Refusal.{Refusal};
-ghost use Rattle.per_types.specs.Types.{Tree};
-ghost use Rattle.per_types.specs.Spelling.{Spells};
+ghost use Rattle.per_types.specs.Types.{Tree, Ty};
+ghost use Rattle.per_types.specs.Spelling.{Spells, Canonical};
 ghost use Rattle.msd_values.specs.declared.msd.Msd.{Msd};
 ghost use Rattle.msd_values.specs.Description.{description};
 ghost use Rattle.msd_codec.specs.Module.{ecall_message};
 ghost use Rattle.msd_codec.specs.Trees.{tree};
+ghost use Rattle.msd_codec.specs.Canonical.{canonical_bits, canonical_octets};
+ghost use Rattle.msd_codec.specs.Reading.{reading_of};
 ghost use Rattle.msd_codec.specs.Sets.{Shows, ShowsTree, StopsAt, AreCanonical};
 
 /// The laws of the sets of format 2. Values are trees of the module; that of a set of data is `tree` of it.
@@ -28,6 +30,12 @@ pub fn spelling_laws()
     ensures shown { (octets : List ℕ) (v : Tree) → AreCanonical octets v → length octets ≤ room_octets → ShowsTree octets v }
     // Two values have equal canonical octets exactly where they are equal.
     ensures canonical { (v w : Tree) (o p : List ℕ) → AreCanonical o v → AreCanonical p w → (o ≡ p) ↔ (v ≡ w) }
+    // The canonical spelling of a value of any type is what the function gives, and so are the canonical octets.
+    ensures spelled { (t : Ty) (v : Tree) (b : List Bool) → Canonical t v b → b ≡ canonical_bits t v }
+    ensures octets { (v : Tree) (octets : List ℕ) → AreCanonical octets v → octets ≡ canonical_octets v }
+    // Reading answers a value exactly where the octets show it, and a refusal exactly where they stop so.
+    ensures read { (octets : List ℕ) (v : Tree) → AreOctets octets → (reading_of octets ≡ Ok v) ↔ ShowsTree octets v }
+    ensures refused { (octets : List ℕ) (refusal : Refusal) → AreOctets octets → (reading_of octets ≡ Err refusal) ↔ StopsAt octets refusal }
     // What was written is what is read.
     ensures again { (octets : List ℕ) (v w : Msd) → AreCanonical octets (tree v) → Shows octets w → tree w ≡ tree v }
 {}

@@ -1,6 +1,8 @@
 //! Reading a set of data.
-ghost use Rattle.std.specs.Prelude.{length, IfOk, IfErr, IfSome};
+ghost use Rattle.std.specs.Prelude.{◌≡◌, length, Ok, Err, IfOk, IfErr, IfSome, MatchResult};
 ghost use Rattle.per_bits.specs.Bits.{octet_bits};
+ghost use Rattle.msd_codec.specs.Trees.{tree};
+ghost use Rattle.msd_codec.specs.Reading.{reading_of};
 ghost use Rattle.msd_codec.specs.Sets.{Shows, StopsAt};
 ghost use Rattle.msd_codec.specs.Places.{LieBetween, ContentFollows, parts_of};
 
@@ -23,6 +25,8 @@ pub fn decode(octets: &[u8]) -> Result<Msd<'_>, Refusal>
     // What is accepted is shown, and what is refused stops so. By the laws there is one answer.
     ensures shown { IfOk result (λ msd. Shows octets.now msd) }
     ensures stopped { IfErr result (λ refusal. StopsAt octets.now refusal) }
+    // The answer is that of reading the octets, seen by the tree of the set.
+    ensures read { MatchResult result (λ msd. reading_of octets.now ≡ Ok (tree msd)) (λ refusal. reading_of octets.now ≡ Err refusal) }
     // Each part has the bits of the octets from its start on, and they lie one behind the other.
     ensures parts { IfOk result (λ msd. LieBetween (octet_bits octets.now) 0 (parts_of msd) (length (octet_bits octets.now))) }
     // Where the content of additional data has no octets, its bits say nothing of its place.

@@ -1,13 +1,16 @@
 //! Writing a set of data.
-ghost use Rattle.std.specs.Prelude.{◌≤◌, length, IfOk, IfErr};
-ghost use Rattle.per_bits.specs.Bits.{room_octets};
+ghost use Rattle.std.specs.Prelude.{◌≡◌, ◌<◌, ◌≤◌, length, IfOk, IfErr};
+ghost use Rattle.per_bits.specs.Bits.{room_bits, room_octets};
+ghost use Rattle.msd_codec.specs.Module.{ecall_message};
 ghost use Rattle.msd_codec.specs.Trees.{tree};
+ghost use Rattle.msd_codec.specs.Canonical.{canonical_bits, canonical_octets};
 ghost use Rattle.msd_codec.specs.Sets.{AreCanonical, NeedsMoreBits};
 
 mod elements;
 mod lengths;
 mod message;
 mod structure;
+mod texts;
 
 use crate::writing::lengths::message_len;
 use crate::writing::message::write_message;
@@ -27,6 +30,9 @@ pub struct TooLong {
 pub fn encode(msd: &Msd<'_>) -> Result<ArrayVec<u8, 140>, TooLong>
     ensures canonical { IfOk result (λ octets. AreCanonical octets.items (tree msd.now)) }
     ensures few { IfOk result (λ octets. length octets.items ≤ room_octets) }
+    // Which octets these are, and how many bits the spelling has.
+    ensures octets { IfOk result (λ octets. octets.items ≡ canonical_octets (tree msd.now)) }
+    ensures bits { IfErr result (λ e. (e.bits ≡ length (canonical_bits ecall_message (tree msd.now))) × (room_bits < e.bits)) }
     ensures long { IfErr result (λ e. NeedsMoreBits (tree msd.now) e.bits) }
 {
     let mut to = BitBuf::new();

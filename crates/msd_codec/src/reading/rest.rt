@@ -1,7 +1,7 @@
 //! What follows a spelling: the bits that pad it to a whole octet, and the appended octets.
 ghost use Rattle.std.specs.Prelude.{◌≡◌, ◌+◌, ◌*◌, ◌/◌, ◌%◌, ◌≤◌, Some, None, MatchResult, length, drop};
 ghost use Rattle.per_bits.specs.Bits.{octet_bits, room_octets};
-ghost use Rattle.msd_codec.specs.inner.Reading.{pad_fault, appended_fault, rest_fault};
+ghost use Rattle.msd_codec.specs.Reading.{pad_fault, appended_fault, rest_fault};
 
 use per_bits::{Bits, Reason, Refusal};
 

@@ -1,11 +1,11 @@
 //! Writers of single components, each of the canonical spelling.
-ghost use Rattle.std.specs.Prelude.{◌≡◌, ◌≤◌, ◌<◌, ◌^◌, true, length};
-ghost use Rattle.per_bits.specs.Bits.{value_of};
-ghost use Rattle.per_types.specs.Types.{truth, number, boolean};
+ghost use Rattle.std.specs.Prelude.{◌≡◌, ◌+◌, ◌≤◌, ◌<◌, ◌^◌, [], ◌∷◌, ◌++◌, true, length, OnOk, OnErr};
+ghost use Rattle.per_bits.specs.Bits.{value_of, room_bits};
+ghost use Rattle.per_types.specs.Types.{number};
 ghost use Rattle.per_types.specs.Spelling.{TruthElements, PresenceElements, MoreElements};
 ghost use Rattle.msd_values.specs.Position.{IsDelta};
-ghost use Rattle.msd_codec.specs.Module.{octet, timestamp, angle, angle_delta, vehicle_type};
-ghost use Rattle.msd_codec.specs.Trees.{count_tree, kind_tree, more_of};
+ghost use Rattle.msd_codec.specs.Module.{octet, timestamp, angle_delta, vehicle_location, vehicle_type};
+ghost use Rattle.msd_codec.specs.Trees.{count_tree, kind_tree, more_of, pair_tree};
 ghost use Rattle.msd_codec.specs.inner.Writing.{Puts, Canon, Flag};
 
 use msd_values::VehicleKind;
@@ -40,11 +40,19 @@ fn presence_of(present: &[bool]) -> u16
     number
 }
 
-/// A BOOLEAN.
-pub fn write_truth(to: &mut BitBuf, value: bool) -> Result<(), Full>
-    ensures { Puts (Canon boolean (truth value)) to.old result to.new }
+/// Three BOOLEANs, one behind the other.
+pub fn write_truths(to: &mut BitBuf, first: bool, second: bool, third: bool) -> Result<(), Full>
+    ensures ok { OnOk result (to.new ≡ to.old ++ (first ∷ second ∷ third ∷ [])) }
+    ensures full { OnErr result (room_bits < length to.old + 3) }
 {
-    write_bool(to, value)
+    to.put(three_bits(first, second, third), 3)
+}
+
+// The number that three bits read.
+fn three_bits(first: bool, second: bool, third: bool) -> u64
+    ensures { result ≡ value_of (first ∷ second ∷ third ∷ []) }
+{
+    4 * u64::from(first) + 2 * u64::from(second) + u64::from(third)
 }
 
 /// A BOOLEAN DEFAULT FALSE, which is written where it is true.
@@ -68,11 +76,13 @@ pub fn write_timestamp(to: &mut BitBuf, value: u32) -> Result<(), Full>
     write_whole(to, i64::from(value), 0, 4_294_967_295, 32)
 }
 
-/// Milliarcseconds.
-pub fn write_angle(to: &mut BitBuf, value: i32) -> Result<(), Full>
-    ensures { Puts (Canon angle (number value)) to.old result to.new }
+/// Two angles in milliarcseconds, one behind the other.
+pub fn write_angles(to: &mut BitBuf, first: i32, second: i32) -> Result<(), Full>
+    ensures { Puts (Canon vehicle_location (pair_tree first second)) to.old result to.new }
 {
-    write_whole(to, i64::from(value), -2_147_483_648, 2_147_483_647, 32)
+    let first = u64::from(first.abs_diff(i32::MIN));
+    let second = u64::from(second.abs_diff(i32::MIN));
+    to.put(4_294_967_296 * first + second, 64)
 }
 
 /// Units of 100 milliarcseconds, from -512 to 511.

@@ -1,20 +1,16 @@
 //! Writers of the structure of a set of data and of its components.
-ghost use Rattle.std.specs.Prelude.{◌≡◌, length};
 ghost use Rattle.std.specs.Option.{option_map};
-ghost use Rattle.std.specs.List.{AllPass};
-ghost use Rattle.per_types.specs.Types.{text, characters};
-ghost use Rattle.msd_values.specs.Alphabet.{is_vin_character};
-ghost use Rattle.msd_codec.specs.Module.{octet, control_type, vehicle_identification, propulsion_storage, vehicle_location, location_delta, msd_structure};
-ghost use Rattle.msd_codec.specs.Trees.{count_tree, control_tree, vin_tree, storage_tree, pair_tree, way_tree, structure_tree};
+ghost use Rattle.msd_codec.specs.Module.{octet, control_type, vehicle_identification, propulsion_storage, location_delta, msd_structure};
+ghost use Rattle.msd_codec.specs.Trees.{count_tree, control_tree, vin_tree, storage_tree, way_tree, structure_tree};
 ghost use Rattle.msd_codec.specs.inner.Writing.{Puts, Canon, Optional};
 
 use crate::writing::elements::{
-    write_angle, write_angle_delta, write_extended, write_flag, write_more, write_octet,
-    write_present, write_timestamp, write_truth, write_vehicle_type,
+    write_angle_delta, write_angles, write_extended, write_flag, write_more, write_octet,
+    write_present, write_timestamp, write_truths, write_vehicle_type,
 };
+use crate::writing::texts::write_text;
 use msd_values::{Delta, Marks, Msd, VehicleKind, Vin};
 use per_bits::{Additions, BitBuf, Full};
-use per_types::write_char;
 
 /// The structure, which is the set of data without what stands beside it.
 pub fn write_structure(to: &mut BitBuf, msd: &Msd<'_>) -> Result<(), Full>
@@ -30,7 +26,7 @@ pub fn write_structure(to: &mut BitBuf, msd: &Msd<'_>) -> Result<(), Full>
     write_vin(to, &msd.vin)?;
     write_storage(to, msd.fuel, &msd.fuel_more)?;
     write_timestamp(to, msd.time)?;
-    write_location(to, msd.latitude, msd.longitude)?;
+    write_angles(to, msd.latitude, msd.longitude)?;
     write_octet(to, msd.heading)?;
     write_recent(to, msd.before1)?;
     write_recent(to, msd.before2)?;
@@ -48,9 +44,7 @@ fn write_control(
 ) -> Result<(), Full>
     ensures { Puts (Canon control_type (control_tree automatic test trusted kind)) to.old result to.new }
 {
-    write_truth(to, automatic)?;
-    write_truth(to, test)?;
-    write_truth(to, trusted)?;
+    write_truths(to, automatic, test, trusted)?;
     write_vehicle_type(to, kind)
 }
 
@@ -63,17 +57,6 @@ fn write_vin(to: &mut BitBuf, vin: &Vin) -> Result<(), Full>
     write_text(to, &text[3..9])?;
     write_text(to, &text[9..10])?;
     write_text(to, &text[10..])
-}
-
-// Characters, one behind the other.
-fn write_text(to: &mut BitBuf, piece: &[u8]) -> Result<(), Full>
-    requires { AllPass is_vin_character piece.now }
-    ensures { Puts (Canon (characters (length piece.now)) (text piece.now)) to.old result to.new }
-{
-    for character in piece {
-        write_char(to, *character)?;
-    }
-    Ok(())
 }
 
 // What the vehicle stores for its propulsion.
@@ -99,13 +82,6 @@ fn write_storage(to: &mut BitBuf, fuel: Marks, more: &Option<Additions<'_>>) -> 
     write_flag(to, fuel.hydrogen)?;
     write_flag(to, fuel.other)?;
     write_more(to, more)
-}
-
-fn write_location(to: &mut BitBuf, latitude: i32, longitude: i32) -> Result<(), Full>
-    ensures { Puts (Canon vehicle_location (pair_tree latitude longitude)) to.old result to.new }
-{
-    write_angle(to, latitude)?;
-    write_angle(to, longitude)
 }
 
 // The way from a recent location, if it is present.

@@ -1,6 +1,7 @@
 use Rattle.msd_codec.specs.Module.{ecall_message}
 use Rattle.per_types.proofs.Decided.{no_prefix, one_value}
 use Rattle.msd_codec.proofs.SetLaws as laws
+use Rattle.msd_codec.proofs.CanonicalBits as bits
 use Rattle.msd_codec.specs.Trees.{tree}
 use Rattle.msd_codec.proofs.laws.spelling_laws.Goals as goal
 
@@ -33,3 +34,15 @@ returns-clause-apart c = laws.apart
 
 pub returns-clause-one_text : goal.returns-clause-one_text
 returns-clause-one_text c = laws.one_text
+
+pub returns-clause-spelled : goal.returns-clause-spelled
+returns-clause-spelled c = bits.canonical_is
+
+pub returns-clause-octets : goal.returns-clause-octets
+returns-clause-octets c = bits.octets_are
+
+pub returns-clause-read : goal.returns-clause-read
+returns-clause-read c = laws.read_exactly
+
+pub returns-clause-refused : goal.returns-clause-refused
+returns-clause-refused c = laws.refused_exactly

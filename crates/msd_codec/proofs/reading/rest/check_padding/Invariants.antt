@@ -1,5 +1,5 @@
 use Rattle.std.proofs.Common.{◌≡◌, ◌+◌, drop}
-use Rattle.msd_codec.specs.inner.Reading.{pad_fault}
+use Rattle.msd_codec.specs.Reading.{pad_fault}
 use Rattle.msd_codec.proofs.reading.rest.check_padding.Given as goal
 
 abbrev pub invariant-loop-i : goal.invariant-loop-i

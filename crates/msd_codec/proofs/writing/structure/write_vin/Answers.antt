@@ -5,17 +5,17 @@ use Rattle.msd_codec.proofs.Puts.{plain, required_last, required_next, required_
 use Rattle.msd_codec.proofs.Texts.{cut_type, last_type, last_text, piece_passes, last_passes}
 use Rattle.msd_codec.proofs.writing.structure.write_vin.Goals as goal
 
-pub write_text-requires : goal.write_text-requires
-write_text-requires c = piece_passes 3 0 c.text-text.ensures.value c.text-text.ensures.vin
+pub write_text-requires-clause-pass : goal.write_text-requires-clause-pass
+write_text-requires-clause-pass c = piece_passes 3 0 c.text-text.ensures.value c.text-text.ensures.vin
 
-pub write_text-requires-2 : goal.write_text-requires-2
-write_text-requires-2 c = piece_passes 6 3 c.text-text.ensures.value c.text-text.ensures.vin
+pub write_text-requires-2-clause-pass : goal.write_text-requires-2-clause-pass
+write_text-requires-2-clause-pass c = piece_passes 6 3 c.text-text.ensures.value c.text-text.ensures.vin
 
-pub write_text-requires-3 : goal.write_text-requires-3
-write_text-requires-3 c = piece_passes 1 9 c.text-text.ensures.value c.text-text.ensures.vin
+pub write_text-requires-3-clause-pass : goal.write_text-requires-3-clause-pass
+write_text-requires-3-clause-pass c = piece_passes 1 9 c.text-text.ensures.value c.text-text.ensures.vin
 
-pub write_text-requires-4 : goal.write_text-requires-4
-write_text-requires-4 c = last_passes c.text-text.ensures.value c.text-text.ensures.vin
+pub write_text-requires-4-clause-pass : goal.write_text-requires-4-clause-pass
+write_text-requires-4-clause-pass c = last_passes c.text-text.ensures.value c.text-text.ensures.vin
 
 pub returns-in_err-write_text : goal.returns-in_err-write_text
 unfolding vehicle_identification
