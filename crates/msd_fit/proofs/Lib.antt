@@ -1,0 +1,4 @@
+pub mod Stored
+pub mod Lengths
+pub mod Choice
+pub mod Arcs
