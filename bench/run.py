@@ -1,7 +1,8 @@
 #!/usr/bin/env python3
 """run.py PROGRAM: how many sets of data `PROGRAM decode` reads and describes a second, in 4 MB of address space; how much
 processor time that takes beside a plain program and beside a decoder that asn1c generates from format2.asn1; what decoding alone
-takes of both; and with how many calls the text is written. Parts that need a tool that isn't there are skipped in a line."""
+takes of both; what encoding alone takes of both; with how many calls the text is written; and what `PROGRAM encode` takes beside the
+plain program. Parts that need a tool that isn't there are skipped in a line."""
 import glob
 import os
 import re
@@ -13,12 +14,18 @@ import tempfile
 
 HERE = os.path.dirname(os.path.abspath(__file__))
 PLAIN = os.path.join(HERE, "..", "..", "shared", "plain")
+CRATES = os.path.join(HERE, "..", "crates")
 COUNTS = (1_000, 120_000)
 MOST = COUNTS[-1]
 ROUNDS = 9
 SAMPLES = 20
 ADDRESS_SPACE = 4 * 2**20
 MOST_OCTETS = 140
+# the crates that encoder.txt stands on, each with those that it stands on in turn
+BELOW = {"call_io": "thiserror", "per_bits": "", "per_types": "per_bits", "msd_values": "per_bits call_io arrayvec hex itoa jiff jiff_core"}
+BELOW |= {"msd_codec": "per_bits per_types msd_values arrayvec", "encoder": "per_bits msd_values msd_codec call_io arrayvec"}
+ENCODINGS = 50_000
+WRITES = 50_000
 
 
 class Skipped(Exception):
@@ -96,6 +103,21 @@ def generated_codec(folder):
     return built
 
 
+def encoder(folder):
+    """Proves and builds encoder.txt over copies of the crates, in a folder of its own."""
+    need("rt")
+    crate = os.path.join(folder, "crates", "encoder")
+    os.makedirs(os.path.join(crate, "src"))
+    shutil.copy(os.path.join(HERE, "encoder.txt"), os.path.join(crate, "src", "main.rt"))
+    for name in BELOW.keys() - {"encoder"}:
+        shutil.copytree(os.path.join(CRATES, name), os.path.join(folder, "crates", name))
+    with open(os.path.join(folder, "crates.txt"), "w") as crates:
+        crates.writelines(f"{name}: {below}\n" for name, below in BELOW.items())
+    if subprocess.run(["rt", "run", "--", "0"], cwd=crate, stdin=subprocess.DEVNULL, capture_output=True).returncode:
+        raise Skipped("it is not proved or doesn't build")
+    return os.path.join(crate, "out", "encoder")
+
+
 def attempt(what, build, folder):
     try:
         return build(folder)
@@ -124,10 +146,27 @@ def beside(program, plain, generated, path):
     print("  (processor time; last, the time of `ecall decode` over this one)")
 
 
+def encodes(program, plain, folder):
+    """The processor time of `encode` over facts that change, beside the plain program's."""
+    path = os.path.join(folder, "facts")
+    with open(path, "wb") as facts:
+        subprocess.run([sys.executable, os.path.join(HERE, "facts.py"), str(WRITES)], stdout=facts, check=True)
+    commands = {"ecall encode": [program, "encode"]}
+    if plain:
+        commands["plain program, the same text"] = [plain, "encode"]
+    text = [subprocess.run(command, stdin=open(path, "rb"), capture_output=True).stdout for command in commands.values()]
+    if any(other != text[0] for other in text):
+        raise OSError("the sets of `encode` differ")
+    times = least(list(commands.values()), path)
+    print(f"\n{WRITES} `write` lines between facts that change, {os.path.getsize(path)} bytes: the sets are {len(text[0])} bytes")
+    for what, seconds in zip(commands, times):
+        print(f"  {what:<34} {seconds:7.3f} s  {times[0] / seconds:5.2f}")
+
+
 def instructions(command, text):
     """How many instructions a command needs for this input."""
     run = ["valgrind", "--tool=cachegrind", "--cache-sim=no", "--cachegrind-out-file=/dev/null", *command]
-    said = subprocess.run(run, input=text.encode(), capture_output=True).stderr.decode()
+    said = subprocess.run(run, input=text, capture_output=True).stderr.decode()
     count = re.search(r"refs:\s+([\d,]+)", said)
     if count is None:
         raise Skipped("valgrind counts no instructions here")
@@ -138,24 +177,59 @@ def decoding(program, sets):
     """The program's instructions for decoding one of these sets: those for a set that is refused for the octet 1 behind it, after
     all else was read, less those for one that is refused at its first octet."""
     ours = [program, "decode"]
-    return sum(instructions(ours, f"{it}01\n") - instructions(ours, f"03{it[2:]}01\n") for it in sets) / len(sets)
+    return sum(instructions(ours, f"{it}01\n".encode()) - instructions(ours, f"03{it[2:]}01\n".encode()) for it in sets) / len(sets)
+
+
+def samples(path):
+    """Some sets, each with room for an octet more."""
+    with open(path) as lines:
+        sets = [line.strip() for line, _ in zip(lines, range(SAMPLES))]
+    sets = [digits for digits in sets if len(digits) < 2 * MOST_OCTETS]
+    return sets, "".join(f"{digits}\n" for digits in sets).encode()
+
+
+def rounds_of(command, text, sets):
+    """The instructions of a command for a set in a round, which its last word counts."""
+    few, many = (instructions([*command, str(rounds)], text) for rounds in (1, 11))
+    return (many - few) / 10 / len(sets)
 
 
 def alone(program, generated, path):
     """Decoding without text, of both."""
     need("valgrind")
-    with open(path) as lines:
-        sets = [line.strip() for line, _ in zip(lines, range(SAMPLES))]
-    sets = [digits for digits in sets if len(digits) < 2 * MOST_OCTETS]
-    text = "".join(f"{digits}\n" for digits in sets)
+    sets, text = samples(path)
     ours = decoding(program, sets)
-    whole = (instructions([program, "decode"], text) - instructions([program, "decode"], "")) / len(sets)
+    whole = (instructions([program, "decode"], text) - instructions([program, "decode"], b"")) / len(sets)
     print(f"\nDecoding alone, instructions for a set, over {len(sets)} known sets")
     print(f"  {'ecall decode':<34} {ours:8.0f}    of {whole:.0f} for a line with its text")
     if generated:
-        few, many = (instructions([generated, "decode", str(rounds)], text) for rounds in (1, 11))
-        theirs = (many - few) / 10 / len(sets)
+        theirs = rounds_of([generated, "decode"], text, sets)
         print(f"  {'generated decoder':<34} {theirs:8.0f}    {theirs / ours:.1f} times as many")
+
+
+def encoding(generated, path, folder):
+    """Encoding alone, of both, over the same sets: instructions, and processor time less that of a run without rounds."""
+    need("valgrind")
+    program = encoder(folder)
+    sets, text = samples(path)
+    octets = [bytes.fromhex(digits) for digits in sets]
+    places = b"".join((bytes([len(it)]) + it).ljust(1 + MOST_OCTETS, b"\0") for it in octets)
+    if subprocess.run([program, "1"], input=places).returncode:
+        raise OSError("a set is not written as it was read")
+    files = {name: os.path.join(folder, name) for name in ("places", "lines")}
+    for name, data in (("places", places), ("lines", text)):
+        with open(files[name], "wb") as file:
+            file.write(data)
+    print(f"\nEncoding alone, for a set, over {len(sets)} known sets")
+    counts, times = [], []
+    for what, command, file in (("encode", [program], "places"), ("generated encoder", [generated, "encode"], "lines")):
+        if not command[0]:
+            continue
+        counts.append(rounds_of(command, places if file == "places" else text, sets))
+        none, all_rounds = least([[*command, "0"], [*command, str(ENCODINGS)]], files[file])
+        times.append((all_rounds - none) / ENCODINGS / len(sets) * 1e9)
+        more = f"    {counts[-1] / counts[0]:.1f} times as many, {times[-1] / times[0]:.1f} times as long" if len(counts) > 1 else ""
+        print(f"  {what:<34} {counts[-1]:8.0f} instructions {times[-1]:8.0f} ns{more}")
 
 
 def in_memory(generated, path):
@@ -190,8 +264,10 @@ def main(program):
         plain = attempt("plain program", plain_program, os.path.join(folder, "plain"))
         generated = attempt("generated codec", generated_codec, os.path.join(folder, "generated"))
         beside(program, plain, generated, known)
-        for what, part in (("decoding alone", lambda _: alone(program, generated, known)), ("calls of write", lambda _: writes(program, known))):
-            attempt(what, part, folder)
+        encodes(program, plain, folder)
+        attempt("decoding alone", lambda _: alone(program, generated, known), folder)
+        attempt("encoding alone", lambda here: encoding(generated, known, here), os.path.join(folder, "encoder"))
+        attempt("calls of write", lambda _: writes(program, known), folder)
         if generated:
             in_memory(generated, known)
 

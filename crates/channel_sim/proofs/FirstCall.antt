@@ -6,8 +6,9 @@ use Rattle.link_frames.specs.declared.frame.End.TheVariants as «end»
 use Rattle.link_frames.specs.declared.frame.Answer.TheVariants as answer
 use Rattle.link_frames.specs.declared.frame.Frame.TheVariants as frame
 use Rattle.link_frames.specs.declared.note.Note.TheVariants as note
-use Rattle.ivs_machine.specs.declared.facts.Facts.TheVariants as facts
-use Rattle.ivs_machine.specs.declared.facts.Cause.TheVariants as cause
+use Rattle.msd_fit.specs.declared.facts.Facts.TheVariants as facts
+use Rattle.msd_fit.specs.Fitting.{made}
+use Rattle.msd_fit.specs.declared.cause.Cause.TheVariants as cause
 use Rattle.trace_text.specs.declared.entry.Entry.{Entry}
 use Rattle.trace_text.specs.declared.event.Event.{Event}
 use Rattle.trace_text.specs.declared.event.Event.TheVariants as event
@@ -38,6 +39,7 @@ first_trace octets =
     )
 
 pub trace-first_call : (octets : List ℕ) → trace (facts.Ready octets) first_call ≡ first_trace octets
+unfolding made
 trace-first_call octets = refl
 
 -- frames handed over before any call, to a call that doesn't exist, and that were never sent
@@ -51,4 +53,5 @@ pub trace-early_call : (octets : List ℕ) → trace (facts.Ready octets) early_
     ∷ note.Up «end».Point 1 ∷ note.Voice «end».Point 1 false false
     ∷ note.Nothing ∷ note.Nothing ∷ note.Nothing ∷ note.Nothing ∷ []
     )
+unfolding made
 trace-early_call octets = refl

@@ -8,8 +8,7 @@ use Rattle.link_frames.specs.declared.frame.Frame.{Frame}
 use Rattle.link_frames.specs.declared.frame.Frame.TheVariants as frame
 use Rattle.link_frames.specs.declared.note.Note.{Note}
 use Rattle.link_frames.specs.declared.note.Note.TheVariants as note
-use Rattle.ivs_machine.specs.declared.facts.Facts.{Facts}
-use Rattle.ivs_machine.specs.declared.facts.Cause.TheVariants as cause
+use Rattle.msd_fit.specs.declared.facts.Facts.{Facts}
 use Rattle.ivs_machine.specs.Vehicle.{Phase, Idle, Dialling, InCall, Call, call_in, vehicle_call, is_dialling}
 use Rattle.ivs_machine.specs.VehicleRows as vehicle
 use Rattle.ivs_machine.specs.VehicleRows.{frame_row, answered_row}
@@ -205,8 +204,8 @@ deliver_fits w t fit false c k =
 
 -- each step keeps a trace that fits
 pub step_fits : (w : World) (t : List Entry) → (e : Event) → Fit w t → Fit (step w e).world (t ++ (step w e).entries)
-step_fits w t (event.Trigger cause.Auto) fit =
-    vehicle_fits w t (vehicle.trigger_row w.vehicle w.vehicle.phase) fit (trigger_good w t fit w.vehicle.phase)
+step_fits w t (event.Trigger why) fit =
+    vehicle_fits w t (vehicle.trigger_row w.vehicle why w.vehicle.phase) fit (trigger_good w t fit why w.vehicle.phase)
 step_fits w t event.Answer fit =
     cond_both (is_dialling w.vehicle) (answer w) (nothing_step w) (λ s. Fit s.world (t ++ s.entries)) (λ h. answer_fits w t fit) (λ h. nothing_fits w t fit)
 step_fits w t (event.Deliver is_up c k) fit = deliver_fits w t fit is_up c k

@@ -10,8 +10,10 @@ use Rattle.link_frames.specs.declared.frame.Frame.TheVariants as frame
 use Rattle.link_frames.specs.declared.note.Note.{Note}
 use Rattle.link_frames.specs.declared.note.Note.TheVariants as note
 use Rattle.link_frames.specs.Row.{Row, nothing_row, silent}
-use Rattle.ivs_machine.specs.Vehicle.{Vehicle, Phase, Idle, Dialling, InCall, Call, Stage, Initiating, Sending, Confirming, Talking, greatest, set_for, made_set}
-use Rattle.ivs_machine.specs.VehicleRows.{trigger_row, start_row, takes, ack_row, positive_row, frame_in_call, acknowledged, opens}
+use Rattle.msd_fit.specs.declared.cause.Cause.{Cause}
+use Rattle.msd_fit.specs.declared.cause.Cause.TheVariants as cause
+use Rattle.ivs_machine.specs.Vehicle.{Vehicle, Phase, Idle, Dialling, InCall, Call, Stage, Initiating, Sending, Confirming, Talking, greatest, set_for, next_set}
+use Rattle.ivs_machine.specs.VehicleRows.{trigger_row, begin_row, start_row, takes, ack_row, positive_row, frame_in_call, acknowledged, opens}
 use Rattle.trace_text.specs.declared.entry.Entry.{Entry}
 use Rattle.trace_text.specs.Safety.{AgreedFrom}
 use Rattle.channel_sim.specs.World.{World, Traffic, told, posted, after_vehicle}
@@ -142,10 +144,15 @@ pub silent_good : (w : World) (t : List Entry) → Fit w t → Good w t (silent 
 silent_good w t fit =
     record { agreed = tt; items = tt; phase = phase_fits w.calls w.tick [] w.traffic t tt w.vehicle.phase fit.phase }
 
-pub trigger_good : (w : World) (t : List Entry) → Fit w t → (p : Phase) → Good w t (trigger_row w.vehicle p)
-trigger_good w t fit Idle = record { agreed = (tt, tt); items = (tt, tt); phase = tt }
-trigger_good w t fit Dialling = nothing_good w t fit
-trigger_good w t fit (InCall call) = nothing_good w t fit
+begin_good : (w : World) (t : List Entry) → Fit w t → (why : Cause) (p : Phase) → Good w t (begin_row w.vehicle why p)
+begin_good w t fit why Idle = record { agreed = (tt, tt); items = (tt, tt); phase = tt }
+begin_good w t fit why Dialling = nothing_good w t fit
+begin_good w t fit why (InCall call) = nothing_good w t fit
+
+pub trigger_good : (w : World) (t : List Entry) → Fit w t → (why : Cause) (p : Phase) → Good w t (trigger_row w.vehicle why p)
+trigger_good w t fit cause.Auto p = begin_good w t fit cause.Auto p
+trigger_good w t fit cause.Test p = begin_good w t fit cause.Test p
+trigger_good w t fit cause.Manual p = nothing_good w t fit
 
 -- a request above the greatest obeyed leaves the sets of the others as they are
 taken_stays : (obeyed : List ℕ) (made : List (ℕ × List ℕ)) (q : ℕ) (set : List ℕ) → greatest obeyed < q → StaysMade obeyed (q ∷ obeyed) made ((q, set) ∷ made)
@@ -162,7 +169,7 @@ taken_is_made obeyed made q set =
 
 takes_good : (w : World) (t : List Entry) → Fit w t → (call : Call) → CallFits w.calls call.number call.obeyed call.made w.traffic t → (r : ℕ) → greatest call.obeyed < r → Good w t (takes w.vehicle call r)
 takes_good w t fit call fits r above =
-    let set : List ℕ = made_set w.vehicle.facts in
+    let set : List ℕ = next_set w.vehicle in
     let made : IsMade (r ∷ call.obeyed) ((r, set) ∷ call.made) r set = taken_is_made call.obeyed call.made r set in
     record {
       agreed = (tt, tt);

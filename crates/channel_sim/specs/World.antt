@@ -8,7 +8,7 @@ use Rattle.link_frames.specs.declared.frame.Frame.{Frame}
 use Rattle.link_frames.specs.declared.note.Note.{Note}
 use Rattle.link_frames.specs.declared.note.Note.TheVariants as note
 use Rattle.link_frames.specs.Row.{Row}
-use Rattle.ivs_machine.specs.declared.facts.Facts.{Facts}
+use Rattle.msd_fit.specs.declared.facts.Facts.{Facts}
 use Rattle.ivs_machine.specs.Vehicle.{Vehicle, first_vehicle, vehicle_call, is_dialling}
 use Rattle.ivs_machine.specs.VehicleRows as vehicle
 use Rattle.psap_machine.specs.Point.{Point}

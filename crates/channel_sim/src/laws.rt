@@ -1,7 +1,7 @@
 //! Laws over the definitions of the world: what holds of every script, whatever the channel does.
 
 ghost use Rattle.std.specs.Prelude.{List, [], ◌++◌};
-ghost use Rattle.ivs_machine.specs.declared.facts.Facts.{Facts};
+ghost use Rattle.msd_fit.specs.declared.facts.Facts.{Facts};
 ghost use Rattle.trace_text.specs.declared.entry.Entry.{Entry};
 ghost use Rattle.trace_text.specs.declared.event.Event.{Event};
 ghost use Rattle.trace_text.specs.Safety.{Agreed};

@@ -1,8 +1,8 @@
 //! Scripts stepped through the world. The expected items follow by hand from the tables of both ends.
 
 use crate::{SimFault, World};
-use ivs_machine::{Cause, Facts};
 use link_frames::{Answer, DialAttempt, End, Frame, Note, OCTETS, Request};
+use msd_fit::{Cause, Facts};
 use std::alloc::Global;
 use std::process::Abort;
 use std::test::Fail;

@@ -34,13 +34,13 @@ const BEGINNING: &str = "what was written is the beginning of an answer";
 
 /// What the commands do that are built.
 const BUILT: &str =
-    "`ecall run` plays a script and `ecall decode` describes sets of data, from standard input";
+    "`ecall run` plays a script, `ecall decode` describes sets of data and `ecall encode` makes them, from standard input";
 
 /// Whether a command of this name is planned and not built yet.
 fn is_planned(word: &str) -> bool {
     matches!(
         word,
-        "register" | "encode" | "frames" | "replay" | "trial" | "make" | "conform"
+        "register" | "frames" | "replay" | "trial" | "make" | "conform"
     )
 }
 
@@ -63,9 +63,13 @@ fn line_fault(reason: LineReason) -> &'static str {
         LineReason::Count => "too few or too many words",
         LineReason::LineLong => "more than 512 bytes",
         LineReason::Text => "a byte that is neither a printable character nor a space",
-        LineReason::Hex => "no even number of hexadecimal digits, or too many octets",
-        LineReason::Missing => "an event, with no set of data before it",
-        LineReason::Late => "a set of data, with an event before it",
+        LineReason::Hex => {
+            "no even number of hexadecimal digits, too many octets, or no object identifier"
+        }
+        LineReason::Missing =>
+            "it wants a set of data, and the facts for one didn't come before it",
+        LineReason::Late => "a fact, with an event before it",
+        LineReason::Many => "a fifth candidate of additional data",
     }
 }
 
@@ -74,9 +78,14 @@ fn line_help(reason: LineReason) -> &'static str {
     match reason {
         LineReason::Count => "; one space stands between two words",
         LineReason::Text => "; a tab, a carriage return and a byte order mark are such bytes",
-        LineReason::Missing => "; put a `set` line in front of the first event",
+        LineReason::Missing =>
+            "; put `vin`, `kind` and `time`, or in a script a `set` line, in front",
         LineReason::Late => "; put it in front of the first event",
-        LineReason::Word | LineReason::Number | LineReason::LineLong | LineReason::Hex => "",
+        LineReason::Word
+        | LineReason::Number
+        | LineReason::LineLong
+        | LineReason::Hex
+        | LineReason::Many => "",
     }
 }
 

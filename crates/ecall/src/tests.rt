@@ -3,6 +3,8 @@
 use crate::explanation::Explanation;
 use ecall_top::{Refused, Status};
 use per_bits::{Reason as SetReason, Refusal};
+use std::alloc::Global;
+use std::process::Abort;
 use std::test::Fail;
 use trace_text::{BadLine, Reason as LineReason};
 
@@ -28,15 +30,19 @@ fn explains_lines(rt: HostRuntime) -> Result<(), Fail> {
         ),
         (
             LineReason::Hex,
-            "no even number of hexadecimal digits, or too many octets (reason 6)",
+            "no even number of hexadecimal digits, too many octets, or no object identifier (reason 6)",
         ),
         (
             LineReason::Missing,
-            "an event, with no set of data before it (reason 7); put a `set` line in front of the first event",
+            "it wants a set of data, and the facts for one didn't come before it (reason 7); put `vin`, `kind` and `time`, or in a script a `set` line, in front",
         ),
         (
             LineReason::Late,
-            "a set of data, with an event before it (reason 8); put it in front of the first event",
+            "a fact, with an event before it (reason 8); put it in front of the first event",
+        ),
+        (
+            LineReason::Many,
+            "a fifth candidate of additional data (reason 9)",
         ),
     ];
     for (reason, text) in &table {
@@ -54,8 +60,30 @@ fn explains_lines(rt: HostRuntime) -> Result<(), Fail> {
     Ok(())
 }
 
+/// Checks what a person is told of a set that is refused at bit 237, for this reason and with this value.
+fn expect_set(
+    alloc: Global,
+    rt: &impl Abort,
+    reason: SetReason,
+    value: u64,
+    text: &str,
+) -> Result<(), Fail> {
+    let refusal = Refusal {
+        place: 237,
+        reason,
+        value,
+    };
+    let why = Explanation {
+        status: Status::Refused(Refused::Set { line: 3, refusal }),
+        word: Some("decode"),
+    };
+    let want = format!(in alloc; "line 3: no set of data: {text}")?;
+    assert_eq!(rt; format!(in alloc; "{why}")?.as_str(), want.as_str());
+    Ok(())
+}
+
 #[test]
-fn explains_sets(rt: HostRuntime) -> Result<(), Fail> {
+fn explains_elements(rt: HostRuntime) -> Result<(), Fail> {
     let table = [
         (
             SetReason::Short,
@@ -87,6 +115,16 @@ fn explains_sets(rt: HostRuntime) -> Result<(), Fail> {
             0,
             "an addition without octets, at bit 237 from 0 (reason 6)",
         ),
+    ];
+    for (reason, value, text) in &table {
+        expect_set(rt.alloc(), &rt, *reason, *value, text)?;
+    }
+    Ok(())
+}
+
+#[test]
+fn explains_what_else_a_set_has(rt: HostRuntime) -> Result<(), Fail> {
+    let table = [
         (
             SetReason::BadOid,
             0,
@@ -120,18 +158,7 @@ fn explains_sets(rt: HostRuntime) -> Result<(), Fail> {
         ),
     ];
     for (reason, value, text) in &table {
-        let refusal = Refusal {
-            place: 237,
-            reason: *reason,
-            value: *value,
-        };
-        let status = Status::Refused(Refused::Set { line: 3, refusal });
-        let why = Explanation {
-            status,
-            word: Some("decode"),
-        };
-        let want = format!(in rt.alloc(); "line 3: no set of data: {text}")?;
-        assert_eq!(rt; format!(in rt.alloc(); "{why}")?.as_str(), want.as_str());
+        expect_set(rt.alloc(), &rt, *reason, *value, text)?;
     }
     Ok(())
 }

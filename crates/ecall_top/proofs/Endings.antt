@@ -1,5 +1,5 @@
 -- How a run ends, from where it stands and what the last line's reading and writing left.
-use Rattle.std.specs.Prelude.{◌≡◌, ℕ, ◌+◌, ◌≤◌, ◌⊎◌, Bool, true, false, List, [], ◌++◌, length, Option, Some, None, Ok, Err}
+use Rattle.std.specs.Prelude.{◌∷◌, ◌≡◌, ℕ, ◌+◌, ◌≤◌, ◌⊎◌, Bool, true, false, List, [], ◌++◌, length, Option, Some, None, Ok, Err}
 use Rattle.std.proofs.Common.{sym, ◌∙◌, ap, refl, subst, append_assoc, inl, inr, arith, length-append}
 use Rattle.std.proofs.lemmas.List.{append-nil}
 use Rattle.std.proofs.lemmas.Bool.{false≢true}
@@ -10,8 +10,7 @@ use Rattle.trace_text.specs.declared.reason.Reason.{Reason}
 use Rattle.trace_text.specs.declared.reason.BadLine.{BadLine}
 use Rattle.trace_text.specs.declared.fault.LineFault.TheVariants as fault
 use Rattle.trace_text.specs.declared.script.ScriptLine.{ScriptLine}
-use Rattle.trace_text.specs.declared.script.FactLine.{FactLine}
-use Rattle.trace_text.specs.declared.script.FactLine.TheVariants as fact
+use Rattle.trace_text.specs.declared.fact_line.FactLine.{FactLine}
 use Rattle.trace_text.specs.declared.script.ScriptLine.TheVariants as line
 use Rattle.trace_text.specs.EntryLine.{text_of}
 use Rattle.trace_text.specs.inner.ListenerLaws.{text_of-append}
@@ -20,8 +19,10 @@ use Rattle.trace_text.specs.Lines as bytes
 use Rattle.trace_text.specs.Reading.{Reading, MayFollow, first_reading, FindsLine, FindsTooMany, ReadsLine}
 use Rattle.trace_text.specs.Safety.{Agreed}
 use Rattle.trace_text.specs.Script.{Said, Script, script_of, script_from, judged, said_after, nothing_said}
+use Rattle.channel_sim.specs.World.{World}
 use Rattle.channel_sim.proofs.FitKept.{trace_agreed}
-use Rattle.ivs_machine.specs.declared.facts.Facts.TheVariants as facts
+use Rattle.msd_fit.specs.declared.facts.Facts.{Facts}
+use Rattle.trace_text.specs.Facts.{facts_in}
 use Rattle.ecall_top.specs.declared.command.Command.TheVariants as command
 use Rattle.ecall_top.specs.declared.status.Status.TheVariants as status
 use Rattle.trace_text.specs.Lines.{most_bytes}
@@ -52,11 +53,11 @@ stands_first start Stands stands =
 
 -- each script's trace is agreed
 pub script_agreed : (script : Script) → Agreed (script_trace script)
-script_agreed script = by_ready script.ready
+script_agreed script = by_facts script.facts
   where
-    by_ready : (ready : Option (List ℕ)) → Agreed (played ready script.events)
-    by_ready None = tt
-    by_ready (Some octets) = trace_agreed (facts.Ready octets) script.events
+    by_facts : (o : Option Facts) → Agreed (played o script.events)
+    by_facts None = tt
+    by_facts (Some known) = trace_agreed known script.events
 
 -- a run was cut short, with a front of its reply written
 pub run_cut : (start : Streams) (left held : Option (List ℕ)) (input : List ℕ) → Took start.left left input → GrewPartly start.held held (run_reply input).text → CutShort (Some command.Run) start (record { left = left; held = held }) input
@@ -68,7 +69,7 @@ pub ends_done : (start now : Streams) (old new : Reading) (Stands : Said → Lis
 ends_done start now old new Stands left s reads =
     let hand : AtHand old new (old.feed.pending ++ reads.taken) = at_hand start now old new left s.front reads.taken s.taken reads.draws in
     let input : List ℕ = s.front ++ (old.feed.pending ++ reads.taken) in
-    let script : script_of input ≡ record { ready = s.said.ready; events = s.events; refused = None } =
+    let script : script_of input ≡ record { facts = facts_in s.said.facts; events = s.events; refused = None } =
     read_end s.front old new s.said s.events (old.feed.pending ++ reads.taken) s.read hand reads.finds.0 in (
       input,
       run_reply input,
@@ -103,7 +104,7 @@ pub record Ending (start now : Streams) (old new : Reading) (Stands : Said → L
   pub front : List ℕ
   pub split : s.front ++ (old.feed.pending ++ taken) ≡ front ++ new.feed.pending
   pub within : length front ≤ most_bytes
-  pub script : (more : List ℕ) → MayFollow new.feed more → script_of (front ++ more) ≡ record { ready = s.said.ready; events = s.events; refused = Some bad }
+  pub script : (more : List ℕ) → MayFollow new.feed more → script_of (front ++ more) ≡ record { facts = facts_in s.said.facts; events = s.events; refused = Some bad }
 
 -- a line that is refused for its length or its bytes
 pub ending_bad : (start now : Streams) (old new : Reading) (Stands : Said → List Event → Type 0) (left : Option (List ℕ)) (s : Standing start now old Stands) (bad : BadLine) → ReadsLine old new now.left left (Err (fault.Bad bad)) → Ending start now old new Stands left s bad
@@ -136,7 +137,7 @@ ending_line start now old new Stands left s why reads judge =
     }
 
 -- behind the end of the input nothing is pending
-pending_follows : (start now : Streams) (old new : Reading) (Stands : Said → List Event → Type 0) (left : Option (List ℕ)) (s : Standing start now old Stands) (bad : BadLine) → (r : Ending start now old new Stands left s bad) → script_of (s.front ++ (old.feed.pending ++ r.taken)) ≡ record { ready = s.said.ready; events = s.events; refused = Some bad }
+pending_follows : (start now : Streams) (old new : Reading) (Stands : Said → List Event → Type 0) (left : Option (List ℕ)) (s : Standing start now old Stands) (bad : BadLine) → (r : Ending start now old new Stands left s bad) → script_of (s.front ++ (old.feed.pending ++ r.taken)) ≡ record { facts = facts_in s.said.facts; events = s.events; refused = Some bad }
 pending_follows start now old new Stands left s bad r = ap script_of r.split ∙ r.script new.feed.pending (λ e. r.done e)
 
 -- what comes behind a refused line can't change the reply, or it ended with the input
@@ -159,7 +160,7 @@ settled start now old new Stands left s bad r false open_ended =
 pub ends_refused : (start now : Streams) (old new : Reading) (Stands : Said → List Event → Type 0) (left held : Option (List ℕ)) (s : Standing start now old Stands) (bad : BadLine) (why : Refused) → Ending start now old new Stands left s bad → why ≡ refused.Line bad → Grew now.held held (refusal_line why) → Outcome (Some command.Run) start (record { left = left; held = held }) (status.Refused why)
 ends_refused start now old new Stands left held s bad why r says grew =
     let input : List ℕ = s.front ++ (old.feed.pending ++ r.taken) in
-    let script : script_of input ≡ record { ready = s.said.ready; events = s.events; refused = Some bad } = pending_follows start now old new Stands left s bad r in (
+    let script : script_of input ≡ record { facts = facts_in s.said.facts; events = s.events; refused = Some bad } = pending_follows start now old new Stands left s bad r in (
       input,
       run_reply input,
       record {
@@ -247,22 +248,24 @@ fact_is_first said events text f (inl eventful) judge =
     absurd (subst IsNoFact judge (no_fact_judged said eventful text))
 
 tidy_behind : (said : Said) (events : List Event) (text : List ℕ) → IsTidy said events → (says : ScriptLine) → judged said text ≡ Ok (Some says) → IsTidy (said_after said says) (events ++ event_of says)
-tidy_behind said events text tidy (line.Fact (fact.Set octets)) judge = inr (append-nil events ∙ fact_is_first said events text (fact.Set octets) tidy judge)
+tidy_behind said events text tidy (line.Fact f) judge = inr (append-nil events ∙ fact_is_first said events text f tidy judge)
 tidy_behind said events text tidy (line.Event e) judge = inl refl
 
+-- a fact line gives no entry
+pub no_entries : (o : Option World) (f : FactLine) → entries_in o (line.Fact f) ≡ []
+no_entries None f = refl
+no_entries (Some w) f = refl
+
 -- the text of the lines so far, with one more line
-text_behind : (said : Said) (events : List Event) (text : List ℕ) → IsTidy said events → (says : ScriptLine) → judged said text ≡ Ok (Some says) → text_of (played (said_after said says).ready (events ++ event_of says)) ≡ text_of (played said.ready events) ++ text_of (entries_of said events says)
+text_behind : (said : Said) (events : List Event) (text : List ℕ) → IsTidy said events → (says : ScriptLine) → judged said text ≡ Ok (Some says) → text_of (played (facts_in (said_after said says).facts) (events ++ event_of says)) ≡ text_of (played (facts_in said.facts) events) ++ text_of (entries_of said events says)
 text_behind said events text tidy (line.Event e) judge =
-    ap text_of (played-line said events (line.Event e)) ∙ text_of-append (played said.ready events) (entries_of said events (line.Event e))
-text_behind said events text tidy (line.Fact (fact.Set octets)) judge =
-    let none : events ≡ [] = fact_is_first said events text (fact.Set octets) tidy judge in
-    ap text_of (ap (played (Some octets)) (append-nil events ∙ none))
-    ∙ sym (ap (λ t. t ++ text_of (entries_of said events (line.Fact (fact.Set octets)))) (ap text_of (ap (played said.ready) none ∙ played-nothing said.ready))
-    ∙ ap text_of (no_entries said.ready))
-  where
-    no_entries : (ready : Option (List ℕ)) → entries_in (world_left ready events) (line.Fact (fact.Set octets)) ≡ []
-    no_entries None = refl
-    no_entries (Some o) = refl
+    ap text_of (played-line said events (line.Event e)) ∙ text_of-append (played (facts_in said.facts) events) (entries_of said events (line.Event e))
+text_behind said events text tidy (line.Fact f) judge =
+    let none : events ≡ [] = fact_is_first said events text f tidy judge in
+    let known : Option Facts = facts_in (said.facts ++ f ∷ []) in
+    ap text_of (ap (played known) (append-nil events ∙ none) ∙ played-nothing known)
+    ∙ sym (ap (λ t. t ++ text_of (entries_of said events (line.Fact f))) (ap text_of (ap (played (facts_in said.facts)) none ∙ played-nothing (facts_in said.facts)))
+    ∙ ap text_of (no_entries (world_left (facts_in said.facts) events) f))
 
 read_behind : (start now : Streams) (old new : Reading) (Stands : Said → List Event → Type 0) (left : Option (List ℕ)) (s : Standing start now old Stands) (says : ScriptLine) → (l : Leads start now old new Stands left s says) → ReadSoFar (s.front ++ l.reads.finds.0.front) new (said_after s.said says) (s.events ++ event_of says)
 read_behind start now old new Stands left s says l =

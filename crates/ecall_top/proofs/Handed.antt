@@ -1,6 +1,6 @@
 -- What a command that wrote through a block says of the sink, once all that was pending is handed over.
 use Rattle.std.specs.Prelude.{◌≡◌, ℕ, ◌⊎◌, List, [], Option}
-use Rattle.std.proofs.Common.{sym, subst, inl, inr}
+use Rattle.std.proofs.Common.{sym, ◌∙◌, subst, inl, inr}
 use Rattle.call_io.specs.Blocks.{sink, pending, held, way}
 use Rattle.call_io.specs.Ways.{Onward}
 use Rattle.call_io.specs.declared.block.Block.{Block}
@@ -105,6 +105,8 @@ handed_usage answer result rest (stays same empty) h = subst (λ (a : Status). (
 handed_usage answer result rest (fails sound same) h = inr same
 
 -- handing over takes no memory
-pub handed_memory : (answer result : Status) (rest : List ℕ) → HandsOver answer rest result → (answer ≡ status.Memory → ⊥) → result ≡ status.Memory → ⊥
-handed_memory answer result rest (stays same empty) h memory = h (cc)
-handed_memory answer result rest (fails sound same) h memory = cc
+pub handed_memory : (answer result : Status) (rest : List ℕ) → HandsOver answer rest result → result ≡ status.Memory → answer ≡ status.Memory
+handed_memory answer result rest (stays same empty) memory = sym same ∙ memory
+handed_memory answer result rest (fails sound same) memory =
+    let no : status.WriteFault ≡ status.Memory = sym same ∙ memory in
+    absurd (cc no)

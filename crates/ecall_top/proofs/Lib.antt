@@ -3,7 +3,10 @@ mod Sets
 mod ReplyLaws
 mod Takings
 mod SetsGiven
+mod LinesRead
 mod SetsRead
+mod EncodeRead
+mod EncodeSaid
 mod ScriptRead
 mod TextSoFar
 mod Endings

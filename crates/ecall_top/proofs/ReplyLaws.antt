@@ -5,6 +5,7 @@ use Rattle.trace_text.specs.Lines.{lines_of}
 use Rattle.ecall_top.specs.declared.command.Command.{Command}
 use Rattle.ecall_top.specs.declared.command.Command.TheVariants as command
 use Rattle.ecall_top.specs.declared.status.Status.TheVariants as status
+use Rattle.ecall_top.specs.Encode.{encode_reply}
 use Rattle.ecall_top.specs.Refusals.{Reply}
 use Rattle.ecall_top.specs.Replies.{Replies, usage_line}
 use Rattle.ecall_top.specs.Run.{run_reply}
@@ -14,8 +15,10 @@ pub replies_some : (asked : Option Command) (input : List ℕ) → (r : Reply) �
 replies_some None input = (record { text = usage_line; status = status.Usage }, refl)
 replies_some (Some command.Run) input = (run_reply input, refl)
 replies_some (Some command.Decode) input = decoded_some 1 (lines_of input)
+replies_some (Some command.Encode) input = (encode_reply input, refl)
 
 pub replies_one : (asked : Option Command) (input : List ℕ) (r s : Reply) → Replies asked input r → Replies asked input s → r ≡ s
 replies_one None input r s a b = a ∙ sym b
 replies_one (Some command.Run) input r s a b = a ∙ sym b
 replies_one (Some command.Decode) input r s a b = decoded_one 1 (lines_of input) r s a b
+replies_one (Some command.Encode) input r s a b = a ∙ sym b

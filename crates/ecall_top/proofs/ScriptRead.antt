@@ -11,7 +11,9 @@ use Rattle.trace_text.specs.declared.reason.Reason.TheVariants as reason
 use Rattle.trace_text.specs.declared.script.ScriptLine.TheVariants as line
 use Rattle.trace_text.specs.Lines.{lines_of, line_fault, is_comment, IsPassedOver, IsLine}
 use Rattle.trace_text.specs.Reading.{Reading, MayFollow, FindsLine, FindsEnd, FindsBad}
-use Rattle.trace_text.specs.Script.{Said, Script, script_of, script_from, script_line, judged, placed, placed_line, said_after, in_front}
+use Rattle.msd_fit.specs.declared.facts.Facts.{Facts}
+use Rattle.trace_text.specs.Facts.{facts_in}
+use Rattle.trace_text.specs.Script.{Said, Script, script_of, script_from, script_line, judged, placed, placed_fact, placed_event, placed_line, said_after, in_front}
 use Rattle.ecall_top.specs.inner.Progress.{events_before, ReadSoFar, event_of}
 use Rattle.ecall_top.proofs.Takings.{AtHand, front_follows}
 
@@ -35,7 +37,7 @@ script_from-passed said (text ∷ passed) number rest h =
     passed_step said text number (passed ++ rest) h.0
     ∙ (script_from-passed said passed (number + 1) rest h.1 ∙ ap (λ n. script_from said n rest) (omega arith))
 
-pub script_from-none : (said : Said) (number : ℕ) → script_from said number [] ≡ record { ready = said.ready; events = []; refused = None }
+pub script_from-none : (said : Said) (number : ℕ) → script_from said number [] ≡ record { facts = facts_in said.facts; events = []; refused = None }
 unfolding script_from
 script_from-none said number = refl
 
@@ -43,7 +45,7 @@ pub script_from-line : (said : Said) (text : List ℕ) (number : ℕ) (rest : Li
 unfolding script_from
 script_from-line said text number rest says h = rw (script_from, h) refl
 
-pub script_from-bad : (said : Said) (text : List ℕ) (number : ℕ) (rest : List (List ℕ)) (why : Reason) → judged said text ≡ Err why → script_from said number (text ∷ rest) ≡ record { ready = said.ready; events = []; refused = Some (record { line = number; reason = why }) }
+pub script_from-bad : (said : Said) (text : List ℕ) (number : ℕ) (rest : List (List ℕ)) (why : Reason) → judged said text ≡ Err why → script_from said number (text ∷ rest) ≡ record { facts = facts_in said.facts; events = []; refused = Some (record { line = number; reason = why }) }
 unfolding script_from
 script_from-bad said text number rest why h = rw (script_from, h) refl
 
@@ -74,14 +76,14 @@ read_line front old new said events bytes says read hand finds judge = record {
 }
 
 -- a line that is found and then refused ends the script, whatever follows
-pub read_refused : (front : List ℕ) (old new : Reading) (said : Said) (events : List Event) (bytes : List ℕ) (why : Reason) → ReadSoFar front old said events → AtHand old new bytes → (finds : FindsLine old new bytes) → judged said new.text ≡ Err why → (more : List ℕ) → MayFollow new.feed more → script_of ((front ++ finds.front) ++ more) ≡ record { ready = said.ready; events = events; refused = Some (record { line = new.lines; reason = why }) }
+pub read_refused : (front : List ℕ) (old new : Reading) (said : Said) (events : List Event) (bytes : List ℕ) (why : Reason) → ReadSoFar front old said events → AtHand old new bytes → (finds : FindsLine old new bytes) → judged said new.text ≡ Err why → (more : List ℕ) → MayFollow new.feed more → script_of ((front ++ finds.front) ++ more) ≡ record { facts = facts_in said.facts; events = events; refused = Some (record { line = new.lines; reason = why }) }
 read_refused front old new said events bytes why read hand finds judge more follows =
     line_found front old new said events bytes read hand finds more follows
     ∙ (ap (events_before events) (script_from-bad said new.text new.lines (lines_of more) why judge)
-    ∙ ap (λ es. record { ready = said.ready; events = es; refused = Some (record { line = new.lines; reason = why }) }) (append-nil events))
+    ∙ ap (λ es. record { facts = facts_in said.facts; events = es; refused = Some (record { line = new.lines; reason = why }) }) (append-nil events))
 
 -- so does a line that is refused for its length or its bytes
-pub read_bad : (front : List ℕ) (old new : Reading) (said : Said) (events : List Event) (bytes : List ℕ) (bad : BadLine) → ReadSoFar front old said events → AtHand old new bytes → (finds : FindsBad old new bytes bad) → (more : List ℕ) → MayFollow new.feed more → script_of ((front ++ finds.front) ++ more) ≡ record { ready = said.ready; events = events; refused = Some bad }
+pub read_bad : (front : List ℕ) (old new : Reading) (said : Said) (events : List Event) (bytes : List ℕ) (bad : BadLine) → ReadSoFar front old said events → AtHand old new bytes → (finds : FindsBad old new bytes bad) → (more : List ℕ) → MayFollow new.feed more → script_of ((front ++ finds.front) ++ more) ≡ record { facts = facts_in said.facts; events = events; refused = Some bad }
 read_bad front old new said events bytes bad read hand finds more follows =
     let found : (text : List ℕ) × (rest : List (List ℕ)) × (lines_of (finds.front ++ more) ≡ finds.passed ++ text ∷ rest) × (line_fault text ≡ Some bad.reason) = finds.lines more follows in
     ap script_of (append_assoc front finds.front more)
@@ -90,18 +92,18 @@ read_bad front old new said events bytes bad read hand finds more follows =
     ap (script_from said (old.lines + 1)) found.2
     ∙ (script_from-passed said finds.passed (old.lines + 1) (found.0 ∷ found.1) finds.each
     ∙ (script_from-bad said found.0 (old.lines + 1 + length finds.passed) found.1 bad.reason (judged-fault said found.0 bad.reason found.3)
-    ∙ ap (λ n. record { ready = said.ready; events = []; refused = Some (record { line = n; reason = bad.reason }) }) (omega (arith, finds.number)))))
-    ∙ ap (λ es. record { ready = said.ready; events = es; refused = Some bad }) (append-nil events)))
+    ∙ ap (λ n. record { facts = facts_in said.facts; events = []; refused = Some (record { line = n; reason = bad.reason }) }) (omega (arith, finds.number)))))
+    ∙ ap (λ es. record { facts = facts_in said.facts; events = es; refused = Some bad }) (append-nil events)))
 
 -- at the end of the input the script is what the lines said
-pub read_end : (front : List ℕ) (old new : Reading) (said : Said) (events : List Event) (bytes : List ℕ) → ReadSoFar front old said events → AtHand old new bytes → FindsEnd old new bytes → script_of (front ++ bytes) ≡ record { ready = said.ready; events = events; refused = None }
+pub read_end : (front : List ℕ) (old new : Reading) (said : Said) (events : List Event) (bytes : List ℕ) → ReadSoFar front old said events → AtHand old new bytes → FindsEnd old new bytes → script_of (front ++ bytes) ≡ record { facts = facts_in said.facts; events = events; refused = None }
 read_end front old new said events bytes read hand finds =
     read.script bytes hand.follows
     ∙ (ap (events_before events) (
     ap (script_from said (old.lines + 1)) (finds.lines ∙ sym (append-nil finds.passed))
     ∙ (script_from-passed said finds.passed (old.lines + 1) [] finds.each
     ∙ script_from-none said (old.lines + 1 + length finds.passed)))
-    ∙ ap (λ es. record { ready = said.ready; events = es; refused = None }) (append-nil events))
+    ∙ ap (λ es. record { facts = facts_in said.facts; events = es; refused = None }) (append-nil events))
 
 pub script_from-comment : (said : Said) (text : List ℕ) (number : ℕ) (rest : List (List ℕ)) → judged said text ≡ Ok None → script_from said number (text ∷ rest) ≡ script_from said (number + 1) rest
 unfolding script_from
@@ -115,12 +117,12 @@ IsNoFact _ = Unit {0}
 -- behind the first event line no fact line stands
 no_fact_placed : (said : Said) → said.eventful ≡ true → (says : ScriptLine) → IsNoFact (placed said says)
 no_fact_placed said eventful (line.Fact f) =
-    subst (λ (b : Bool). IsNoFact (cond b (Err reason.Late) (Ok (Some (line.Fact f))))) (sym eventful) tt
-no_fact_placed said eventful (line.Event e) = by_ready said.ready
+    subst (λ (b : Bool). IsNoFact (cond b (Err reason.Late) (placed_fact said.facts f))) (sym eventful) tt
+no_fact_placed said eventful (line.Event e) = by_facts (facts_in said.facts)
   where
-    by_ready : (r : Option (List ℕ)) → IsNoFact (elim r [ None ↦ Err reason.Missing | Some octets ↦ Ok (Some (line.Event e)) ])
-    by_ready None = tt
-    by_ready (Some octets) = tt
+    by_facts : (known : Option Facts) → IsNoFact (placed_event known e)
+    by_facts None = tt
+    by_facts (Some known) = tt
 
 pub no_fact_judged : (said : Said) → said.eventful ≡ true → (text : List ℕ) → IsNoFact (judged said text)
 no_fact_judged said eventful text = by_parts (line_fault text) (is_comment text) (script_line text)
@@ -132,15 +134,15 @@ no_fact_judged said eventful text = by_parts (line_fault text) (is_comment text)
     by_parts None false (Ok says) = no_fact_placed said eventful says
 
 -- behind the first event line the facts stay as they are
-pub ready_kept : (said : Said) → said.eventful ≡ true → (texts : List (List ℕ)) (number : ℕ) → (script_from said number texts).ready ≡ said.ready
-ready_kept said eventful [] number = ap (λ s. s.ready) (script_from-none said number)
-ready_kept said eventful (text ∷ texts) number =
-    by_answer (judged said text) refl (no_fact_judged said eventful text) (ready_kept said eventful texts (number + 1))
-    (λ e. ready_kept (said_after said (line.Event e)) refl texts (number + 1))
+pub facts_kept : (said : Said) → said.eventful ≡ true → (texts : List (List ℕ)) (number : ℕ) → (script_from said number texts).facts ≡ facts_in said.facts
+facts_kept said eventful [] number = ap (λ s. s.facts) (script_from-none said number)
+facts_kept said eventful (text ∷ texts) number =
+    by_answer (judged said text) refl (no_fact_judged said eventful text) (facts_kept said eventful texts (number + 1))
+    (λ e. facts_kept (said_after said (line.Event e)) refl texts (number + 1))
   where
-    by_answer : (a : Result (Option ScriptLine) Reason) → judged said text ≡ a → IsNoFact a → (script_from said (number + 1) texts).ready ≡ said.ready → ((e : Event) → (script_from (said_after said (line.Event e)) (number + 1) texts).ready ≡ said.ready) → (script_from said number (text ∷ texts)).ready ≡ said.ready
-    by_answer (Ok None) h fact same event = ap (λ s. s.ready) (script_from-comment said text number texts h) ∙ same
+    by_answer : (a : Result (Option ScriptLine) Reason) → judged said text ≡ a → IsNoFact a → (script_from said (number + 1) texts).facts ≡ facts_in said.facts → ((e : Event) → (script_from (said_after said (line.Event e)) (number + 1) texts).facts ≡ facts_in said.facts) → (script_from said number (text ∷ texts)).facts ≡ facts_in said.facts
+    by_answer (Ok None) h fact same event = ap (λ s. s.facts) (script_from-comment said text number texts h) ∙ same
     by_answer (Ok (Some (line.Fact f))) h fact same event = absurd fact
     by_answer (Ok (Some (line.Event e))) h fact same event =
-        ap (λ s. s.ready) (script_from-line said text number texts (line.Event e) h) ∙ event e
-    by_answer (Err why) h fact same event = ap (λ s. s.ready) (script_from-bad said text number texts why h)
+        ap (λ s. s.facts) (script_from-line said text number texts (line.Event e) h) ∙ event e
+    by_answer (Err why) h fact same event = ap (λ s. s.facts) (script_from-bad said text number texts why h)

@@ -11,7 +11,8 @@ use Rattle.trace_text.specs.declared.fault.LineFault.TheVariants as fault
 use Rattle.trace_text.specs.declared.script.ScriptLine.{ScriptLine}
 use Rattle.trace_text.specs.Lines.{Numbered}
 use Rattle.trace_text.specs.Reading.{Reading, ReadsLine}
-use Rattle.trace_text.specs.Script.{Said, judged, placed, placed_line, script_line, script_answer}
+use Rattle.trace_text.specs.Script.{Said, judged, placed, placed_line, script_line}
+use Rattle.trace_text.specs.Lines.{line_answer}
 use Rattle.ecall_top.specs.declared.run.Turn.{Turn}
 use Rattle.ecall_top.specs.declared.run.Turn.TheVariants as turn
 use Rattle.ecall_top.specs.declared.stage.Stage.{Stage}
@@ -35,7 +36,7 @@ use Rattle.ecall_top.proofs.ScriptRead.{judged-line}
 use Rattle.ecall_top.proofs.Endings.{ends_done, ending_bad, ending_line, ends_refused, cut_refused, ends_unread, ends_too_long, stands_behind, cut_line, cut_between}
 
 -- what is read in a line is what it says
-answer_ok : (line : Numbered) (says : ScriptLine) → (r : Result ScriptLine Reason) → Ok says ≡ script_answer line r → r ≡ Ok says
+answer_ok : (line : Numbered) (says : ScriptLine) → (r : Result ScriptLine Reason) → Ok says ≡ line_answer line r → r ≡ Ok says
 answer_ok line says (Ok told) h = cc
 answer_ok line says (Err why) h = absurd (cc)
 
@@ -45,12 +46,12 @@ record Why (line : Numbered) (r : Result ScriptLine Reason) (bad : BadLine) : Ty
   reads : r ≡ Err why
   bad_is : bad ≡ record { line = line.number; reason = why }
 
-answer_err : (line : Numbered) (bad : BadLine) → (r : Result ScriptLine Reason) → Err bad ≡ script_answer line r → Why line r bad
+answer_err : (line : Numbered) (bad : BadLine) → (r : Result ScriptLine Reason) → Err bad ≡ line_answer line r → Why line r bad
 answer_err line bad (Ok told) h = absurd (cc)
 answer_err line bad (Err why) h = record { why = why; reads = refl; bad_is = cc }
 
 -- what is said was played
-pub plays_said : (line : Numbered) (says : ScriptLine) (number : ℕ) (stands : Said → List Event → Type 0) (calls : ℕ) (held held' : Option (List ℕ)) (t : Turn) → Ok says ≡ script_answer line (script_line line.text) → number ≡ line.number → ((said : Said) (events : List Event) → stands said events → Plays (placed said says) number said events calls held held' t) → (said : Said) (events : List Event) → stands said events → Plays (placed_line said (script_line line.text)) line.number said events calls held held' t
+pub plays_said : (line : Numbered) (says : ScriptLine) (number : ℕ) (stands : Said → List Event → Type 0) (calls : ℕ) (held held' : Option (List ℕ)) (t : Turn) → Ok says ≡ line_answer line (script_line line.text) → number ≡ line.number → ((said : Said) (events : List Event) → stands said events → Plays (placed said says) number said events calls held held' t) → (said : Said) (events : List Event) → stands said events → Plays (placed_line said (script_line line.text)) line.number said events calls held held' t
 plays_said line says number stands calls held held' t reads number_is plays said events s =
     subst (λ (r : Result ScriptLine Reason). Plays (placed_line said r) line.number said events calls held held' t) (sym (answer_ok line says (script_line line.text) reads))
     (subst (λ (n : ℕ). Plays (placed said says) n said events calls held held' t) number_is (plays said events s))
@@ -64,7 +65,7 @@ refused_by place number said events calls held held' reason why placed says answ
     (inl (why, record { reason = reason; placed = placed; says = says; wrote = h.1 }))
 
 -- what is refused was refused
-pub plays_refused : (line : Numbered) (bad : BadLine) (stands : Said → List Event → Type 0) (calls : ℕ) (held held' : Option (List ℕ)) (answer : Status) → Err bad ≡ script_answer line (script_line line.text) → EndsWithText held held' (refusal_line (refused.Line bad)) (status.Refused (refused.Line bad)) answer → (said : Said) (events : List Event) → stands said events → Plays (placed_line said (script_line line.text)) line.number said events calls held held' (turn.End answer)
+pub plays_refused : (line : Numbered) (bad : BadLine) (stands : Said → List Event → Type 0) (calls : ℕ) (held held' : Option (List ℕ)) (answer : Status) → Err bad ≡ line_answer line (script_line line.text) → EndsWithText held held' (refusal_line (refused.Line bad)) (status.Refused (refused.Line bad)) answer → (said : Said) (events : List Event) → stands said events → Plays (placed_line said (script_line line.text)) line.number said events calls held held' (turn.End answer)
 plays_refused line bad stands calls held held' answer reads ends said events s =
     let why : Why line (script_line line.text) bad = answer_err line bad (script_line line.text) reads in
     refused_by (placed_line said (script_line line.text)) line.number said events calls held held' why.why (refused.Line bad)

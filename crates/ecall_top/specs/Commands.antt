@@ -10,6 +10,7 @@ abbrev pub command_named : List ℕ → Option Command
 command_named word =
     if bytes_eq word (codes "run") then Some command.Run
     else if bytes_eq word (codes "decode") then Some command.Decode
+    else if bytes_eq word (codes "encode") then Some command.Encode
     else None
 
 -- the command that the words name; no other words are a form of words

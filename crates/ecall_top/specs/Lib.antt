@@ -1,5 +1,6 @@
 pub mod Commands
 pub mod Decode
+pub mod Encode
 pub mod Outcome
 pub mod Refusals
 pub mod Replies

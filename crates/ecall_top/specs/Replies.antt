@@ -6,6 +6,7 @@ use Rattle.ecall_top.specs.declared.command.Command.{Command}
 use Rattle.ecall_top.specs.declared.command.Command.TheVariants as command
 use Rattle.ecall_top.specs.declared.status.Status.TheVariants as status
 use Rattle.ecall_top.specs.Decode.{IsDecoded}
+use Rattle.ecall_top.specs.Encode.{encode_reply}
 use Rattle.ecall_top.specs.Refusals.{Reply}
 use Rattle.ecall_top.specs.Run.{run_reply}
 
@@ -17,3 +18,4 @@ abbrev pub Replies : Option Command → List ℕ → Reply → Type 0
 Replies None input r = r ≡ record { text = usage_line; status = status.Usage }
 Replies (Some command.Run) input r = r ≡ run_reply input
 Replies (Some command.Decode) input r = IsDecoded input r
+Replies (Some command.Encode) input r = r ≡ encode_reply input

@@ -1,7 +1,7 @@
 -- What `ecall run` replies to a script: its trace, and then the refusal of the first line that is refused. This
 -- project's profile. Cited by the reply to words and an input, and by the law that every trace is agreed.
 use Rattle.std.specs.Prelude.{ℕ, List, [], Option, Some, None}
-use Rattle.ivs_machine.specs.declared.facts.Facts.TheVariants as facts
+use Rattle.msd_fit.specs.declared.facts.Facts.{Facts}
 use Rattle.trace_text.specs.declared.entry.Entry.{Entry}
 use Rattle.trace_text.specs.declared.event.Event.{Event}
 use Rattle.trace_text.specs.declared.reason.BadLine.{BadLine}
@@ -13,13 +13,13 @@ use Rattle.ecall_top.specs.declared.status.Status.TheVariants as status
 use Rattle.ecall_top.specs.Refusals.{Reply, refusal_reply, in_front_of}
 
 -- the trace of these events, where the vehicle's facts are known; without facts there is no event
-abbrev pub played : Option (List ℕ) → List Event → List Entry
+abbrev pub played : Option Facts → List Event → List Entry
 played None events = []
-played (Some octets) events = trace (facts.Ready octets) events
+played (Some known) events = trace known events
 
 -- the trace of a script
 abbrev pub script_trace : Script → List Entry
-script_trace script = played script.ready script.events
+script_trace script = played script.facts script.events
 
 -- a text, and then the line that refuses a line, where one is refused
 abbrev pub ended : List ℕ → Option BadLine → Reply

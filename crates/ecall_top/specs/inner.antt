@@ -1,7 +1,9 @@
 -- Definitions that only contracts of private functions cite: how a command stands between two lines, and what one more
 -- line makes of it. No public contract rests on them.
 pub mod DecodeTurns
+pub mod EncodeTurns
 pub mod Ends
+pub mod LineTurns
 pub mod Progress
 pub mod RunTurns
 pub mod Stage

@@ -11,6 +11,8 @@ pub enum Command {
     Run,
     /// Describe the sets of data that the input has, one on each line.
     Decode,
+    /// Write the octets of the sets that the lines of the input ask for, each of the facts so far.
+    Encode,
 }
 
 /// The command that the words name, if they name one.
@@ -23,6 +25,8 @@ pub(crate) fn read_command(words: &[String]) -> Option<Command>
                 Some(Command::Run)
             } else if word.as_str() == "decode" {
                 Some(Command::Decode)
+            } else if word.as_str() == "encode" {
+                Some(Command::Encode)
             } else {
                 None
             }

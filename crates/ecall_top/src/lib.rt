@@ -19,6 +19,9 @@ mod command;
 mod decode;
 #[cfg(test)]
 mod decode_tests;
+mod encode;
+#[cfg(test)]
+mod encode_tests;
 mod laws;
 mod reading;
 mod refusal;
@@ -45,7 +48,8 @@ const USAGE: &[u8] =
 ///
 /// `run` reads a script and writes its trace. It takes memory for the frames and sessions of the script's calls; where
 /// there is none, it answers `Memory`. `decode` reads sets of data in hexadecimal, one a line, and describes each in
-/// twenty lines. Other words write the usage line.
+/// twenty lines. `encode` reads facts of a vehicle, and lines that ask for a set; it writes the octets of the set that
+/// fits the facts so far in hexadecimal, one a line. Other words write the usage line.
 ///
 /// What is written is handed to `output` in blocks: where one is full, before each read of `input`, and at the end. After
 /// a failed read or write nothing more is read or written.
@@ -62,8 +66,8 @@ pub fn ecall<I: Source, O: Sink>(
 
     // Words that name no command get the usage line unless writing fails.
     ensures usage { command_of (map string_bytes words.now) ≡ None → (result ≡ Status.Usage) ⊎ (result ≡ Status.WriteFault) }
-    // Decoding takes no memory.
-    ensures in_place { command_of (map string_bytes words.now) ≡ Some Command.Decode → result ≡ Status.Memory → ⊥ }
+    // Memory is wanted by `run` alone: decoding, encoding and the usage line take none.
+    ensures in_place { result ≡ Status.Memory → command_of (map string_bytes words.now) ≡ Some Command.Run }
     // A read failed where the answer says so, and else none did; the same of writes.
     ensures unread { ReadCause result (I.faults input.old) (I.faults input.new) }
     ensures unwritten { WriteCause result (O.faults output.old) (O.faults output.new) }
@@ -84,7 +88,7 @@ fn carry_out<I: Source, O: Sink>(
     requires { pending output.old ≡ [] }
     ensures outcome { Outcome (command_of (map string_bytes words.now)) (streams_of I.left (λ block. O.held (sink block)) input.old output.old) (streams_of I.left (λ block. O.held (sink block)) input.new output.new) result }
     ensures usage { command_of (map string_bytes words.now) ≡ None → (result ≡ Status.Usage) ⊎ (result ≡ Status.WriteFault) }
-    ensures in_place { command_of (map string_bytes words.now) ≡ Some Command.Decode → result ≡ Status.Memory → ⊥ }
+    ensures in_place { result ≡ Status.Memory → command_of (map string_bytes words.now) ≡ Some Command.Run }
     ensures unread { ReadCause result (I.faults input.old) (I.faults input.new) }
     ensures unwritten { WriteCause result (O.faults (sink output.old)) (O.faults (sink output.new)) }
     ensures reads_counted { I.faults input.old ≤ I.faults input.new }
@@ -104,7 +108,7 @@ fn reply<I: Source, O: Sink>(
 ) -> Status
     ensures outcome { Outcome (command_of (map string_bytes words.now)) (streams_of I.left (held O.held) input.old output.old) (streams_of I.left (held O.held) input.new output.new) result }
     ensures usage { command_of (map string_bytes words.now) ≡ None → (result ≡ Status.Usage) ⊎ (result ≡ Status.WriteFault) }
-    ensures in_place { command_of (map string_bytes words.now) ≡ Some Command.Decode → result ≡ Status.Memory → ⊥ }
+    ensures in_place { result ≡ Status.Memory → command_of (map string_bytes words.now) ≡ Some Command.Run }
     ensures unread { ReadCause result (I.faults input.old) (I.faults input.new) }
     ensures unwritten { WriteCause result (O.faults (sink output.old)) (O.faults (sink output.new)) }
     ensures reads_counted { I.faults input.old ≤ I.faults input.new }
@@ -114,6 +118,7 @@ fn reply<I: Source, O: Sink>(
     match read_command(words) {
         Some(Command::Run) => run::run(alloc, input, output),
         Some(Command::Decode) => decode::decode_sets(input, output),
+        Some(Command::Encode) => encode::encode_sets(input, output),
         None => usage(output),
     }
 }

@@ -20,7 +20,7 @@ use crate::status::Status;
 use call_io::{Block, Sink, Source};
 use channel_sim::SimFault;
 use std::alloc::Global;
-use trace_text::{Line, Lines, ScriptLine, TextOut, read_script};
+use trace_text::{Draft, Line, Lines, ScriptLine, TextOut, read_script};
 
 /// What a turn of a run comes to.
 #[derive(Drop)]
@@ -43,7 +43,7 @@ pub(crate) fn run<I: Source, O: Sink>(
     ensures onward { Onward (way O.held output.old) (way O.held output.new) }
 {
     let mut lines = Lines::new();
-    let mut stage = Stage::Facts(None);
+    let mut stage = Stage::Facts(Draft::new());
     loop {
         match take_turn(alloc, &mut lines, stage, input, output) {
             Turn::Next(next) => stage = next,

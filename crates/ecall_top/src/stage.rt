@@ -1,24 +1,20 @@
 //! What a script that is being played has come to.
 
 ghost use Rattle.std.specs.Prelude.{◌+◌, ◌<◌, ◌≤◌, List};
-ghost use Rattle.ivs_machine.specs.declared.facts.Facts.TheVariants as facts;
 ghost use Rattle.trace_text.specs.declared.event.Event.{Event};
 ghost use Rattle.trace_text.specs.Script.{Said};
 ghost use Rattle.channel_sim.specs.World as model;
 ghost use Rattle.channel_sim.specs.WorldStands.{WorldStandsFor, calls_drawn};
-ghost use Rattle.ecall_top.specs.inner.Stage.{HaltWriteCause, StageStandsFor, Obeys, PlaysEvent, calls_in};
+ghost use Rattle.ecall_top.specs.inner.Stage.{HaltWriteCause, StageStandsFor, Obeys, PlaysEvent, Learns, calls_in};
 
 use channel_sim::{SimFault, World};
-use ivs_machine::Facts;
-use link_frames::OCTETS;
 use std::alloc::Global;
-use trace_text::{Event, FactLine, Listener, Reason, ScriptLine};
+use trace_text::{Draft, Event, FactLine, Listener, Reason, ScriptLine};
 
 /// What the lines so far have come to: facts, and from the first event line on a world.
 #[derive(Drop)]
 pub(crate) enum Stage {
-    /// The ready set of data, where a `set` line came.
-    Facts(Option<[u8; OCTETS]>),
+    Facts(Draft),
     Playing(World),
 }
 
@@ -42,22 +38,33 @@ fn play<H: Listener>(world: World, alloc: Global, event: &Event, to: &mut H) -> 
     }
 }
 
+/// Adds a fact line in front of the first event line.
+fn learn(mut draft: Draft, fact: &FactLine) -> Result<Stage, Halt>
+    ensures { Learns draft fact.now result }
+{
+    if draft.add(*fact) {
+        Ok(Stage::Facts(draft))
+    } else {
+        Err(Halt::Refused(Reason::Many))
+    }
+}
+
 /// Plays a line behind these facts.
 fn begin<H: Listener>(
-    ready: Option<[u8; OCTETS]>,
+    draft: Draft,
     alloc: Global,
     says: &ScriptLine,
     to: &mut H,
 ) -> Result<Stage, Halt>
-    ensures obeys { (said : Said) (events : List Event) → StageStandsFor (Stage.Facts ready) said events → Obeys (H.grew to.old to.new) (H.partly to.old to.new) (Stage.Facts ready) said events says.now result }
+    ensures obeys { (said : Said) (events : List Event) → StageStandsFor (Stage.Facts draft) said events → Obeys (H.grew to.old to.new) (H.partly to.old to.new) (Stage.Facts draft) said events says.now result }
     ensures unwritten { HaltWriteCause result (H.faults to.old) (H.faults to.new) }
     ensures counted { H.faults to.old ≤ H.faults to.new }
 {
     match says {
-        ScriptLine::Fact(FactLine::Set(octets)) => Ok(Stage::Facts(Some(*octets))),
-        ScriptLine::Event(event) => match ready {
+        ScriptLine::Fact(fact) => learn(draft, fact),
+        ScriptLine::Event(event) => match draft.facts() {
             None => Err(Halt::Refused(Reason::Missing)),
-            Some(octets) => play(World::new(alloc, Facts::Ready(octets)), alloc, event, to),
+            Some(facts) => play(World::new(alloc, facts), alloc, event, to),
         },
     }
 }
@@ -94,7 +101,7 @@ impl Stage {
         ensures counted { H.faults to.old ≤ H.faults to.new }
     {
         match self {
-            Stage::Facts(ready) => begin(ready, alloc, says, to),
+            Stage::Facts(draft) => begin(draft, alloc, says, to),
             Stage::Playing(world) => go_on(world, alloc, says, to),
         }
     }

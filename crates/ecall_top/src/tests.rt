@@ -6,10 +6,12 @@ ghost use Rattle.std.specs.Prelude.{◌<◌, ◌^◌};
 use crate::{Refused, Status, ecall};
 use call_io::{MemSink, MemSource, Sink, Source};
 use std::alloc::{AllocError, Global};
+use std::process::Abort;
 use std::test::Fail;
 use trace_text::{BadLine, Reason};
 
-/// A set of data, and the digits of its 140 octets, for which `H` stands in the expected lines.
+/// A set of data; the digits of its 140 octets, for which `H` stands in the expected lines; and its summary, for which `S`
+/// stands there.
 const SET: &str = "set 02000681d54970d65c3597ca0420c414640af05f080452e9960413e2550168\n";
 
 const DIGITS: &str = "02000681d54970d65c3597ca0420c414640af05f080452e9960413e2550168";
@@ -17,24 +19,32 @@ const DIGITS: &str = "02000681d54970d65c3597ca0420c414640af05f080452e9960413e255
 const ZEROS: &str =
     "00000000000000000000000000000000000000000000000000000000000000000000000000000000000000000000000000000000000000000000000000000000000000000000000000000000000000000000000000000000000000000000000000000000000000000000000000";
 
+const SUMMARY: &str = "ok 1 WM9VDSVDSYA123456 1577836800 173880000 41700000";
+
+/// The facts of which a vehicle makes that set.
+const FACTS: &str =
+    "vin WM9VDSVDSYA123456\nkind 1\nfuel 1000000\ntime 1577836800\nplace 173880000 41700000\nheading 45\ntrusted yes\n";
+
 /// The first call: one set goes from the vehicle to the point, is shown and acknowledged.
 const CALL: &str =
     "trigger auto\nanswer\ndeliver up 1 1\ndeliver down 1 1\ndeliver up 1 2\ndeliver down 1 2\ndeliver down 1 3\n";
 
 const CALL_TRACE: &str =
-    "0 dial 1\n0 up vehicle 1\n0 voice vehicle 1 muted muted\n0 send vehicle 1 init\n0 up point 1\n0 voice point 1 muted muted\n0 send point 1 start 1\n0 send vehicle 1 data 1 0 H\n0 shown 1 1 H\n0 send point 1 ack 1\n0 send point 1 app 1 positive\n0 acked 1 1 H\n0 voice vehicle 1 open open\n";
+    "0 dial 1\n0 up vehicle 1\n0 voice vehicle 1 muted muted\n0 send vehicle 1 init\n0 up point 1\n0 voice point 1 muted muted\n0 send point 1 start 1\n0 send vehicle 1 data 1 0 H\n0 shown 1 1 H S\n0 send point 1 ack 1\n0 send point 1 app 1 positive\n0 acked 1 1 H\n0 voice vehicle 1 open open\n";
 
 /// What the trace has when the call is up.
 const UP: &str =
     "0 dial 1\n0 up vehicle 1\n0 voice vehicle 1 muted muted\n0 send vehicle 1 init\n0 up point 1\n0 voice point 1 muted muted\n";
 
-/// Text with the digits of the set in place of each `H`.
+/// Text with the digits of the set in place of each `H`, and its summary in place of each `S`.
 fn expand(alloc: Global, text: &str) -> Result<String, AllocError> {
     let mut all = String::new(alloc);
     for c in text.chars() {
         if c == 'H' {
             all.push_str(DIGITS)?;
             all.push_str(ZEROS)?;
+        } else if c == 'S' {
+            all.push_str(SUMMARY)?;
         } else {
             all.push(c)?;
         }
@@ -100,7 +110,7 @@ fn plays_scripts(rt: HostRuntime) -> Result<(), Fail> {
             "trigger auto\nanswer\ndeliver up 1 1\ndeliver up 1 1\ndeliver down 1 1\ndeliver down 1 1\ndeliver up 1 2\ndeliver up 1 2\ndeliver down 1 3\ndeliver down 1 2\ndeliver down 1 4\n",
             Status::Done,
             UP,
-            "0 send point 1 start 1\n0 send vehicle 1 data 1 0 H\n0 shown 1 1 H\n0 send point 1 ack 1\n0 send point 1 app 1 positive\n0 send point 1 ack 1\n0 acked 1 1 H\n0 voice vehicle 1 open open\n",
+            "0 send point 1 start 1\n0 send vehicle 1 data 1 0 H\n0 shown 1 1 H S\n0 send point 1 ack 1\n0 send point 1 app 1 positive\n0 send point 1 ack 1\n0 acked 1 1 H\n0 voice vehicle 1 open open\n",
         ),
         // A fact line behind an event line, and an unknown word, behind comments and empty lines.
         (
@@ -115,6 +125,7 @@ fn plays_scripts(rt: HostRuntime) -> Result<(), Fail> {
             "",
             "refused 4 1\n",
         ),
+        ("trigger soft", bad(2, Reason::Word), "", "refused 2 1\n"),
     ];
     for (script, status, first, then) in &table {
         let mut input = source(alloc, &[SET, script], 4096, Vec::new(alloc))?;
@@ -140,11 +151,24 @@ fn refuses_and_ends(rt: HostRuntime) -> Result<(), Fail> {
             bad(1, Reason::Missing),
             "refused 1 7\n",
         ),
+        ("run", "kind 14", bad(1, Reason::Number), "refused 1 2\n"),
+        (
+            "run",
+            "vin WM9VDSVDSYA12345I",
+            bad(1, Reason::Word),
+            "refused 1 1\n",
+        ),
+        (
+            "run",
+            "vin ZZZZZZZZZZZZZZZZZ\nanswer",
+            bad(2, Reason::Missing),
+            "refused 2 7\n",
+        ),
         ("run", "", Status::Done, ""),
         ("run", "\n\n# nothing\n", Status::Done, ""),
         ("run fast", "", Status::Usage, usage),
         ("decode all", "", Status::Usage, usage),
-        ("encode", "", Status::Usage, usage),
+        ("frames", "", Status::Usage, usage),
         ("--help", "", Status::Usage, usage),
         ("", "", Status::Usage, usage),
     ];
@@ -169,35 +193,65 @@ fn reads_a_byte_at_a_time(rt: HostRuntime) -> Result<(), Fail> {
     Ok(())
 }
 
-/// How many lines of the trace stand before a write, from the first on.
-fn lines_before(write: u64) -> usize {
-    match write {
-        0 | 1 => 0,
-        2 => 1,
-        3 => 6,
-        4 => 7,
-        5 => 8,
-        _ => 11,
-    }
+#[test]
+fn makes_its_set_of_facts(rt: HostRuntime) -> Result<(), Fail> {
+    let alloc = rt.alloc();
+    let want = expand(alloc, CALL_TRACE)?;
+    let mut input = source(alloc, &[FACTS, CALL], 4096, Vec::new(alloc))?;
+    let mut output = sink(alloc, Vec::new(alloc))?;
+    assert_eq!(rt; call(alloc, "run", &mut input, &mut output)?, Status::Done);
+    assert_eq!(rt; output.bytes(), want.as_bytes());
+    Ok(())
+}
+
+#[test]
+fn shows_octets_that_are_no_set(rt: HostRuntime) -> Result<(), Fail> {
+    let alloc = rt.alloc();
+    let script = "set 03\ntrigger auto\nanswer\ndeliver up 1 1\ndeliver down 1 1\ndeliver up 1 2\n";
+    let mut input = source(alloc, &[script], 4096, Vec::new(alloc))?;
+    let mut output = sink(alloc, Vec::new(alloc))?;
+    assert_eq!(rt; call(alloc, "run", &mut input, &mut output)?, Status::Done);
+    // 139 octets 0 stand behind the one: `ZEROS` are 109 of them.
+    let mut want = String::from_str(alloc, " 03")?;
+    want.push_str(ZEROS)?;
+    want.push_str(
+        "000000000000000000000000000000000000000000000000000000000000 refused 0 8 3\n0 send point 1 ack 1\n0 send point 1 app 1 positive\n",
+    )?;
+    assert!(rt; output.bytes().ends_with(want.as_bytes()));
+    Ok(())
+}
+
+/// Checks that a write that fails ends the first call behind so many lines, where the source gives a byte at a time: those
+/// that one line of the script adds are one write.
+fn expect_cut(rt: &impl Abort, alloc: Global, write: u64, lines: usize) -> Result<(), Fail> {
+    let want = expand(alloc, CALL_TRACE)?;
+    let mut fails = Vec::new(alloc);
+    fails.push(write)?;
+    let mut input = source(alloc, &[SET, CALL], 1, Vec::new(alloc))?;
+    let mut output = sink(alloc, fails)?;
+    let answer = call(alloc, "run", &mut input, &mut output)?;
+    assert_eq!(rt; answer, Status::WriteFault, "write {write}");
+    assert!(rt;
+        want.as_bytes().starts_with(output.bytes()),
+        "write {write}"
+    );
+    let written = output.bytes().iter().filter(|b| **b == b'\n').count();
+    assert_eq!(rt; written, lines, "write {write}");
+    Ok(())
 }
 
 #[test]
 fn stops_at_each_failed_write(rt: HostRuntime) -> Result<(), Fail> {
-    let alloc = rt.alloc();
-    let want = expand(alloc, CALL_TRACE)?;
-    // Those that one line of the script adds are one write, since the source gives a byte at a time.
-    for fail in 1u64..=6 {
-        let mut input = source(alloc, &[SET, CALL], 1, Vec::new(alloc))?;
-        let mut fails = Vec::new(alloc);
-        fails.push(fail)?;
-        let mut output = sink(alloc, fails)?;
-        let answer = call(alloc, "run", &mut input, &mut output)?;
-        assert_eq!(rt; answer, Status::WriteFault, "write {fail}");
-        assert!(rt; want.as_bytes().starts_with(output.bytes()), "write {fail}");
-        let lines = output.bytes().iter().filter(|b| **b == b'\n').count();
-        assert_eq!(rt; lines, lines_before(fail), "write {fail}");
+    let writes = [(1, 0), (2, 1), (3, 6), (4, 7), (5, 8), (6, 11)];
+    for (write, lines) in &writes {
+        expect_cut(&rt, rt.alloc(), *write, *lines)?;
     }
-    // Where the whole script is at hand, all of it is one write.
+    Ok(())
+}
+
+#[test]
+fn writes_at_once_what_is_at_hand(rt: HostRuntime) -> Result<(), Fail> {
+    let alloc = rt.alloc();
     let mut input = source(alloc, &[SET, CALL], 4096, Vec::new(alloc))?;
     let fails = vec![in alloc; 1]?;
     let mut output = sink(alloc, fails)?;
@@ -210,7 +264,6 @@ fn stops_at_each_failed_write(rt: HostRuntime) -> Result<(), Fail> {
     let fails = vec![in alloc; 2]?;
     let mut output = sink(alloc, fails)?;
     assert_eq!(rt; call(alloc, "run", &mut input, &mut output)?, Status::Done);
-    assert_eq!(rt; output.bytes(), want.as_bytes());
     Ok(())
 }
 

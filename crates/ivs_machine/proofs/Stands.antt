@@ -1,8 +1,9 @@
 -- Lemmas on the states that a vehicle stands for.
-use Rattle.std.proofs.Common.{◌≡◌, ◌<◌, ℕ, Bool, true, List, [], ◌∷◌, refl, sym, ◌∙◌, ap, subst, arith, eq-eqb}
+use Rattle.std.proofs.Common.{◌≡◌, ◌<◌, ℕ, min, Bool, true, List, [], ◌∷◌, refl, sym, ◌∙◌, ap, subst, arith, eq-eqb}
 use Rattle.link_frames.specs.declared.requests.Requests.{Requests}
 use Rattle.link_frames.specs.Requests.{RequestsStandFor}
-use Rattle.ivs_machine.specs.declared.facts.Facts.{Facts}
+use Rattle.msd_fit.specs.declared.facts.Facts.{Facts}
+use Rattle.msd_fit.specs.declared.cause.Cause.{Cause}
 use Rattle.ivs_machine.specs.declared.vehicle.Ivs.{Ivs}
 use Rattle.ivs_machine.specs.declared.vehicle.Call as kept_call
 use Rattle.ivs_machine.specs.declared.vehicle.Stage as kept_stage
@@ -18,12 +19,18 @@ call_of kept obeyed made counted =
     record { number = kept.number; stage = stage_of kept.stage; obeyed = obeyed; made = made; counted = counted }
 
 -- the vehicle in that call
-abbrev pub in_call : Ivs → kept_call.Call → (obeyed : List ℕ) → (made : List (ℕ × List ℕ)) → (counted : List ℕ) → Vehicle
-in_call ivs kept obeyed made counted = record { facts = ivs.facts; phase = InCall (call_of kept obeyed made counted) }
+abbrev pub in_call : Ivs → kept_call.Call → (sets : ℕ) → (obeyed : List ℕ) → (made : List (ℕ × List ℕ)) → (counted : List ℕ) → Vehicle
+in_call ivs kept sets obeyed made counted = record { facts = ivs.facts; cause = ivs.cause; sets = sets; phase = InCall (call_of kept obeyed made counted) }
+
+-- the vehicle that this one stands for, with the facts and the cause that this one has
+same_facts : (ivs : Ivs) (v : Vehicle) → IvsStandsFor ivs v → v ≡ record { facts = ivs.facts; cause = ivs.cause; sets = v.sets; phase = v.phase }
+same_facts ivs v stands =
+    ap (λ (f : Facts). record v { facts = f }) stands.facts
+    ∙ ap (λ (why : Cause). record v { facts = ivs.facts; cause = why }) stands.cause
 
 -- what is so of each vehicle in a call that this one stands for
 pub each_in_call : (ivs : Ivs) (kept : kept_call.Call) (P : Vehicle → Type 0) → ivs.phase ≡ phase.InCall kept
-    → ((obeyed : List ℕ) (made : List (ℕ × List ℕ)) (counted : List ℕ) → greatest obeyed ≡ kept.served → IsLastSet kept.octets made → IsOfStage (stage_of kept.stage) made → RequestsStandFor kept.counted counted → P (in_call ivs kept obeyed made counted))
+    → ((sets : ℕ) (obeyed : List ℕ) (made : List (ℕ × List ℕ)) (counted : List ℕ) → min sets 255 ≡ ivs.sets → greatest obeyed ≡ kept.served → IsLastSet kept.octets made → IsOfStage (stage_of kept.stage) made → RequestsStandFor kept.counted counted → P (in_call ivs kept sets obeyed made counted))
     → (v : Vehicle) → IvsStandsFor ivs v → P v
 each_in_call ivs kept P is each v stands =
     let opened = subst (λ p. PhaseStandsFor p v.phase) is stands.phase in
@@ -31,18 +38,17 @@ each_in_call ivs kept P is each v stands =
     let told : CallStandsFor kept call = opened.2 in
     let request : IsOfStage (stage_of kept.stage) call.made = subst (λ s. IsOfStage s call.made) told.stage told.request in
     let named : call ≡ call_of kept call.obeyed call.made call.counted = ap (λ (n : ℕ). record call { number = n }) told.number ∙ ap (λ (s : Stage). record call { number = kept.number; stage = s }) told.stage in
-    let same : v ≡ in_call ivs kept call.obeyed call.made call.counted =
-    ap (λ (f : Facts). record v { facts = f }) stands.facts
-    ∙ ap (λ (p : Phase). record { facts = ivs.facts; phase = p }) (opened.1 ∙ ap InCall named) in
-    subst P (sym same) (each call.obeyed call.made call.counted told.served told.octets request told.counted)
+    let same : v ≡ in_call ivs kept v.sets call.obeyed call.made call.counted =
+    same_facts ivs v stands ∙ ap (λ (p : Phase). record { facts = ivs.facts; cause = ivs.cause; sets = v.sets; phase = p }) (opened.1 ∙ ap InCall named) in
+    subst P (sym same) (each v.sets call.obeyed call.made call.counted stands.sets told.served told.octets request told.counted)
 
 -- what is so of the vehicle that is dialling, and that this one stands for
-pub each_dialling : (ivs : Ivs) (P : Vehicle → Type 0) → ivs.phase ≡ phase.Dialling → P (record { facts = ivs.facts; phase = Dialling }) → (v : Vehicle) → IvsStandsFor ivs v → P v
+pub each_dialling : (ivs : Ivs) (P : Vehicle → Type 0) → ivs.phase ≡ phase.Dialling → ((sets : ℕ) → min sets 255 ≡ ivs.sets → P (record { facts = ivs.facts; cause = ivs.cause; sets = sets; phase = Dialling })) → (v : Vehicle) → IvsStandsFor ivs v → P v
 each_dialling ivs P is dialling v stands =
     let dials : v.phase ≡ Dialling = subst (λ p. PhaseStandsFor p v.phase) is stands.phase in
-    let same : v ≡ record { facts = ivs.facts; phase = Dialling } =
-    ap (λ (f : Facts). record v { facts = f }) stands.facts ∙ ap (λ (p : Phase). record { facts = ivs.facts; phase = p }) dials in
-    subst P (sym same) dialling
+    let same : v ≡ record { facts = ivs.facts; cause = ivs.cause; sets = v.sets; phase = Dialling } =
+    same_facts ivs v stands ∙ ap (λ (p : Phase). record { facts = ivs.facts; cause = ivs.cause; sets = v.sets; phase = p }) dials in
+    subst P (sym same) (dialling v.sets stands.sets)
 
 -- before the vehicle talks a request above the greatest is taken
 pub above_taken : (v : Vehicle) (call : Call) (r : ℕ) (kept : kept_stage.Stage) (is_above : Bool) → is_above ≡ true → (kept ≡ stage.Talking → ⊥) → start_row v call r is_above (stage_of kept) ≡ takes v call r

@@ -1,7 +1,7 @@
--- Which states of the in-vehicle system an `Ivs` stands for: where they agree in facts, phase, call, stage and the
--- requests counted, where its greatest request is the greatest one obeyed, and its octets are the set made last. This
+-- Which states of the in-vehicle system an `Ivs` stands for: where they agree in facts, cause, phase, call, stage and
+-- the requests counted, in the number of sets made up to 255, where its greatest request is the greatest one obeyed, and its octets are the set made last. This
 -- project's profile. Cited by the contracts of `Ivs`, and by what stands on it.
-use Rattle.std.specs.Prelude.{◌≡◌, ℕ, List, [], ◌∷◌}
+use Rattle.std.specs.Prelude.{◌≡◌, ℕ, List, [], ◌∷◌, min}
 use Rattle.link_frames.specs.Requests.{RequestsStandFor}
 use Rattle.ivs_machine.specs.declared.vehicle.Ivs.{Ivs}
 use Rattle.ivs_machine.specs.declared.vehicle.Call as code_call
@@ -50,4 +50,7 @@ PhaseStandsFor (phase.InCall kept) p = (call : Call) × (p ≡ InCall call) × C
 
 pub record IvsStandsFor (ivs : Ivs) (v : Vehicle) : Type 0 where
   pub facts : v.facts ≡ ivs.facts
+  pub cause : v.cause ≡ ivs.cause
+  -- the code's number of sets stays at 255
+  pub sets : min v.sets 255 ≡ ivs.sets
   pub phase : PhaseStandsFor ivs.phase v.phase

@@ -1,7 +1,7 @@
 -- What the in-vehicle system does at each event, one function by event and stage. After EN 16062 (initiation, data,
 -- acknowledgements) and EN 16072 (trigger, audio); this project's profile fixes the rest. Cited by the contract of
 -- `Ivs::hear`, and by the world's step.
-use Rattle.std.specs.Prelude.{ℕ, Bool, true, false, [], ◌∷◌, nat_lt, ◌==◌, if◌then◌else◌}
+use Rattle.std.specs.Prelude.{ℕ, ◌+◌, Bool, true, false, [], ◌∷◌, nat_lt, ◌==◌, if◌then◌else◌}
 use Rattle.link_frames.specs.declared.frame.End.TheVariants as «end»
 use Rattle.link_frames.specs.declared.frame.Answer.TheVariants as answer
 use Rattle.link_frames.specs.declared.frame.Frame.{Frame}
@@ -10,11 +10,11 @@ use Rattle.link_frames.specs.declared.note.Note.{Note}
 use Rattle.link_frames.specs.declared.note.Note.TheVariants as note
 use Rattle.link_frames.specs.Frame.{lent}
 use Rattle.link_frames.specs.Row.{Row, nothing_row, silent}
-use Rattle.ivs_machine.specs.declared.facts.Cause.{Cause}
-use Rattle.ivs_machine.specs.declared.facts.Cause.TheVariants as cause
+use Rattle.msd_fit.specs.declared.cause.Cause.{Cause}
+use Rattle.msd_fit.specs.declared.cause.Cause.TheVariants as cause
 use Rattle.ivs_machine.specs.declared.event.VehicleEvent.{VehicleEvent}
 use Rattle.ivs_machine.specs.declared.event.VehicleEvent.TheVariants as event
-use Rattle.ivs_machine.specs.Vehicle.{Vehicle, Phase, Idle, Dialling, InCall, Call, Stage, Initiating, Sending, Confirming, Talking, greatest, set_for, made_set}
+use Rattle.ivs_machine.specs.Vehicle.{Vehicle, Phase, Idle, Dialling, InCall, Call, Stage, Initiating, Sending, Confirming, Talking, greatest, set_for, next_set}
 
 -- What the vehicle hears: an event whose frame is a whole one.
 pub data Heard : Type 0 where
@@ -31,14 +31,20 @@ heard (event.Frame f) = Arrives (lent f)
 abbrev pub with_call : Vehicle → Call → Vehicle
 with_call v call = record v { phase = InCall call }
 
--- The first attempt of a dial series.
-abbrev pub begin : Vehicle → Row Vehicle
-begin v = record { items = note.Dial 1 ∷ []; new = record v { phase = Dialling } }
+-- The first attempt of a dial series. No set was made for this trigger yet.
+abbrev pub begin : Vehicle → Cause → Row Vehicle
+begin v why = record { items = note.Dial 1 ∷ []; new = record v { cause = why; sets = 0; phase = Dialling } }
 
-abbrev pub trigger_row : Vehicle → Phase → Row Vehicle
-trigger_row v Idle = begin v
-trigger_row v Dialling = nothing_row v
-trigger_row v (InCall call) = nothing_row v
+abbrev pub begin_row : Vehicle → Cause → Phase → Row Vehicle
+begin_row v why Idle = begin v why
+begin_row v why Dialling = nothing_row v
+begin_row v why (InCall call) = nothing_row v
+
+-- A manual trigger waits for its cancel period, which isn't built yet: it applies to nothing.
+abbrev pub trigger_row : Vehicle → Cause → Phase → Row Vehicle
+trigger_row v cause.Auto phase = begin_row v cause.Auto phase
+trigger_row v cause.Test phase = begin_row v cause.Test phase
+trigger_row v cause.Manual phase = nothing_row v
 
 -- a call that was just answered
 abbrev pub answered_call : ℕ → Call
@@ -59,10 +65,10 @@ answered_row v c (InCall call) = nothing_row v
 abbrev pub takes : Vehicle → Call → ℕ → Row Vehicle
 takes v call r =
     record {
-      items = note.Send «end».Vehicle call.number (frame.Content r 0 (made_set v.facts)) ∷ [];
+      items = note.Send «end».Vehicle call.number (frame.Content r 0 (next_set v)) ∷ [];
       new =
-          with_call v
-          (record call { stage = Sending r; obeyed = r ∷ call.obeyed; made = (r, made_set v.facts) ∷ call.made });
+          with_call (record v { sets = v.sets + 1 })
+          (record call { stage = Sending r; obeyed = r ∷ call.obeyed; made = (r, next_set v) ∷ call.made });
     }
 
 -- A request above the greatest one obeyed is taken before the vehicle talks.
@@ -125,6 +131,6 @@ frame_row v f Dialling = silent v
 
 -- what the vehicle does at an event
 abbrev pub vehicle_row : Vehicle → Heard → Row Vehicle
-vehicle_row v (Trigger cause.Auto) = trigger_row v v.phase
+vehicle_row v (Trigger why) = trigger_row v why v.phase
 vehicle_row v (Answered c) = answered_row v c v.phase
 vehicle_row v (Arrives f) = frame_row v f v.phase

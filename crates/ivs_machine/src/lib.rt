@@ -2,11 +2,9 @@
 #![tactic(auto)]
 
 mod event;
-mod facts;
 #[cfg(test)]
 mod tests;
 mod vehicle;
 
 pub use event::VehicleEvent;
-pub use facts::{Cause, Facts};
 pub use vehicle::Ivs;

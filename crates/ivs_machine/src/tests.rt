@@ -1,5 +1,8 @@
-use crate::{Cause, Facts, Ivs, VehicleEvent};
+use crate::{Ivs, VehicleEvent};
+use arrayvec::ArrayVec;
 use link_frames::{Answer, DialAttempt, End, Frame, Note, OCTETS, Request};
+use msd_fit::{Cause, Facts, OwnFacts};
+use msd_values::{Marks, RootKind, Vin};
 use std::process::Abort;
 
 const SET: [u8; OCTETS] = [7; OCTETS];
@@ -41,7 +44,12 @@ fn expect_acked(rt: &impl Abort, ivs: &mut Ivs, number: u8) {
 
 /// A vehicle that was just answered, in call 1.
 fn answered(rt: &impl Abort) -> Ivs {
-    let mut ivs = Ivs::new(Facts::Ready(SET));
+    answered_with(rt, Facts::Ready(SET))
+}
+
+/// A vehicle that knows these facts and was just answered, in call 1.
+fn answered_with(rt: &impl Abort, facts: Facts) -> Ivs {
+    let mut ivs = Ivs::new(facts);
     expect_trigger(rt, &mut ivs, &[Note::Dial(DialAttempt::first())]);
     let end = End::Vehicle;
     let want = [
@@ -169,4 +177,64 @@ fn open() -> Note {
         up: true,
         down: true,
     }
+}
+
+/// The front of the set that a vehicle makes of the facts below, as the first one since a sensor's trigger; octets 0 stand
+/// behind it.
+const MADE: [u8; 31] = [
+    0x02, 0x00, 0x06, 0x81, 0xd5, 0x49, 0x70, 0xd6, 0x5c, 0x35, 0x97, 0xca, 0x04, 0x20, 0xc4, 0x14,
+    0x64, 0x0a, 0xf0, 0x5f, 0x08, 0x04, 0x52, 0xe9, 0x96, 0x04, 0x13, 0xe2, 0x55, 0x01, 0x68,
+];
+
+/// The facts of a vehicle of category M1 that stores gasoline.
+fn own_facts(rt: &impl Abort) -> Facts {
+    Facts::Own(OwnFacts {
+        vin: Vin::read(b"WM9VDSVDSYA123456").expect(rt, "a number"),
+        kind: RootKind::new(1).expect(rt, "a category"),
+        fuel: Marks {
+            gasoline: true,
+            diesel: false,
+            natural_gas: false,
+            propane: false,
+            electric: false,
+            hydrogen: false,
+            other: false,
+        },
+        time: 1_577_836_800,
+        latitude: 173_880_000,
+        longitude: 41_700_000,
+        heading: 45,
+        trusted: true,
+        before1: None,
+        before2: None,
+        passengers: None,
+        extras: ArrayVec::new(),
+    })
+}
+
+/// Checks that a request is answered with that set, whose third octet has most of its number.
+fn expect_made(rt: &impl Abort, ivs: &mut Ivs, number: u8, third: u8) {
+    let mut octets = [0; OCTETS];
+    octets[..MADE.len()].copy_from_slice(&MADE);
+    octets[2] = third;
+    let request = request(rt, number);
+    let frame = Frame::Content {
+        request,
+        attempt: 0,
+        octets,
+    };
+    let end = End::Vehicle;
+    let want = [Note::Send {
+        end,
+        call: 1,
+        frame,
+    }];
+    expect_at(rt, ivs, &Frame::Start(request), &want);
+}
+
+#[test]
+fn numbers_its_sets(rt: HostRuntime) {
+    let mut ivs = answered_with(&rt, own_facts(&rt));
+    expect_made(&rt, &mut ivs, 1, 0x06);
+    expect_made(&rt, &mut ivs, 2, 0x0a);
 }

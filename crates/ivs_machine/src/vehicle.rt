@@ -1,11 +1,11 @@
 //! The vehicle's end of a call. After EN 16062 and EN 16072; the numbers are this project's profile.
-ghost use Rattle.std.specs.Prelude.{◌≡◌};
+ghost use Rattle.std.specs.Prelude.{◌≡◌, ◌+◌, ℕ, min};
 
 use crate::event::VehicleEvent;
-use crate::facts::{Cause, Facts};
 use link_frames::{
     Answer, DialAttempt, End, Frame, FrameRef, Items, Note, OCTETS, Request, Requests, items_of,
 };
+use msd_fit::{Cause, Facts, make};
 
 /// What the vehicle waits for in a call, with its request.
 #[derive(Clone, Copy, Debug, PartialEq, Eq)]
@@ -108,6 +108,13 @@ impl Call {
     }
 }
 
+/// The number of sets made, with one more; it stays at 255.
+fn one_more(sets: u8) -> u8
+    ensures { (made : ℕ) → min made 255 ≡ sets → min (made + 1) 255 ≡ result }
+{
+    sets.saturating_add(1)
+}
+
 /// What the vehicle is doing.
 #[derive(Clone, Copy, Debug, PartialEq, Eq)]
 enum Phase {
@@ -117,15 +124,19 @@ enum Phase {
 }
 
 /// The in-vehicle system.
-#[derive(Debug, Drop)]
+#[derive(Drop)]
 pub struct Ivs {
     facts: Facts,
+    /// What the present series of calls was triggered by.
+    cause: Cause,
+    /// How many sets were made since that trigger; it stays at 255.
+    sets: u8,
     phase: Phase,
 }
 
 impl Ivs {
     ghost use Rattle.ivs_machine.specs.Vehicle.{Vehicle, first_vehicle, vehicle_call, is_dialling};
-    ghost use Rattle.ivs_machine.specs.VehicleRows.{vehicle_row, heard, trigger_row, answered_row, Arrives};
+    ghost use Rattle.ivs_machine.specs.VehicleRows.{vehicle_row, heard, trigger_row, begin_row, answered_row, Arrives};
     ghost use Rattle.ivs_machine.specs.IvsStands.{IvsStandsFor};
     ghost use Rattle.link_frames.specs.declared.frame.Answer.TheVariants as answer;
     ghost use Rattle.link_frames.specs.declared.frame.Frame.TheVariants as frame;
@@ -137,6 +148,8 @@ impl Ivs {
     {
         Ivs {
             facts,
+            cause: Cause::Auto,
+            sets: 0,
             phase: Phase::Idle,
         }
     }
@@ -149,7 +162,7 @@ impl Ivs {
             IvsStandsFor self.new (vehicle_row v (heard event.now)).new }
     {
         match event {
-            VehicleEvent::Trigger(Cause::Auto) => self.trigger(),
+            VehicleEvent::Trigger(cause) => self.trigger(*cause),
             VehicleEvent::Answered(call) => self.answered(*call),
             VehicleEvent::Frame(frame) => self.frame(frame),
         }
@@ -172,15 +185,30 @@ impl Ivs {
         matches!(self.phase, Phase::Dialling)
     }
 
-    /// A sensor's trigger begins a dial series.
-    fn trigger(&mut self) -> Items
+    /// A trigger by a sensor, or for a test, begins a dial series.
+    fn trigger(&mut self, cause: Cause) -> Items
         ensures items { (v : Vehicle) → IvsStandsFor self.old v →
-            result.items ≡ (trigger_row v v.phase).items }
+            result.items ≡ (trigger_row v cause v.phase).items }
         ensures stands { (v : Vehicle) → IvsStandsFor self.old v →
-            IvsStandsFor self.new (trigger_row v v.phase).new }
+            IvsStandsFor self.new (trigger_row v cause v.phase).new }
+    {
+        match cause {
+            Cause::Auto | Cause::Test => self.begin(cause),
+            Cause::Manual => items_of(&[Note::Nothing]),
+        }
+    }
+
+    /// A dial series begins, where the vehicle does nothing else.
+    fn begin(&mut self, cause: Cause) -> Items
+        ensures items { (v : Vehicle) → IvsStandsFor self.old v →
+            result.items ≡ (begin_row v cause v.phase).items }
+        ensures stands { (v : Vehicle) → IvsStandsFor self.old v →
+            IvsStandsFor self.new (begin_row v cause v.phase).new }
     {
         match self.phase {
             Phase::Idle => {
+                self.cause = cause;
+                self.sets = 0;
                 self.phase = Phase::Dialling;
                 items_of(&[Note::Dial(DialAttempt::first())])
             }
@@ -254,7 +282,10 @@ impl Ivs {
         let stage = call.stage;
         match stage {
             Stage::Talking => Items::new(),
-            _ if is_above => items_of(&[call.take(request, self.facts.set())]),
+            _ if is_above => {
+                self.sets = one_more(self.sets);
+                items_of(&[call.take(request, make(&self.facts, self.cause, self.sets))])
+            }
             _ => Items::new(),
         }
     }

@@ -1,8 +1,11 @@
 pub mod BlockLemmas
+pub mod DraftLemmas
+pub mod FactLemmas
 pub mod FeedLemmas
 pub mod GatherLemmas
 pub mod LinesLemmas
 pub mod NumberLemmas
 pub mod OctetsLemmas
 pub mod SkimLemmas
+pub mod SummaryLemmas
 pub mod WordsLemmas

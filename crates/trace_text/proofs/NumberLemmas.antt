@@ -9,7 +9,7 @@ use Rattle.std.specs.Str.Parse.{ParsesUnsigned}
 use Rattle.std.specs.Option.{SomeIff}
 use Rattle.std.specs.Result.{OkIff, result_ok}
 use Rattle.std.specs.declared.num.ParseIntError.{ParseIntError}
-use Rattle.trace_text.specs.Script.{is_digit, number_after, number_of, is_plain_number, positive}
+use Rattle.trace_text.specs.Numbers.{is_digit, number_after, number_of, is_plain_number, positive}
 
 -- the digits and the numbers of a script are those that std parses
 pub digits_model : IsNumeralModel (λ ds. list_all is_digit ds ≡ true) number_of
@@ -24,11 +24,11 @@ pub number_of-some : (digits : List ℕ) → 48 < get_or digits 0 0 → 0 < numb
 number_of-some [] first = absurd (omega arith)
 number_of-some (c ∷ cs) first = let more = number_after-ge (10 * 0 + (c - 48)) cs in omega (arith, more)
 
-first_true : (a b : Bool) → (a && b) ≡ true → a ≡ true
+pub first_true : (a b : Bool) → (a && b) ≡ true → a ≡ true
 first_true true b both = refl
 first_true false b both = both
 
-second_true : (a b : Bool) → (a && b) ≡ true → b ≡ true
+pub second_true : (a b : Bool) → (a && b) ≡ true → b ≡ true
 second_true true b both = both
 second_true false b both = let no : ⊥ = cc in absurd no
 
@@ -64,3 +64,6 @@ positive-fits text n r plain fits some value =
     by_case : (r : Option ℕ) → IsSome r → IfSome r (λ p. p ≡ n) → r ≡ Some n
     by_case None has value = let never : ⊥ = cc in absurd never
     by_case (Some p) has value = ap Some value
+
+pub number_of-plain : (text : List ℕ) → is_plain_number text ≡ true → 0 < number_of text
+number_of-plain text plain = number_of-some text (ltb-true _ _ (second_true (list_all is_digit text) (ltb 48 (get_or text 0 0)) plain))

@@ -12,9 +12,17 @@ space = slice_index (codes " ") 0
 abbrev pub number_sign : ℕ
 number_sign = slice_index (codes "#") 0
 
+-- `-`
+abbrev pub minus : ℕ
+minus = slice_index (codes "-") 0
+
 -- the digit `0`
 abbrev pub digit_zero : ℕ
 digit_zero = slice_index (codes "0") 0
+
+-- the digit `1`
+abbrev pub digit_one : ℕ
+digit_one = slice_index (codes "1") 0
 
 -- the digit `9`
 abbrev pub digit_nine : ℕ

@@ -16,6 +16,7 @@ use Rattle.link_frames.specs.declared.note.Timer.TheVariants as timer
 use Rattle.link_frames.specs.declared.note.Why.{Why}
 use Rattle.link_frames.specs.declared.note.Why.TheVariants as why
 use Rattle.trace_text.specs.Characters.{newline, space}
+use Rattle.trace_text.specs.Summary.{summary_words}
 use Rattle.trace_text.specs.declared.entry.Entry.{Entry}
 
 abbrev pub end_word : End → List ℕ
@@ -64,8 +65,7 @@ frame_words (frame.Nack request) = codes "nack" ∷ decimal request ∷ []
 frame_words (frame.Ack request) = codes "ack" ∷ decimal request ∷ []
 frame_words (frame.App request answer) = codes "app" ∷ decimal request ∷ answer_word answer ∷ []
 
--- The words of an item. A `shown` line ends behind its octets as long as no decoder stands below: with one, it gives
--- a summary of the set, or of its refusal, there.
+-- The words of an item. That of a set which is shown ends with the summary of the set, or of its refusal.
 abbrev pub note_words : Note → List (List ℕ)
 note_words (note.Dial attempt) = codes "dial" ∷ decimal attempt ∷ []
 note_words (note.Failed attempt) = codes "failed" ∷ decimal attempt ∷ []
@@ -83,7 +83,7 @@ note_words (note.Voice e call up down) =
     codes "voice" ∷ end_word e ∷ decimal call ∷ voice_word up ∷ voice_word down ∷ []
 note_words (note.Send e call frame) = codes "send" ∷ end_word e ∷ decimal call ∷ frame_words frame
 note_words (note.Shown call request octets) =
-    codes "shown" ∷ decimal call ∷ decimal request ∷ encode_lower octets ∷ []
+    codes "shown" ∷ decimal call ∷ decimal request ∷ encode_lower octets ∷ summary_words octets
 note_words (note.Acked call request octets) =
     codes "acked" ∷ decimal call ∷ decimal request ∷ encode_lower octets ∷ []
 note_words (note.Ended e call timer) = codes "ended" ∷ end_word e ∷ decimal call ∷ timer_word timer ∷ []

@@ -1,8 +1,9 @@
 -- The lines of a text: where they end, which are refused whatever they say, and which are passed over. This project's
 -- profile. Cited by the contracts of `Line` and `Lines`, and by the definition of a script.
-use Rattle.std.specs.Prelude.{◌≡◌, ℕ, ◌==◌, ◌&&◌, nat_le, nat_lt, Bool, true, false, List, [], ◌∷◌, length, Option, Some, None, if◌then◌else◌}
+use Rattle.std.specs.Prelude.{◌≡◌, ℕ, ◌==◌, ◌&&◌, nat_le, nat_lt, Bool, true, false, List, [], ◌∷◌, length, Option, Some, None, Result, Ok, Err, if◌then◌else◌}
 use Rattle.std.specs.List.{list_all, onto_first}
 use Rattle.trace_text.specs.Characters.{newline, space, number_sign, tilde}
+use Rattle.trace_text.specs.declared.reason.BadLine.{BadLine}
 use Rattle.trace_text.specs.declared.reason.Reason.{Reason}
 use Rattle.trace_text.specs.declared.reason.Reason.TheVariants as reason
 
@@ -23,6 +24,11 @@ lines_of (b ∷ bytes) = if b == newline then [] ∷ lines_of bytes else onto_fi
 pub record Numbered : Type 0 where
   pub number : ℕ
   pub text : List ℕ
+
+-- what a line says, or why it is refused, with its number
+abbrev pub line_answer : {A : Type 0} → Numbered → Result A Reason → Result A BadLine
+line_answer l (Ok says) = Ok says
+line_answer l (Err why) = Err (record { line = l.number; reason = why })
 
 -- whether a byte may stand in a line: a printable character of ASCII, or a space
 abbrev pub is_printable : ℕ → Bool

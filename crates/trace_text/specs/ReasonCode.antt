@@ -2,7 +2,7 @@
 -- `Reason::code`, and by the refusal line of `ecall`.
 use Rattle.std.specs.Prelude.{ℕ}
 use Rattle.trace_text.specs.declared.reason.Reason.{Reason}
-use Rattle.trace_text.specs.declared.reason.Reason.TheVariants.{Word, Number, Count, LineLong, Text, Hex, Missing, Late}
+use Rattle.trace_text.specs.declared.reason.Reason.TheVariants.{Word, Number, Count, LineLong, Text, Hex, Missing, Late, Many}
 
 abbrev pub reason_code : Reason → ℕ
 reason_code Word = 1
@@ -13,3 +13,4 @@ reason_code Text = 5
 reason_code Hex = 6
 reason_code Missing = 7
 reason_code Late = 8
+reason_code Many = 9

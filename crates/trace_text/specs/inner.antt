@@ -1,5 +1,6 @@
 pub mod Arguments
 pub mod Decoding
+pub mod Drafting
 pub mod Gathering
 pub mod Kinds
 pub mod ListenerLaws

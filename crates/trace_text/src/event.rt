@@ -1,6 +1,6 @@
 //! The event lines of a script.
 
-use ivs_machine::Cause;
+use msd_fit::Cause;
 use std::marker::Model;
 
 /// A number of a script's line, 1 to 4294967295: of a call, or of a frame sent in it.

@@ -1,10 +1,9 @@
-//! Lines and the lines of scripts, read from memory.
+//! Lines, read from memory.
 
 ghost use Rattle.std.specs.Prelude.{◌≤◌};
 
 use crate::*;
 use call_io::MemSource;
-use ivs_machine::Cause;
 use std::alloc::{AllocError, Global};
 use std::process::Abort;
 use std::test::Fail;
@@ -15,44 +14,6 @@ fn source_of(alloc: Global, bytes: &[u8], most: usize) -> Result<MemSource, Allo
 {
     let bytes = Vec::from_slice(alloc, bytes)?;
     Ok(MemSource::new(bytes, most, Vec::new(alloc)))
-}
-
-/// What the first line of a text says, where there is one.
-fn first_says(
-    alloc: Global,
-    text: &[u8],
-) -> Result<Option<Result<ScriptLine, BadLine>>, AllocError> {
-    let mut source = source_of(alloc, text, 4096)?;
-    let mut lines = Lines::new();
-    match lines.next(&mut source) {
-        Ok(true) => Ok(Some(read_script(&lines.line()))),
-        _ => Ok(None),
-    }
-}
-
-/// Asserts that a line is refused for this reason.
-fn expect_refused(
-    rt: &impl Abort,
-    alloc: Global,
-    text: &str,
-    reason: Reason,
-) -> Result<(), AllocError> {
-    let says = first_says(alloc, text.as_bytes())?;
-    let refused = Some(Err(BadLine { line: 1, reason }));
-    assert!(rt; says == refused, "{text}");
-    Ok(())
-}
-
-/// Asserts that a line is this event.
-fn expect_event(
-    rt: &impl Abort,
-    alloc: Global,
-    text: &str,
-    event: Event,
-) -> Result<(), AllocError> {
-    let says = first_says(alloc, text.as_bytes())?;
-    assert!(rt; says == Some(Ok(ScriptLine::Event(event))), "{text}");
-    Ok(())
 }
 
 /// Asserts that the first fault of these bytes is this one, however many bytes a read gives.
@@ -97,13 +58,6 @@ fn lines_stand_at_hand(rt: HostRuntime) -> Result<(), Fail> {
     expect_line(&rt, rt.alloc(), b"answer\n\nanswer\n", false)?;
     expect_line(&rt, rt.alloc(), b"answer\n", false)?;
     Ok(())
-}
-
-/// The event of a `deliver` line.
-fn deliver(rt: &impl Abort, up: bool, call: u32, k: u32) -> Event {
-    let call = Positive::new(call).expect(rt, "a call's number");
-    let k = Positive::new(k).expect(rt, "a frame's number");
-    Event::Deliver { up, call, k }
 }
 
 #[test]
@@ -158,67 +112,6 @@ fn tells_a_failed_read_from_too_many_bytes(rt: HostRuntime) -> Result<(), Fail> 
 }
 
 #[test]
-fn reads_what_a_line_of_a_script_says(rt: HostRuntime) -> Result<(), Fail> {
-    let alloc = rt.alloc();
-    let mut octets = [0; 140];
-    octets[0] = 0x5c;
-    octets[1] = 0xff;
-    let set = Some(Ok(ScriptLine::Fact(FactLine::Set(octets))));
-    assert!(rt; first_says(alloc, b"set 5CfF")? == set);
-    expect_event(&rt, alloc, "trigger auto", Event::Trigger(Cause::Auto))?;
-    expect_event(&rt, alloc, "answer", Event::Answer)?;
-    expect_event(&rt, alloc, "deliver up 1 2", deliver(&rt, true, 1, 2))?;
-    let last = deliver(&rt, false, 4_294_967_295, 10);
-    expect_event(&rt, alloc, "deliver down 4294967295 10", last)?;
-    Ok(())
-}
-
-#[test]
-fn refuses_a_line_for_its_first_reason(rt: HostRuntime) -> Result<(), Fail> {
-    for (text, reason) in [
-        ("hello", Reason::Word),
-        ("cancel", Reason::Word),
-        (" answer", Reason::Word),
-        ("set", Reason::Count),
-        ("set 00 00", Reason::Count),
-        ("set 00 ", Reason::Count),
-        ("set ", Reason::Hex),
-        ("set 000", Reason::Hex),
-        ("set 0g", Reason::Hex),
-        ("trigger", Reason::Count),
-        ("trigger manual now", Reason::Count),
-        ("trigger manual", Reason::Word),
-        ("answer ", Reason::Count),
-        ("deliver left 0", Reason::Count),
-        ("deliver left 0 0", Reason::Word),
-        ("deliver up 0 x", Reason::Number),
-        ("deliver up 1 01", Reason::Number),
-        ("deliver up 1 +1", Reason::Number),
-        ("deliver up  1", Reason::Number),
-        ("deliver up 4294967296 1", Reason::Number),
-    ] {
-        expect_refused(&rt, rt.alloc(), text, reason)?;
-    }
-    Ok(())
-}
-
-#[test]
-fn a_set_has_at_most_140_octets(rt: HostRuntime) -> Result<(), Fail> {
-    let alloc = rt.alloc();
-    let mut text = Vec::from_slice(alloc, b"set ")?;
-    text.extend_from_slice(&[b'7'; 280])?;
-    let set = Some(Ok(ScriptLine::Fact(FactLine::Set([0x77; 140]))));
-    assert!(rt; first_says(alloc, &text)? == set);
-    text.extend_from_slice(b"77")?;
-    let refused = Some(Err(BadLine {
-        line: 1,
-        reason: Reason::Hex,
-    }));
-    assert!(rt; first_says(alloc, &text)? == refused);
-    Ok(())
-}
-
-#[test]
 fn numbers_each_reason(rt: HostRuntime) {
     for (reason, code) in [
         (Reason::Word, 1),
@@ -229,6 +122,7 @@ fn numbers_each_reason(rt: HostRuntime) {
         (Reason::Hex, 6),
         (Reason::Missing, 7),
         (Reason::Late, 8),
+        (Reason::Many, 9),
     ] {
         assert_eq!(rt; reason.code(), code);
     }

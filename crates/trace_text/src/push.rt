@@ -13,8 +13,17 @@ pub fn push_word<const N: usize>(line: &mut ArrayVec<u8, N>, word: &str)
     ensures bytes { line.new.items ≡ line.old.items ++ space ∷ word.now }
     ensures len { array_vec_len line.new ≡ array_vec_len line.old + 1 + length word.now }
 {
+    push_bytes(line, word.as_bytes());
+}
+
+/// Appends the bytes of a word behind a space.
+pub fn push_bytes<const N: usize>(line: &mut ArrayVec<u8, N>, word: &[u8])
+    requires { array_vec_len line.old + length word.now < N }
+    ensures bytes { line.new.items ≡ line.old.items ++ space ∷ word.now }
+    ensures len { array_vec_len line.new ≡ array_vec_len line.old + 1 + length word.now }
+{
     line.push(b' ');
-    line.try_extend_from_slice(word.as_bytes()).unwrap();
+    line.try_extend_from_slice(word).unwrap();
 }
 
 /// Appends a number behind a space, in decimal digits.

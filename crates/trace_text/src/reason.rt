@@ -6,7 +6,8 @@ ghost use Rattle.trace_text.specs.ReasonCode.{reason_code};
 /// Why a line is refused, in the order of the reasons' numbers.
 #[derive(Clone, Copy, Debug, PartialEq, Eq)]
 pub enum Reason {
-    /// The first word, or a later word of a fixed choice, is none of those that may stand there.
+    /// The first word, or a later word of a fixed choice, is none of those that may stand there; or a text is no vehicle
+    /// identification number, or no list of energies.
     Word,
     /// A number is not in decimal digits without leading zeros, or out of its range.
     Number,
@@ -16,16 +17,19 @@ pub enum Reason {
     LineLong,
     /// A byte is none of 32 to 126.
     Text,
-    /// A word is not an even number of hexadecimal digits, or has too many octets.
+    /// A word is not an even number of hexadecimal digits, or has too many octets, or two are no candidate of additional
+    /// data.
     Hex,
-    /// The first event line comes without the facts that a vehicle needs.
+    /// The first event line, or a line that asks for a set, comes without the facts that it needs.
     Missing,
     /// A fact line comes after the first event line.
     Late,
+    /// A candidate of additional data comes behind four others.
+    Many,
 }
 
 impl Reason {
-    /// The number by which a refusal names it, 1 to 8.
+    /// The number by which a refusal names it, 1 to 9.
     pub fn code(self) -> u8
         ensures { result ≡ reason_code self }
     {
@@ -38,6 +42,7 @@ impl Reason {
             Reason::Hex => 6,
             Reason::Missing => 7,
             Reason::Late => 8,
+            Reason::Many => 9,
         }
     }
 }

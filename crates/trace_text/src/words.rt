@@ -5,7 +5,7 @@ ghost use Rattle.std.specs.Option.{option_copied, option_map};
 ghost use Rattle.std.specs.Str.{bytes_eq};
 ghost use Rattle.trace_text.specs.Characters.{is_space};
 ghost use Rattle.trace_text.specs.Words.{words, only_word_of};
-ghost use Rattle.trace_text.specs.inner.Arguments.{words_behind, three_words_of};
+ghost use Rattle.trace_text.specs.inner.Arguments.{words_behind, two_words_of, three_words_of};
 
 use memchr::memchr;
 
@@ -42,6 +42,16 @@ pub fn only_argument(rest: Option<&[u8]>) -> Option<&[u8]>
     ensures { option_copied result ≡ only_word_of (words_behind (option_copied rest.entry)) }
 {
     only_word(rest?)
+}
+
+/// The two arguments of a line behind its first word, unless there are more or fewer.
+pub fn two_arguments(rest: Option<&[u8]>) -> Option<(&[u8], &[u8])>
+    ensures { option_map (λ found. (found.0.now, found.1.now)) result
+        ≡ two_words_of (words_behind (option_copied rest.entry)) }
+{
+    let (first, more) = split_word(rest?);
+    let second = only_argument(more)?;
+    Some((first, second))
 }
 
 /// The three arguments of a line behind its first word, unless there are more or fewer.

@@ -9,14 +9,30 @@ ghost use Rattle.trace_text.specs.EntryLine.{end_word, why_word, timer_word, ans
 
 use crate::entry::Entry;
 use crate::push::{push_number, push_word};
+use crate::summary::push_summary;
 use arrayvec::ArrayVec;
 use call_io::{Failed, Sink, write_all};
 use itoa::Buffer;
 use link_frames::{Answer, DialAttempt, End, Frame, Note, OCTETS, Request, Timer, Why};
 
-/// The most octets that the line of an entry has, its newline included: a `send` with a set, and with each of its
-/// numbers as long as it can be. A tick has at most 20 digits, a call's number 10, a request and an attempt 3.
-const LONGEST_LINE: usize = 339;
+/// The most digits of a tick.
+const TICK: usize = 20;
+
+/// The most characters of an item's first word, `cancelled`.
+const FIRST_WORD: usize = 9;
+
+/// The most octets that stand in front of a frame's words: behind the tick `send`, an end of 7 characters and a call of
+/// 10 digits, each behind a space.
+const BEFORE_FRAME: usize = 44;
+
+/// The octets of a set in hexadecimal, with a space in front.
+const SET: usize = 281;
+
+/// The most octets that the line of an entry has, its newline included: a `shown` with each of its numbers as long as it
+/// can be. Behind the tick stand `shown`, a call of 10 digits, a request of 3, the set and its summary, each behind a
+/// space: 20 + 6 + 11 + 4 + 281 + 60, and the newline. A `send` with a set is shorter: behind what stands in front of
+/// its frame come `data`, a request of 3 digits, an attempt of 3 and the set: 44 + 5 + 4 + 4 + 281, and the newline.
+const LONGEST_LINE: usize = 383;
 
 /// A line that is being built. What is appended below requires that what stands so far leaves room for it, as it
 /// does behind the longest tick.
@@ -24,9 +40,9 @@ type LineText = ArrayVec<u8, LONGEST_LINE>;
 
 /// Appends the octets of a set behind a space, in hexadecimal.
 fn push_octets(line: &mut LineText, octets: &[u8; OCTETS])
-    requires { array_vec_len line.old + 281 ≤ LONGEST_LINE }
+    requires { array_vec_len line.old + SET ≤ LONGEST_LINE }
     ensures bytes { line.new.items ≡ line.old.items ++ 32 ∷ encode_lower octets.now }
-    ensures len { array_vec_len line.new ≡ array_vec_len line.old + 281 }
+    ensures len { array_vec_len line.new ≡ array_vec_len line.old + SET }
 {
     let mut digits = [0; 280];
     hex::encode_to_slice(octets.as_slice(), &mut digits).unwrap();
@@ -101,7 +117,7 @@ fn voice_name(is_open: bool) -> &'static str
 
 /// Appends an item's first word with the leg that it is about.
 fn push_leg(line: &mut LineText, word: &str, end: End, call: u32)
-    requires { array_vec_len line.old + length word.now ≤ 25 }
+    requires { array_vec_len line.old + length word.now ≤ TICK + FIRST_WORD }
     ensures bytes { line.new.items
         ≡ line.old.items ++ spaced (word.now ∷ end_word end ∷ decimal call ∷ []) }
     ensures len { array_vec_len line.new ≤ array_vec_len line.old + length word.now + 20 }
@@ -113,7 +129,7 @@ fn push_leg(line: &mut LineText, word: &str, end: End, call: u32)
 
 /// Appends an item's first word with a call's number.
 fn push_call(line: &mut LineText, word: &str, call: u32)
-    requires { array_vec_len line.old + length word.now ≤ 27 }
+    requires { array_vec_len line.old + length word.now ≤ TICK + FIRST_WORD }
     ensures bytes { line.new.items ≡ line.old.items ++ spaced (word.now ∷ decimal call ∷ []) }
     ensures len { array_vec_len line.new ≤ array_vec_len line.old + length word.now + 12 }
 {
@@ -123,19 +139,29 @@ fn push_call(line: &mut LineText, word: &str, call: u32)
 
 /// Appends an item's first word with a call's number, a request and the octets of a set.
 fn push_set(line: &mut LineText, word: &str, call: u32, request: Request, octets: &[u8; OCTETS])
-    requires { array_vec_len line.old + length word.now ≤ 25 }
+    requires { array_vec_len line.old + length word.now ≤ TICK + FIRST_WORD }
     ensures bytes { line.new.items
         ≡ line.old.items ++ spaced (word.now ∷ decimal call ∷ decimal request ∷ encode_lower octets.now ∷ []) }
-    ensures len { array_vec_len line.new < LONGEST_LINE }
+    ensures len { array_vec_len line.new ≤ array_vec_len line.old + length word.now + 16 + SET }
 {
     push_call(line, word, call);
     push_number(line, request.number());
     push_octets(line, octets);
 }
 
+/// Appends the words of an item on a set that is shown.
+fn push_shown(line: &mut LineText, call: u32, request: Request, octets: &[u8; OCTETS])
+    requires { array_vec_len line.old ≤ TICK }
+    ensures bytes { line.new.items ≡ line.old.items ++ spaced (note_words (Note.Shown call request octets.now)) }
+    ensures len { array_vec_len line.new < LONGEST_LINE }
+{
+    push_set(line, "shown", call, request, octets);
+    push_summary(line, octets);
+}
+
 /// Appends the words of a frame that carries a set.
 fn push_data(line: &mut LineText, request: Request, attempt: u8, octets: &[u8; OCTETS])
-    requires { array_vec_len line.old ≤ 44 }
+    requires { array_vec_len line.old ≤ BEFORE_FRAME }
     ensures bytes { line.new.items
         ≡ line.old.items ++ spaced (codes "data" ∷ decimal request ∷ decimal attempt ∷ encode_lower octets.now ∷ []) }
     ensures len { array_vec_len line.new < LONGEST_LINE }
@@ -147,7 +173,7 @@ fn push_data(line: &mut LineText, request: Request, attempt: u8, octets: &[u8; O
 
 /// Appends a frame's first word with its request.
 fn push_request(line: &mut LineText, word: &str, request: Request)
-    requires { array_vec_len line.old + length word.now ≤ 50 }
+    requires { array_vec_len line.old + length word.now ≤ BEFORE_FRAME + FIRST_WORD }
     ensures bytes { line.new.items ≡ line.old.items ++ spaced (word.now ∷ decimal request ∷ []) }
     ensures len { array_vec_len line.new ≤ array_vec_len line.old + length word.now + 5 }
 {
@@ -157,7 +183,7 @@ fn push_request(line: &mut LineText, word: &str, request: Request)
 
 /// Appends the words of a frame.
 fn push_frame(line: &mut LineText, frame: &Frame)
-    requires { array_vec_len line.old ≤ 44 }
+    requires { array_vec_len line.old ≤ BEFORE_FRAME }
     ensures bytes { line.new.items ≡ line.old.items ++ spaced (frame_words frame.now) }
     ensures len { array_vec_len line.new < LONGEST_LINE }
 {
@@ -180,7 +206,7 @@ fn push_frame(line: &mut LineText, frame: &Frame)
 
 /// Appends an item's first word with an attempt to dial.
 fn push_attempt(line: &mut LineText, word: &str, attempt: DialAttempt)
-    requires { array_vec_len line.old + length word.now ≤ 50 }
+    requires { array_vec_len line.old + length word.now ≤ BEFORE_FRAME + FIRST_WORD }
     ensures bytes { line.new.items ≡ line.old.items ++ spaced (word.now ∷ decimal attempt ∷ []) }
     ensures len { array_vec_len line.new ≤ array_vec_len line.old + length word.now + 5 }
 {
@@ -190,7 +216,7 @@ fn push_attempt(line: &mut LineText, word: &str, attempt: DialAttempt)
 
 /// Appends the words of an item on the network.
 fn push_net(line: &mut LineText, up: bool)
-    requires { array_vec_len line.old ≤ 20 }
+    requires { array_vec_len line.old ≤ TICK }
     ensures bytes { line.new.items ≡ line.old.items ++ spaced (codes "net" ∷ net_word up ∷ []) }
     ensures len { array_vec_len line.new < LONGEST_LINE }
 {
@@ -200,7 +226,7 @@ fn push_net(line: &mut LineText, up: bool)
 
 /// Appends the words of an item on a leg that went down.
 fn push_down(line: &mut LineText, end: End, call: u32, why: Why)
-    requires { array_vec_len line.old ≤ 20 }
+    requires { array_vec_len line.old ≤ TICK }
     ensures bytes { line.new.items
         ≡ line.old.items ++ spaced (codes "down" ∷ end_word end ∷ decimal call ∷ why_word why ∷ []) }
     ensures len { array_vec_len line.new < LONGEST_LINE }
@@ -211,7 +237,7 @@ fn push_down(line: &mut LineText, end: End, call: u32, why: Why)
 
 /// Appends the words of an item on a timer.
 fn push_ended(line: &mut LineText, end: End, call: u32, timer: Timer)
-    requires { array_vec_len line.old ≤ 20 }
+    requires { array_vec_len line.old ≤ TICK }
     ensures bytes { line.new.items
         ≡ line.old.items ++ spaced (codes "ended" ∷ end_word end ∷ decimal call ∷ timer_word timer ∷ []) }
     ensures len { array_vec_len line.new < LONGEST_LINE }
@@ -222,7 +248,7 @@ fn push_ended(line: &mut LineText, end: End, call: u32, timer: Timer)
 
 /// Appends the words of a voice item.
 fn push_voice(line: &mut LineText, end: End, call: u32, up: bool, down: bool)
-    requires { array_vec_len line.old ≤ 20 }
+    requires { array_vec_len line.old ≤ TICK }
     ensures bytes { line.new.items
         ≡ line.old.items ++ spaced (codes "voice" ∷ end_word end ∷ decimal call ∷ voice_word up ∷ voice_word down ∷ []) }
     ensures len { array_vec_len line.new < LONGEST_LINE }
@@ -234,7 +260,7 @@ fn push_voice(line: &mut LineText, end: End, call: u32, up: bool, down: bool)
 
 /// Appends the words of a send item.
 fn push_send(line: &mut LineText, end: End, call: u32, frame: &Frame)
-    requires { array_vec_len line.old ≤ 20 }
+    requires { array_vec_len line.old ≤ TICK }
     ensures bytes { line.new.items
         ≡ line.old.items ++ spaced (codes "send" ∷ end_word end ∷ decimal call ∷ frame_words frame.now) }
     ensures len { array_vec_len line.new < LONGEST_LINE }
@@ -245,7 +271,7 @@ fn push_send(line: &mut LineText, end: End, call: u32, frame: &Frame)
 
 /// Appends the words of an item.
 fn push_note(line: &mut LineText, note: &Note)
-    requires { array_vec_len line.old ≤ 20 }
+    requires { array_vec_len line.old ≤ TICK }
     ensures bytes { line.new.items ≡ line.old.items ++ spaced (note_words note.now) }
     ensures len { array_vec_len line.new < LONGEST_LINE }
 {
@@ -273,7 +299,7 @@ fn push_note(line: &mut LineText, note: &Note)
             call,
             request,
             octets,
-        } => push_set(line, "shown", *call, *request, octets),
+        } => push_shown(line, *call, *request, octets),
         Note::Acked {
             call,
             request,

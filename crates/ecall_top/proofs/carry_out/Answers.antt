@@ -14,7 +14,7 @@ pub returns-clause-usage : goal.returns-clause-usage
 returns-clause-usage g c = λ none. handed_usage c.reply-status.result c.hand_over.result _ c.hand_over.ensures.over (c.reply-status.ensures.usage none)
 
 pub returns-clause-in_place : goal.returns-clause-in_place
-returns-clause-in_place g c = λ some. handed_memory c.reply-status.result c.hand_over.result _ c.hand_over.ensures.over (c.reply-status.ensures.in_place some)
+returns-clause-in_place g c = λ wants. c.reply-status.ensures.in_place (handed_memory c.reply-status.result c.hand_over.result _ c.hand_over.ensures.over wants)
 
 pub returns-clause-unread : goal.returns-clause-unread
 returns-clause-unread g c =

@@ -17,6 +17,11 @@ returns-in-Some-Decode-clause-outcome g c =
     named (command_of (map string_bytes c.args.words.now)) (Some command.Decode) (g.I.Source.left c.args.input.now) (g.I.Source.left c.decode_sets.new.input) (held g.O.Sink.held c.args.output.now) (held g.O.Sink.held c.decode_sets.new.output) c.decode_sets.result
     (sym c.read_command.ensures ∙ (c.in-Some-Decode.is ∙ ap Some c.in-Some-Decode.field-0-is)) c.decode_sets.ensures.outcome
 
+pub returns-in-Some-Encode-clause-outcome : goal.returns-in-Some-Encode-clause-outcome
+returns-in-Some-Encode-clause-outcome g c =
+    named (command_of (map string_bytes c.args.words.now)) (Some command.Encode) (g.I.Source.left c.args.input.now) (g.I.Source.left c.encode_sets.new.input) (held g.O.Sink.held c.args.output.now) (held g.O.Sink.held c.encode_sets.new.output) c.encode_sets.result
+    (sym c.read_command.ensures ∙ (c.in-Some-Encode.is ∙ ap Some c.in-Some-Encode.field-0-is)) c.encode_sets.ensures.outcome
+
 pub returns-in-None-clause-outcome : goal.returns-in-None-clause-outcome
 returns-in-None-clause-outcome g c =
     named (command_of (map string_bytes c.args.words.now)) None (g.I.Source.left c.args.input.now) (g.I.Source.left c.args.input.now) (held g.O.Sink.held c.args.output.now) (held g.O.Sink.held c.usage.new.output) c.usage.result

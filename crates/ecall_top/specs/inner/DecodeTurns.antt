@@ -1,36 +1,27 @@
 -- Where the command `decode` stands between two lines, and what one more line comes to. This project's profile. Cited
 -- by the contracts of the functions that describe sets line by line.
-use Rattle.std.specs.Prelude.{◌≡◌, ℕ, ◌+◌, ◌<◌, ◌≤◌, List, ◌++◌, Option, Some, None, Result, Ok, Err}
+use Rattle.std.specs.Prelude.{◌≡◌, ℕ, ◌<◌, ◌≤◌, List, Option, Some, None, Result, Ok, Err}
 use Rattle.call_io.specs.Bytes.{Grew, GrewPartly}
 use Rattle.per_bits.specs.declared.refusals.Refusal.{Refusal}
 use Rattle.msd_values.specs.Description.{description}
 use Rattle.msd_values.specs.declared.msd.Msd.{Msd}
 use Rattle.msd_codec.specs.Sets.{Shows, StopsAt}
-use Rattle.trace_text.specs.Lines.{lines_of, most_bytes}
-use Rattle.trace_text.specs.Reading.{Reading, MayFollow}
+use Rattle.trace_text.specs.Lines.{most_bytes}
+use Rattle.trace_text.specs.Reading.{Reading}
 use Rattle.trace_text.specs.declared.reason.Reason.{Reason}
 use Rattle.ecall_top.specs.declared.command.Command.TheVariants as command
 use Rattle.ecall_top.specs.declared.refusal.Refused.{Refused}
 use Rattle.ecall_top.specs.declared.refusal.Refused.TheVariants as refused
 use Rattle.ecall_top.specs.declared.status.Status.{Status}
 use Rattle.ecall_top.specs.declared.status.Status.TheVariants as status
-use Rattle.ecall_top.specs.Decode.{AreDecoded, IsDecoded}
+use Rattle.ecall_top.specs.Decode.{AreDecoded}
 use Rattle.ecall_top.specs.Outcome.{Streams, Outcome}
-use Rattle.ecall_top.specs.Refusals.{Reply, refusal_line, in_front_of}
-use Rattle.ecall_top.specs.inner.Taken.{TakenSoFar}
+use Rattle.ecall_top.specs.Refusals.{refusal_line}
+use Rattle.ecall_top.specs.inner.LineTurns.{LinesStanding}
 
--- The text of a front of the input stands in front of the reply to what follows it, whatever that is.
-abbrev pub DecodedSoFar : (front : List ℕ) → Reading → (text : List ℕ) → Type 0
-DecodedSoFar front reading text =
-    (more : List ℕ) → MayFollow reading.feed more → (r : Reply)
-    → AreDecoded (reading.lines + 1) (lines_of more) r → IsDecoded (front ++ more) (in_front_of text r)
-
-pub record SetsStanding (start now : Streams) (reading : Reading) : Type 0 where
-  pub front : List ℕ
-  pub taken : TakenSoFar start now reading front
-  pub text : List ℕ
-  pub read : DecodedSoFar front reading text
-  pub wrote : Grew start.held now.held text
+-- where the command stands between two lines
+abbrev pub SetsStanding : (start now : Streams) → Reading → Type 0
+SetsStanding start now reading = LinesStanding (Some command.Decode) AreDecoded start now reading
 
 -- A set is described.
 pub record GivesSet (place : Result (Option (List ℕ)) Reason) (text : List ℕ) : Type 0 where

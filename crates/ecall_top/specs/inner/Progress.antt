@@ -1,13 +1,14 @@
 -- How far a run has come: what the lines so far said, and what is told of them. This project's profile. Cited by the
 -- contracts of the functions that play a script line by line.
 use Rattle.std.specs.Prelude.{◌≡◌, ℕ, ◌+◌, List, [], ◌∷◌, ◌++◌, Option, Some, None}
-use Rattle.ivs_machine.specs.declared.facts.Facts.TheVariants as facts
+use Rattle.msd_fit.specs.declared.facts.Facts.{Facts}
 use Rattle.trace_text.specs.declared.entry.Entry.{Entry}
 use Rattle.trace_text.specs.declared.event.Event.{Event}
 use Rattle.trace_text.specs.declared.script.ScriptLine.{ScriptLine}
 use Rattle.trace_text.specs.declared.script.ScriptLine.TheVariants as line
 use Rattle.trace_text.specs.Lines.{lines_of}
 use Rattle.trace_text.specs.Reading.{Reading, MayFollow}
+use Rattle.trace_text.specs.Facts.{facts_in}
 use Rattle.trace_text.specs.Script.{Said, Script, script_of, script_from}
 use Rattle.channel_sim.specs.World.{World, first_world, world_after, step}
 
@@ -26,9 +27,9 @@ event_of (line.Fact f) = []
 event_of (line.Event e) = e ∷ []
 
 -- the world that these events leave, where the vehicle's facts are known
-abbrev pub world_left : Option (List ℕ) → List Event → Option World
+abbrev pub world_left : Option Facts → List Event → Option World
 world_left None events = None
-world_left (Some octets) events = Some (world_after (first_world (facts.Ready octets)) events)
+world_left (Some known) events = Some (world_after (first_world known) events)
 
 -- what an event gives in a world
 abbrev pub entries_in : Option World → ScriptLine → List Entry
@@ -38,4 +39,4 @@ entries_in (Some w) (line.Event e) = (step w e).entries
 
 -- what a line gives in the world that these events leave
 abbrev pub entries_of : Said → List Event → ScriptLine → List Entry
-entries_of said events says = entries_in (world_left said.ready events) says
+entries_of said events says = entries_in (world_left (facts_in said.facts) events) says

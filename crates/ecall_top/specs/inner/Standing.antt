@@ -5,6 +5,7 @@ use Rattle.call_io.specs.Bytes.{Grew}
 use Rattle.trace_text.specs.declared.event.Event.{Event}
 use Rattle.trace_text.specs.EntryLine.{text_of}
 use Rattle.trace_text.specs.Reading.{Reading}
+use Rattle.trace_text.specs.Facts.{facts_in}
 use Rattle.trace_text.specs.Script.{Said}
 use Rattle.ecall_top.specs.Outcome.{Streams}
 use Rattle.ecall_top.specs.inner.Progress.{ReadSoFar}
@@ -21,6 +22,6 @@ pub record Standing (start now : Streams) (reading : Reading) (Stands : Said →
   pub said : Said
   pub events : List Event
   pub read : ReadSoFar front reading said events
-  pub wrote : Grew start.held now.held (text_of (played said.ready events))
+  pub wrote : Grew start.held now.held (text_of (played (facts_in said.facts) events))
   pub stands : Stands said events
   pub tidy : IsTidy said events

@@ -14,13 +14,17 @@ fn octets_of_set() -> Result<[u8; OCTETS], Fail> {
     Ok(octets)
 }
 
-/// These words, and behind them the 280 digits of the set.
-fn text_with_set(alloc: Global, words: &str) -> Result<String, AllocError> {
+/// The summary of the set.
+const SUMMARY: &str = " ok 1 WM9VDSVDSYA123456 1577836800 173880000 41700000";
+
+/// These words, and behind them the 280 digits of the set and some more words.
+fn text_with_set(alloc: Global, words: &str, more: &str) -> Result<String, AllocError> {
     let mut text = String::from_str(alloc, words)?;
     text.push_str(SET)?;
     for _ in 0..218 {
         text.push('0')?;
     }
+    text.push_str(more)?;
     text.push('\n')?;
     Ok(text)
 }
@@ -178,34 +182,55 @@ fn sets(rt: HostRuntime) -> Result<(), Fail> {
         octets,
     };
     let table = [
-        (6, send, "6 send vehicle 1 data 1 0 "),
-        (9, shown, "9 shown 1 1 "),
-        (12, acked, "12 acked 1 1 "),
+        (6, send, "6 send vehicle 1 data 1 0 ", ""),
+        (9, shown, "9 shown 1 1 ", SUMMARY),
+        (12, acked, "12 acked 1 1 ", ""),
     ];
-    for (tick, note, words) in &table {
-        let text = text_with_set(rt.alloc(), words)?;
+    for (tick, note, words, more) in &table {
+        let text = text_with_set(rt.alloc(), words, more)?;
         assert_eq!(rt; written(rt.alloc(), *tick, *note)?.bytes(), text.as_bytes());
     }
     Ok(())
 }
 
 #[test]
-fn longest_line(rt: HostRuntime) -> Result<(), Fail> {
-    let send = Note::Send {
-        end: End::Vehicle,
-        call: u32::MAX,
-        frame: Frame::Content {
-            request: Request::new(255).ok_or("there are 255 requests")?,
-            attempt: 255,
-            octets: octets_of_set()?,
-        },
+fn octets_that_are_no_set(rt: HostRuntime) -> Result<(), Fail> {
+    let mut octets = [0; OCTETS];
+    octets[0] = 3;
+    let shown = Note::Shown {
+        call: 1,
+        request: Request::first(),
+        octets,
     };
-    let text = text_with_set(
-        rt.alloc(),
-        "18446744073709551615 send vehicle 4294967295 data 255 255 ",
-    )?;
+    let mut text = String::from_str(rt.alloc(), "0 shown 1 1 03")?;
+    for _ in 0..278 {
+        text.push('0')?;
+    }
+    text.push_str(" refused 0 8 3\n")?;
+    assert_eq!(rt; written(rt.alloc(), 0, shown)?.bytes(), text.as_bytes());
+    Ok(())
+}
+
+/// The set with the message 255, the latest timestamp, and the least latitude and longitude.
+const LONGEST_SET: &str = "0203fe81d54970d65c3597ca0420c414640ffffffff8000000000000000168";
+
+#[test]
+fn longest_line(rt: HostRuntime) -> Result<(), Fail> {
+    let mut octets = [0; OCTETS];
+    hex::decode_to_slice(LONGEST_SET, &mut octets[..31])?;
+    let shown = Note::Shown {
+        call: u32::MAX,
+        request: Request::new(255).ok_or("there are 255 requests")?,
+        octets,
+    };
+    let mut text = String::from_str(rt.alloc(), "18446744073709551615 shown 4294967295 255 ")?;
+    text.push_str(LONGEST_SET)?;
+    for _ in 0..218 {
+        text.push('0')?;
+    }
+    text.push_str(" ok 255 WM9VDSVDSYA123456 4294967295 -2147483648 -2147483648\n")?;
     assert_eq!(rt;
-        written(rt.alloc(), u64::MAX, send)?.bytes(),
+        written(rt.alloc(), u64::MAX, shown)?.bytes(),
         text.as_bytes()
     );
     assert_eq!(rt; text.len(), LONGEST_LINE);

@@ -33,3 +33,6 @@ loop-status-preserved g c =
       writes = c.in-None.ensures.unwritten ∙ c.loop-status.invariant.writes;
       onward = Onward-append _ _ _ c.loop-status.invariant.onward c.in-None.ensures.onward;
     }
+
+pub returns-in-Some-clause-outcome : goal.returns-in-Some-clause-outcome
+returns-in-Some-clause-outcome g c = c.in-Some.ensures.turns _ c.loop-status.invariant.stands

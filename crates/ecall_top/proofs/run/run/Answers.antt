@@ -16,8 +16,8 @@ loop-next-init g c =
     let start : Streams = record { left = g.I.Source.left c.args.input.now; held = held g.O.Sink.held c.args.output.now } in
     record {
       stands =
-          subst (λ (r : Reading). Standing start start r (StageStandsFor (stage.Facts None))) (sym c.new-lines.ensures)
-          (stands_first start (StageStandsFor (stage.Facts None)) (refl, refl));
+          subst (λ (r : Reading). Standing start start r (StageStandsFor (stage.Facts c.new.result))) (sym c.new-lines.ensures)
+          (stands_first start (StageStandsFor (stage.Facts c.new.result)) (c.new.ensures, refl, refl));
       few = omega arith;
       bound = rw c.new-lines.ensures (omega arith);
       reads = refl;

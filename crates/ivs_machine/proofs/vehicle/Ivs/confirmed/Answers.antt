@@ -6,13 +6,13 @@ use Rattle.ivs_machine.proofs.vehicle.Ivs.confirmed.Goals as goal
 pub returns-in-Sending-clause-stands : goal.returns-in-Sending-clause-stands
 returns-in-Sending-clause-stands c =
     let sends : c.in-InCall.call.stage ≡ stage.Sending c.args.request = cc in
-    each_in_call c.args.self.now c.in-InCall.call _ c.in-InCall.is (λ obeyed made counted served octets request flags.
+    each_in_call c.args.self.now c.in-InCall.call _ c.in-InCall.is (λ sets obeyed made counted most served octets request flags.
     rw (positive_counted _ _ c.args.request _ sends)
-    (record { facts = refl; phase = (_, refl, talking_stands c.in-InCall.call c.count.new.self obeyed made _ served octets c.count.ensures.stage (c.count.ensures.counted counted flags)) }))
+    (record { facts = refl; cause = refl; sets = most; phase = (_, refl, talking_stands c.in-InCall.call c.count.new.self obeyed made _ served octets c.count.ensures.stage (c.count.ensures.counted counted flags)) }))
 
 pub returns-in-Confirming-clause-stands : goal.returns-in-Confirming-clause-stands
 returns-in-Confirming-clause-stands c =
     let confirms : c.in-InCall.call.stage ≡ stage.Confirming c.args.request = cc in
-    each_in_call c.args.self.now c.in-InCall.call _ c.in-InCall.is (λ obeyed made counted served octets request flags.
+    each_in_call c.args.self.now c.in-InCall.call _ c.in-InCall.is (λ sets obeyed made counted most served octets request flags.
     rw (positive_opened _ _ c.args.request _ confirms)
-    (record { facts = refl; phase = (_, refl, talking_stands c.in-InCall.call _ obeyed made counted served octets refl flags) }))
+    (record { facts = refl; cause = refl; sets = most; phase = (_, refl, talking_stands c.in-InCall.call _ obeyed made counted served octets refl flags) }))

@@ -1,0 +1,48 @@
+//! The words of a line that are one of a few.
+
+ghost use Rattle.std.specs.Prelude.{◌≡◌};
+ghost use Rattle.trace_text.specs.Choices.{cause_of, direction, yes_or_no};
+
+use crate::words::is_word;
+use msd_fit::Cause;
+
+/// True for `up`, false for `down`.
+pub fn read_direction(text: &[u8]) -> Option<bool>
+    ensures { result ≡ direction text.now }
+{
+    if is_word(text, "up") {
+        Some(true)
+    } else if is_word(text, "down") {
+        Some(false)
+    } else {
+        None
+    }
+}
+
+/// True for `yes`, false for `no`.
+pub fn read_yes_or_no(text: &[u8]) -> Option<bool>
+    ensures { result ≡ yes_or_no text.now }
+{
+    if is_word(text, "yes") {
+        Some(true)
+    } else if is_word(text, "no") {
+        Some(false)
+    } else {
+        None
+    }
+}
+
+/// `auto`, `manual` or `test`.
+pub fn read_cause(text: &[u8]) -> Option<Cause>
+    ensures { result ≡ cause_of text.now }
+{
+    if is_word(text, "auto") {
+        Some(Cause::Auto)
+    } else if is_word(text, "manual") {
+        Some(Cause::Manual)
+    } else if is_word(text, "test") {
+        Some(Cause::Test)
+    } else {
+        None
+    }
+}

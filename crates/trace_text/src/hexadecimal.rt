@@ -1,0 +1,66 @@
+//! Octets in hexadecimal.
+
+ghost use Rattle.std.specs.Prelude.{◌≡◌, false, length, IsTrue};
+ghost use Rattle.std.specs.Option.{option_copied};
+ghost use Rattle.trace_text.specs.FactLines.{candidate_from, set_of};
+ghost use Rattle.trace_text.specs.Hexadecimal.{octets_of, content_of};
+ghost use Rattle.trace_text.specs.inner.Decoding.{DecodesTo, DecodesNone, few_of};
+
+use crate::words::is_word;
+use msd_fit::{Candidate, MOST_TOGETHER};
+
+/// The octets of a ready set, 1 to 140, with zero octets to its end.
+pub fn read_set_octets(text: &[u8]) -> Option<[u8; 140]>
+    ensures { result ≡ set_of (octets_of text.now) }
+{
+    let mut octets = [0; 140];
+    match decode_front(text, &mut octets) {
+        true => Some(octets),
+        false => None,
+    }
+}
+
+/// Additional data of this identifier and this content, where there may be some.
+pub fn read_candidate(oid: &[u8], content: &[u8]) -> Option<Candidate>
+    ensures { result ≡ candidate_from (octets_of oid.now) (content_of content.now) }
+{
+    let mut oid_room = [0; MOST_TOGETHER];
+    let mut content_room = [0; MOST_TOGETHER];
+    let oid = read_octets(oid, &mut oid_room)?;
+    let content = read_content(content, &mut content_room)?;
+    Candidate::of(oid, content)
+}
+
+/// The octets of a content, where there is room for them.
+fn read_content<'a>(text: &[u8], room: &'a mut [u8; MOST_TOGETHER]) -> Option<&'a [u8]>
+    ensures { option_copied result ≡ few_of (content_of text.now) }
+{
+    if is_word(text, "-") {
+        Some(&room[..0])
+    } else {
+        read_octets(text, room)
+    }
+}
+
+/// The octets that hexadecimal spells, where there is room for them.
+fn read_octets<'a>(text: &[u8], room: &'a mut [u8; MOST_TOGETHER]) -> Option<&'a [u8]>
+    ensures { option_copied result ≡ few_of (octets_of text.now) }
+{
+    if decode_front(text, room) {
+        Some(&room[..text.len() / 2])
+    } else {
+        None
+    }
+}
+
+/// Decodes hexadecimal to the front of `into`, where it is some, and not too much.
+fn decode_front(text: &[u8], into: &mut [u8]) -> bool
+    ensures yes { IsTrue result → DecodesTo text.now into.old into.new }
+    ensures no { result ≡ false → DecodesNone text.now (length into.old) }
+{
+    let count = text.len() / 2;
+    if count == 0 || count > into.len() {
+        return false;
+    }
+    hex::decode_to_slice(text, &mut into[..count]).is_ok()
+}

@@ -1,0 +1,213 @@
+//! Lines of a script and of `encode` that are refused: for each reason a table over all forms of lines.
+
+use crate::script_tests::{first_encodes, first_says};
+use crate::*;
+use std::alloc::{AllocError, Global};
+use std::process::Abort;
+use std::test::Fail;
+
+/// Asserts that a line of a script is refused for this reason.
+fn expect_refused(
+    rt: &impl Abort,
+    alloc: Global,
+    text: &str,
+    reason: Reason,
+) -> Result<(), AllocError> {
+    let says = first_says(alloc, text.as_bytes())?;
+    assert!(rt; says == Some(Err(BadLine { line: 1, reason })), "{text}");
+    Ok(())
+}
+
+/// Asserts that a line of `encode` is refused for this reason.
+fn expect_not_encoded(
+    rt: &impl Abort,
+    alloc: Global,
+    text: &str,
+    reason: Reason,
+) -> Result<(), AllocError> {
+    let says = first_encodes(alloc, text.as_bytes())?;
+    assert!(rt; says == Some(Err(BadLine { line: 1, reason })), "{text}");
+    Ok(())
+}
+
+#[test]
+fn unknown_words(rt: HostRuntime) -> Result<(), Fail> {
+    for text in [
+        "hello",
+        "Vin WM9VDSVDSYA123456",
+        " answer",
+        "write auto 1",
+        "vin WM9VDSVDSYA12345I",
+        "vin WM9VDSVDSYA12345",
+        "vin wm9vdsvdsya123456",
+        "vin ",
+        "fuel 100000",
+        "fuel 10000000",
+        "fuel 1000002",
+        "fuel ",
+        "trusted maybe",
+        "trusted YES",
+        "trusted ",
+        "trigger soft",
+        "trigger manual",
+        "trigger test",
+        "deliver left 0 0",
+    ] {
+        expect_refused(&rt, rt.alloc(), text, Reason::Word)?;
+    }
+    Ok(())
+}
+
+#[test]
+fn lines_that_are_not_built(rt: HostRuntime) -> Result<(), Fail> {
+    for text in [
+        "cancel",
+        "net up",
+        "fail",
+        "callback",
+        "sleep",
+        "fault vehicle",
+        "fault point 1",
+        "damaged 1",
+        "request 1",
+        "clear 1",
+        "hangup 1",
+        "drop vehicle",
+        "drop both 1",
+        "flow up 3",
+        "tick 100",
+    ] {
+        expect_refused(&rt, rt.alloc(), text, Reason::Word)?;
+    }
+    Ok(())
+}
+
+#[test]
+fn numbers_of_words(rt: HostRuntime) -> Result<(), Fail> {
+    for text in [
+        "vin",
+        "vin I I",
+        "kind",
+        "kind 14 0",
+        "fuel",
+        "fuel 2 2",
+        "time",
+        "time 0 ",
+        "place 0",
+        "place x y z",
+        "heading",
+        "heading 0 0",
+        "trusted",
+        "trusted yes no",
+        "before1 0",
+        "before1 0 0 0",
+        "before2",
+        "before2 0 0 ",
+        "passengers",
+        "passengers 1 1",
+        "extra 01",
+        "extra 01 - -",
+        "set",
+        "set 00 ",
+        "trigger",
+        "trigger manual now",
+        "answer ",
+        "deliver left 0",
+        "deliver up 1 1 1",
+    ] {
+        expect_refused(&rt, rt.alloc(), text, Reason::Count)?;
+    }
+    Ok(())
+}
+
+#[test]
+fn numbers(rt: HostRuntime) -> Result<(), Fail> {
+    for text in [
+        "kind 0",
+        "kind 14",
+        "kind 01",
+        "kind ",
+        "time 4294967296",
+        "time -1",
+        "time 00",
+        "time 1x",
+        "place 2147483648 0",
+        "place 0 -2147483649",
+        "place -0 0",
+        "place 0 -01",
+        "place - 0",
+        "place +1 0",
+        "heading 256",
+        "heading 045",
+        "before1 512 0",
+        "before1 0 -513",
+        "before2 -0 0",
+        "before2  0",
+        "passengers 256",
+        "passengers two",
+        "deliver up 0 x",
+        "deliver up 1 01",
+        "deliver up  1",
+        "deliver up 4294967296 1",
+    ] {
+        expect_refused(&rt, rt.alloc(), text, Reason::Number)?;
+    }
+    Ok(())
+}
+
+#[test]
+fn octets(rt: HostRuntime) -> Result<(), Fail> {
+    let alloc = rt.alloc();
+    for text in [
+        "set ",
+        "set 000",
+        "set 0g",
+        "set -",
+        "extra 0 -",
+        "extra  -",
+        "extra - 01",
+        "extra 01 ",
+        "extra 01 0",
+        "extra 01 0x",
+        "extra 80 -",
+        "extra 81 -",
+        "extra 018001 -",
+    ] {
+        expect_refused(&rt, alloc, text, Reason::Hex)?;
+    }
+    let mut text = String::from_str(alloc, "extra 01 ")?;
+    for _ in 0..220 {
+        text.push('0')?;
+    }
+    expect_refused(&rt, alloc, &text, Reason::Hex)?;
+    let mut text = String::from_str(alloc, "set ")?;
+    for _ in 0..282 {
+        text.push('7')?;
+    }
+    expect_refused(&rt, alloc, &text, Reason::Hex)?;
+    Ok(())
+}
+
+#[test]
+fn lines_that_are_not_encoded(rt: HostRuntime) -> Result<(), Fail> {
+    for (text, reason) in [
+        ("set 00", Reason::Word),
+        ("trigger auto", Reason::Word),
+        ("answer", Reason::Word),
+        ("tick 1", Reason::Word),
+        ("write soft 256", Reason::Word),
+        ("write auto", Reason::Count),
+        ("write soft", Reason::Count),
+        ("write auto 1 ", Reason::Count),
+        ("write auto 256", Reason::Number),
+        ("write auto 01", Reason::Number),
+        ("write auto -1", Reason::Number),
+        ("vin WM9VDSVDSYA12345I", Reason::Word),
+        ("kind 14", Reason::Number),
+        ("place 0", Reason::Count),
+        ("extra 80 -", Reason::Hex),
+    ] {
+        expect_not_encoded(&rt, rt.alloc(), text, reason)?;
+    }
+    Ok(())
+}
