@@ -1,6 +1,6 @@
--- What `ecall encode` replies to lines with facts of a vehicle and lines that ask for a set of data: for each set that is
--- asked for the octets of the set that fits the facts so far, in hexadecimal, up to the first line that is refused. This
--- project's profile. Cited by the reply to words and an input.
+-- What `ecall encode` replies to lines with facts of a vehicle and lines that ask for a set of data: for each set that
+-- is asked for the octets of the set that fits the facts so far, in hexadecimal, up to the first line that is refused.
+-- This project's profile. Cited by the reply to words and an input.
 use Rattle.std.specs.Prelude.{ℕ, ◌+◌, List, [], ◌∷◌, ◌++◌, Option, Some, None, Ok, Err}
 use Rattle.hex.specs.Hex.{encode_lower}
 use Rattle.msd_fit.specs.Fitting.{fits}

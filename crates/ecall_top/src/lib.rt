@@ -25,6 +25,8 @@ mod encode_tests;
 mod laws;
 mod reading;
 mod refusal;
+#[cfg(test)]
+mod refusal_tests;
 mod run;
 mod stage;
 mod status;

@@ -22,7 +22,7 @@ const ZEROS: &str =
 const SUMMARY: &str = "ok 1 WM9VDSVDSYA123456 1577836800 173880000 41700000";
 
 /// The facts of which a vehicle makes that set.
-const FACTS: &str =
+pub(crate) const FACTS: &str =
     "vin WM9VDSVDSYA123456\nkind 1\nfuel 1000000\ntime 1577836800\nplace 173880000 41700000\nheading 45\ntrusted yes\n";
 
 /// The first call: one set goes from the vehicle to the point, is shown and acknowledged.
@@ -125,7 +125,6 @@ fn plays_scripts(rt: HostRuntime) -> Result<(), Fail> {
             "",
             "refused 4 1\n",
         ),
-        ("trigger soft", bad(2, Reason::Word), "", "refused 2 1\n"),
     ];
     for (script, status, first, then) in &table {
         let mut input = source(alloc, &[SET, script], 4096, Vec::new(alloc))?;
