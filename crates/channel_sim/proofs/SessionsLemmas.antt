@@ -4,7 +4,7 @@ use Rattle.std.proofs.Math.ListN.{set}
 use Rattle.std.proofs.lemmas.List.{drop_all}
 use Rattle.arrayvec.specs.ArrayVec.{ArrayVec}
 use Rattle.link_frames.specs.declared.note.Note.{Note}
-use Rattle.psap_machine.specs.declared.point.Session.{Session}
+use Rattle.psap_machine.specs.declared.session.Session.{Session}
 use Rattle.psap_machine.specs.Point.{Point}
 use Rattle.psap_machine.specs.PointRows as point
 use Rattle.psap_machine.specs.SessionStands.{SessionStandsFor}
@@ -158,3 +158,8 @@ admitted [] [] s p stand one = (one, tt)
 admitted [] (q ∷ ps) s p stand one = absurd stand
 admitted (x ∷ ss) [] s p stand one = absurd stand
 admitted (x ∷ ss) (q ∷ ps) s p stand one = (stand.0, admitted ss ps s p stand.1 one)
+
+-- where none is said to have heard, none did
+pub none_heard : (ss : List Session) (ps : List Point) (o : Option Hearing) → HearingStandsFor None ss ps o → (o ≡ None) × SessionsStandFor ss ps
+none_heard ss ps None h = (refl, h)
+none_heard ss ps (Some x) h = absurd h

@@ -2,7 +2,7 @@
 -- them is the session of a call. This project's profile. Cited by the relation of a `World` to the world, and by
 -- `World::session`.
 use Rattle.std.specs.Prelude.{ℕ, List, [], ◌∷◌, Option, Some, None, ◌==◌, if◌then◌else◌}
-use Rattle.psap_machine.specs.declared.point.Session.{Session}
+use Rattle.psap_machine.specs.declared.session.Session.{Session}
 use Rattle.psap_machine.specs.Point.{Point}
 use Rattle.psap_machine.specs.SessionStands.{SessionStandsFor}
 

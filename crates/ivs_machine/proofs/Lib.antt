@@ -1,1 +1,4 @@
-pub mod Stands
+pub mod Hears
+pub mod Made
+pub mod Ticks
+pub mod VehicleOwed

@@ -1,79 +1,123 @@
--- The state of the in-vehicle system: what it was told, what it is doing, and for the present call the lists of all
--- that it obeyed, made and counted, newest first. After EN 16062 and EN 16072; the numbers are this project's
--- profile. Cited by the contracts of `Ivs`, and by the world.
-use Rattle.std.specs.Prelude.{ℕ, Bool, true, false, List, [], ◌∷◌, Option, Some, None, ◌==◌, max, min, ◌+◌, if◌then◌else◌}
-use Rattle.msd_fit.specs.declared.facts.Facts.{Facts}
+-- The state of the in-vehicle system: what it was told, what it is doing, its sums of ticks, and for its call the lists
+-- of all that it made and counted, newest first. After EN 16062 and EN 16072; the numbers are this project's profile.
+-- Cited by the contracts of `Ivs`, and by the world.
+use Rattle.std.specs.Prelude.{ℕ, Bool, true, false, List, [], ◌∷◌, Option, Some, None, ◌==◌, ◌||◌, ◌&&◌, max, map, if◌then◌else◌}
+use Rattle.link_frames.specs.Legs.{Kept}
 use Rattle.msd_fit.specs.declared.cause.Cause.{Cause}
 use Rattle.msd_fit.specs.declared.cause.Cause.TheVariants as cause
-use Rattle.msd_fit.specs.Fitting.{made}
+use Rattle.msd_fit.specs.declared.facts.Facts.{Facts}
 
--- What the vehicle waits for in a call, with its request.
+-- What the vehicle waits for in a call, with its request. The voice is open in Talking alone.
 pub data Stage : Type 0 where
   Initiating : Stage
+  Awaiting : Stage
   Sending : (request : ℕ) → Stage
   Confirming : (request : ℕ) → Stage
   Talking : Stage
 
--- A call that the vehicle is in.
-pub record Call : Type 0 where
-  pub number : ℕ
-  pub stage : Stage
-  -- the requests obeyed
-  pub obeyed : List ℕ
-  -- the sets made, each with its request
-  pub made : List (ℕ × List ℕ)
-  -- the requests whose acknowledgement was counted
-  pub counted : List ℕ
+-- what the vehicle left for the cancel period of a manual trigger
+pub data Left : Type 0 where
+  LeftIdle : Left
+  LeftStandby : Left
 
 pub data Phase : Type 0 where
   Idle : Phase
+  Standby : Phase
+  Arming : Left → Phase
   Dialling : Phase
-  InCall : Call → Phase
+  Pausing : Phase
+  Seeking : Phase
+  InCall : Stage → Phase
 
 pub record Vehicle : Type 0 where
   pub facts : Facts
-  -- what the present series of calls was triggered by
-  pub cause : Cause
-  -- how many sets were made since that trigger
-  pub sets : ℕ
   pub phase : Phase
+  pub network : Bool
+  pub cause : Cause
+  -- the sets made since the trigger
+  pub sets : ℕ
+  -- the attempts of the dial series, and its ticks
+  pub attempts : ℕ
+  pub series : ℕ
+  -- the ticks of the standby
+  pub standby : ℕ
+  -- the ticks in Arming, Dialling, Pausing, or a stage of a call
+  pub in_phase : ℕ
+  -- The call that the vehicle is in, or else was in last: its number, the sets made in it, each with its request, the
+  -- requests counted, the last attempt to send a set, the ticks in the call, the ticks for which the voice has been
+  -- muted, or open, and whether T5, T7 or the muting sum ended in it or it came by callback.
+  pub call : ℕ
+  pub made : List Kept
+  pub counted : List ℕ
+  pub attempt : ℕ
+  pub in_call : ℕ
+  pub voice_for : ℕ
+  pub marked : Bool
 
--- The vehicle before anything happened. Its cause is set at the first trigger, before any set is made.
+-- the vehicle before anything happened
 abbrev pub first_vehicle : Facts → Vehicle
-first_vehicle known = record { facts = known; cause = cause.Auto; sets = 0; phase = Idle }
+first_vehicle known =
+    record {
+      facts = known;
+      phase = Idle;
+      network = true;
+      cause = cause.Auto;
+      sets = 0;
+      attempts = 0;
+      series = 0;
+      standby = 0;
+      in_phase = 0;
+      call = 0;
+      made = [];
+      counted = [];
+      attempt = 0;
+      in_call = 0;
+      voice_for = 0;
+      marked = false;
+    }
+
+-- the requests obeyed in the call: a set was made for each
+abbrev pub obeyed : Vehicle → List ℕ
+obeyed v = map (λ set. set.0) v.made
+
+-- the greatest request for which a set was made, 0 where there is none
+abbrev pub served : List Kept → ℕ
+served [] = 0
+served (set ∷ sets) = max set.0 (served sets)
+
+-- the octets that were made for a request, none where no set was made for it
+abbrev pub octets_for : ℕ → List Kept → List ℕ
+octets_for r [] = []
+octets_for r (set ∷ sets) = if set.0 == r then set.1 else octets_for r sets
+
+-- whether there is one
+abbrev pub has_some : List ℕ → Bool
+has_some [] = false
+has_some (r ∷ rs) = true
+
+-- whether the call served its end, so that a hang-up is no reason to dial again
+abbrev pub is_settled : Vehicle → Bool
+is_settled v = v.marked || has_some v.counted
 
 -- the number of the call that the vehicle is in
-abbrev pub call_in : Phase → Option ℕ
-call_in Idle = None
-call_in Dialling = None
-call_in (InCall call) = Some call.number
+abbrev pub call_in : Vehicle → Phase → Option ℕ
+call_in v (InCall stage) = Some v.call
+call_in v _ = None
 
 abbrev pub vehicle_call : Vehicle → Option ℕ
-vehicle_call v = call_in v.phase
+vehicle_call v = call_in v v.phase
 
-abbrev pub dials : Phase → Bool
-dials Idle = false
-dials Dialling = true
-dials (InCall call) = false
+abbrev pub is_dialling_in : Phase → Bool
+is_dialling_in Dialling = true
+is_dialling_in _ = false
 
--- whether the vehicle is dialling
 abbrev pub is_dialling : Vehicle → Bool
-is_dialling v = dials v.phase
+is_dialling v = is_dialling_in v.phase
 
--- the greatest of these requests, or 0
-abbrev pub greatest : List ℕ → ℕ
-greatest [] = 0
-greatest (r ∷ rs) = max r (greatest rs)
+abbrev pub is_standby : Phase → Bool
+is_standby Standby = true
+is_standby _ = false
 
--- the set that was made last for a request, and no octets where none was made
-abbrev pub set_for : ℕ → List (ℕ × List ℕ) → List ℕ
-set_for r [] = []
-set_for r (m ∷ ms) = if m.0 == r then m.1 else set_for r ms
-
--- The number of the next set: 1 for the first one after a trigger, one more for each further one, and 255 from then on.
-abbrev pub next_number : Vehicle → ℕ
-next_number v = min (v.sets + 1) 255
-
--- the set of data that the vehicle makes next
-abbrev pub next_set : Vehicle → List ℕ
-next_set v = made v.facts v.cause (next_number v)
+-- whether the point may call the vehicle
+abbrev pub is_reachable : Vehicle → Bool
+is_reachable v = is_standby v.phase && v.network

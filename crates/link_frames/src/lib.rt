@@ -7,6 +7,7 @@ mod laws;
 mod note;
 mod number;
 mod requests;
+mod steps;
 #[cfg(test)]
 mod tests;
 
@@ -15,3 +16,4 @@ pub use laws::limits;
 pub use note::{Items, MOST_ITEMS, Note, Timer, Why, items_of};
 pub use number::{DialAttempt, Request};
 pub use requests::Requests;
+pub use steps::Steps;

@@ -1,8 +1,12 @@
+ghost use Rattle.std.specs.Prelude.{◌≡◌, ◌<◌};
+
 use crate::{
-    Answer, DialAttempt, End, Frame, FrameRef, MOST_ITEMS, Note, OCTETS, Request, Requests,
+    Answer, DialAttempt, End, Frame, FrameRef, MOST_ITEMS, Note, OCTETS, Request, Requests, Steps,
     items_of,
 };
+use std::marker::Brand;
 use std::process::Abort;
+use std::sync::ledger::{Blank, Ledger};
 
 const SET: [u8; OCTETS] = [7; OCTETS];
 
@@ -97,4 +101,20 @@ fn items_keep_their_order(rt: HostRuntime) {
     let items = items_of(&full);
     assert_eq!(rt; items.len(), 8);
     assert_eq!(rt; Note::default(), Note::Nothing);
+}
+
+fn takes_two_steps<L: Ledger>(rt: &impl Abort, blank: Blank)
+    requires name { blank.name ≡ L.name }
+    requires parts { blank.parts ≡ L.parts }
+    requires some { 0 < blank.parts }
+{
+    let mut steps = Steps::<L>::start(blank);
+    steps.tick();
+    steps.tick();
+    assert_eq!(rt; size_of::<Steps<L>>(), 0);
+}
+
+#[test]
+fn steps_take_no_bytes(rt: HostRuntime) {
+    takes_two_steps::<Brand>(&rt, Blank::new(1));
 }

@@ -1,1 +1,6 @@
-pub mod Stands
+pub mod Asked
+pub mod Content
+pub mod Hears
+mod Played
+pub mod PointOwed
+pub mod Ticks

@@ -1,10 +1,12 @@
-//! The answering point's session of one call: what it does at each call event and frame.
+//! The answering point's session of one call: what it does at each call event, frame and tick.
 #![tactic(auto)]
 
 mod event;
-mod point;
+mod laws;
+mod session;
 #[cfg(test)]
 mod tests;
 
 pub use event::PointEvent;
-pub use point::Session;
+pub use laws::rows_owe;
+pub use session::Session;

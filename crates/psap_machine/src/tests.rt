@@ -1,103 +1,298 @@
+ghost use Rattle.std.specs.Prelude.{◌≡◌, ◌≤◌, ◌<◌, IsTrue, IfSome};
+ghost use Rattle.psap_machine.specs.Point.{Point};
+ghost use Rattle.psap_machine.specs.PointRows.{due_of};
+ghost use Rattle.psap_machine.specs.SessionStands.{SessionStandsFor};
+
 use crate::{PointEvent, Session};
-use link_frames::{Answer, End, Frame, Note, OCTETS, Request};
+use link_frames::{Answer, End, Frame, Note, OCTETS, Request, Steps, Timer, Why};
 use std::process::Abort;
+use std::sync::ledger::Ledger;
+
+mod ticks;
 
 const SET: [u8; OCTETS] = [7; OCTETS];
 
 const OTHER_SET: [u8; OCTETS] = [8; OCTETS];
 
+/// The number of the call in these tests.
+const CALL: u32 = 3;
+
 fn request(rt: &impl Abort, number: u8) -> Request {
     Request::new(number).expect(rt, "1 to 255")
 }
 
-fn content(rt: &impl Abort, number: u8, attempt: u8, octets: [u8; OCTETS]) -> Frame {
+fn content(rt: &impl Abort, number: u8, octets: [u8; OCTETS]) -> Frame {
     Frame::Content {
         request: request(rt, number),
-        attempt,
+        attempt: 2,
         octets,
     }
+}
+
+fn start(rt: &impl Abort, number: u8) -> Frame {
+    Frame::Start(request(rt, number))
+}
+
+fn ack(rt: &impl Abort, number: u8) -> Frame {
+    Frame::Ack(request(rt, number))
+}
+
+fn app(rt: &impl Abort, number: u8, answer: Answer) -> Frame {
+    let request = request(rt, number);
+    Frame::App { request, answer }
 }
 
 fn sends(frame: Frame) -> Note {
     Note::Send {
         end: End::Point,
-        call: 3,
+        call: CALL,
         frame,
     }
 }
 
-/// Checks what the point does at one frame.
-fn expect_at(rt: &impl Abort, session: &mut Session, frame: &Frame, want: &[Note]) {
-    let items = session.hear(&PointEvent::Frame(frame.lend()));
-    assert_eq!(rt; items.as_slice(), want, "at {frame:?}");
+fn voice(open: bool) -> Note {
+    Note::Voice {
+        end: End::Point,
+        call: CALL,
+        up: open,
+        down: open,
+    }
 }
 
-/// Checks that the point asks for the set when it hears that the vehicle is there.
-fn expect_asked(rt: &impl Abort, session: &mut Session) {
-    let want = [sends(Frame::Start(request(rt, 1)))];
-    expect_at(rt, session, &Frame::Init, &want);
+fn shown(rt: &impl Abort, number: u8, octets: [u8; OCTETS]) -> Note {
+    Note::Shown {
+        call: CALL,
+        request: request(rt, number),
+        octets,
+    }
 }
 
-#[test]
-fn arrives_with_the_voice_closed(rt: HostRuntime) {
-    let (session, items) = Session::arriving(3);
-    let end = End::Point;
+fn down(why: Why) -> Note {
+    Note::Down {
+        end: End::Point,
+        call: CALL,
+        why,
+    }
+}
+
+fn fault() -> Note {
+    Note::Fault {
+        end: End::Point,
+        call: CALL,
+    }
+}
+
+fn ended(timer: Timer) -> Note {
+    Note::Ended {
+        end: End::Point,
+        call: CALL,
+        timer,
+    }
+}
+
+/// Checks what the point does at an event.
+fn hears(rt: &impl Abort, session: &mut Session, event: &PointEvent<'_>, want: &[Note]) {
+    let items = session.hear(event);
+    assert_eq!(rt; items.as_slice(), want, "at {event:?}");
+}
+
+/// Checks what the point does at a frame.
+fn hears_frame(rt: &impl Abort, session: &mut Session, frame: &Frame, want: &[Note]) {
+    hears(rt, session, &PointEvent::Frame(frame.lend()), want);
+}
+
+/// Checks that no frame that goes down does anything.
+fn ignores_frames_that_go_down(rt: &impl Abort, session: &mut Session) {
+    for frame in [
+        start(rt, 1),
+        Frame::Nack(request(rt, 1)),
+        ack(rt, 1),
+        app(rt, 1, Answer::Positive),
+        app(rt, 1, Answer::Clear),
+    ] {
+        hears_frame(rt, session, &frame, &[]);
+    }
+}
+
+fn may_pass(session: &Session, n: u32) -> bool
+    ensures { IsTrue result → (s : Point) → SessionStandsFor session.now s → IfSome (due_of s) (λ due. n ≤ due) }
+{
+    match session.due() {
+        Some(due) => n <= due,
+        None => true,
+    }
+}
+
+/// Checks what the point does after some ticks, at most as many as are due.
+fn passes<L: Ledger>(
+    rt: &impl Abort,
+    session: &mut Session,
+    moments: &mut Steps<L>,
+    n: u32,
+    want: &[Note],
+) {
+    assert!(rt; n > 0);
+    assert!(rt; may_pass(session, n), "{n} ticks are more than are due");
+    let items = session.pass(n, moments);
+    assert_eq!(rt; items.as_slice(), want, "after {n}");
+}
+
+/// A point that listens.
+fn listening() -> Session {
+    let (session, _items) = Session::arriving(CALL);
+    session
+}
+
+/// A point that asks for the first set.
+fn asking(rt: &impl Abort) -> Session {
+    let mut session = listening();
+    hears_frame(rt, &mut session, &Frame::Init, &[sends(start(rt, 1))]);
+    session
+}
+
+/// A point that tells of the first set.
+fn telling(rt: &impl Abort) -> Session {
+    let mut session = asking(rt);
     let want = [
-        Note::Up { end, call: 3 },
-        Note::Voice {
-            end,
-            call: 3,
-            up: false,
-            down: false,
-        },
+        shown(rt, 1, SET),
+        sends(ack(rt, 1)),
+        sends(app(rt, 1, Answer::Positive)),
     ];
-    assert_eq!(rt; items.as_slice(), want.as_slice());
-    assert_eq!(rt; session.call(), 3);
+    hears_frame(rt, &mut session, &content(rt, 1, SET), &want);
+    session
 }
 
-#[test]
-fn asks_once(rt: HostRuntime) {
-    let none: [Note; 0] = [];
-    let (mut session, _) = Session::arriving(3);
-
-    // Nothing was asked, so nothing is shown; frames that go down say nothing.
-    expect_at(&rt, &mut session, &content(&rt, 1, 0, SET), &none);
-    expect_at(&rt, &mut session, &Frame::Ack(request(&rt, 1)), &none);
-
-    // The first frame that says that the vehicle is there is answered, and no later one.
-    expect_asked(&rt, &mut session);
-    expect_at(&rt, &mut session, &Frame::Init, &none);
-}
-
-#[test]
-fn shows_each_set_once(rt: HostRuntime) {
-    let none: [Note; 0] = [];
-    let (mut session, _) = Session::arriving(3);
-    expect_asked(&rt, &mut session);
-    expect_at(&rt, &mut session, &content(&rt, 2, 0, SET), &none);
-
-    // The set is shown as it came first, whatever its attempt, and its repeats are acknowledged alone.
-    let want = [
-        Note::Shown {
-            call: 3,
-            request: request(&rt, 1),
-            octets: SET,
-        },
-        sends(Frame::Ack(request(&rt, 1))),
-        sends(Frame::App {
-            request: request(&rt, 1),
-            answer: Answer::Positive,
-        }),
-    ];
-    expect_at(&rt, &mut session, &content(&rt, 1, 2, SET), &want);
-    expect_at(
-        &rt,
+/// A point that asked for the first set, and whose voice was opened just now.
+fn talking(rt: &impl Abort) -> Session {
+    let mut session = asking(rt);
+    hears(
+        rt,
         &mut session,
-        &content(&rt, 1, 0, OTHER_SET),
-        &[sends(Frame::Ack(request(&rt, 1)))],
+        &PointEvent::Fault,
+        &[fault(), voice(true)],
     );
-    expect_at(&rt, &mut session, &content(&rt, 255, 0, SET), &none);
-    expect_at(&rt, &mut session, &Frame::Init, &none);
-    expect_at(&rt, &mut session, &Frame::Start(request(&rt, 1)), &none);
-    expect_at(&rt, &mut session, &Frame::Nack(request(&rt, 1)), &none);
+    session
+}
+
+/// Checks what the point does at something damaged, and that the desk may neither ask nor let go.
+fn is_busy(rt: &impl Abort, session: &mut Session, damaged: Note) {
+    hears(rt, session, &PointEvent::Damaged, &[damaged]);
+    hears(rt, session, &PointEvent::Request, &[Note::Busy(CALL)]);
+    hears(rt, session, &PointEvent::Clear, &[Note::Busy(CALL)]);
+}
+
+/// Checks what the point does at a fault.
+fn fails(rt: &impl Abort, session: &mut Session, want: &[Note]) {
+    hears(rt, session, &PointEvent::Fault, want);
+}
+
+/// The items of a session that comes up.
+fn comes_up(rt: &impl Abort, items: &[Note], open: bool) {
+    let up = Note::Up {
+        end: End::Point,
+        call: CALL,
+    };
+    let want = [up, voice(open)];
+    assert_eq!(rt; items, want.as_slice());
+}
+
+#[test]
+fn a_call_comes_up(rt: HostRuntime) {
+    let (session, items) = Session::arriving(CALL);
+    comes_up(&rt, items.as_slice(), false);
+    assert_eq!(rt; session.call(), 3);
+    assert!(rt; !session.over());
+    assert_eq!(rt; session.due(), Some(50));
+
+    let (session, items) = Session::called(CALL);
+    comes_up(&rt, items.as_slice(), true);
+    assert_eq!(rt; session.call(), 3);
+    assert!(rt; !session.over());
+    assert_eq!(rt; session.due(), None);
+}
+
+#[test]
+fn a_point_that_listens_asks_for_the_first_set(rt: HostRuntime) {
+    let mut session = listening();
+    ignores_frames_that_go_down(&rt, &mut session);
+    hears_frame(&rt, &mut session, &content(&rt, 1, SET), &[]);
+    is_busy(&rt, &mut session, Note::Nothing);
+    hears_frame(&rt, &mut session, &Frame::Init, &[sends(start(&rt, 1))]);
+    hears_frame(&rt, &mut session, &Frame::Init, &[]);
+    assert_eq!(rt; session.due(), Some(5));
+}
+
+#[test]
+fn a_point_that_asks_waits_for_its_set(rt: HostRuntime) {
+    let mut session = asking(&rt);
+    ignores_frames_that_go_down(&rt, &mut session);
+    hears_frame(&rt, &mut session, &Frame::Init, &[]);
+    hears_frame(&rt, &mut session, &content(&rt, 2, SET), &[]);
+    hears_frame(&rt, &mut session, &content(&rt, 255, SET), &[]);
+    is_busy(&rt, &mut session, sends(Frame::Nack(request(&rt, 1))));
+    is_busy(&rt, &mut session, sends(Frame::Nack(request(&rt, 1))));
+}
+
+#[test]
+fn a_point_that_tells_shows_no_set_again(rt: HostRuntime) {
+    let mut session = telling(&rt);
+    ignores_frames_that_go_down(&rt, &mut session);
+    let again = [sends(ack(&rt, 1))];
+    hears_frame(&rt, &mut session, &content(&rt, 1, SET), &again);
+    hears_frame(&rt, &mut session, &content(&rt, 1, OTHER_SET), &again);
+    hears_frame(&rt, &mut session, &content(&rt, 2, SET), &[]);
+    hears_frame(&rt, &mut session, &Frame::Init, &[]);
+    is_busy(&rt, &mut session, Note::Nothing);
+    fails(&rt, &mut session, &[fault(), voice(true)]);
+}
+
+#[test]
+fn a_point_that_talks_shows_what_comes_late(rt: HostRuntime) {
+    let mut session = talking(&rt);
+    ignores_frames_that_go_down(&rt, &mut session);
+    hears_frame(&rt, &mut session, &Frame::Init, &[]);
+    let late = [shown(&rt, 1, SET), sends(ack(&rt, 1))];
+    hears_frame(&rt, &mut session, &content(&rt, 1, SET), &late);
+    let again = [sends(ack(&rt, 1))];
+    hears_frame(&rt, &mut session, &content(&rt, 1, SET), &again);
+    is_busy(&rt, &mut session, Note::Nothing);
+    fails(&rt, &mut session, &[fault()]);
+    assert_eq!(rt; session.due(), None);
+}
+
+/// Checks that the session is over, and that nothing happens any more.
+fn stays_over(rt: &impl Abort, session: &mut Session) {
+    assert!(rt; session.over());
+    assert_eq!(rt; session.call(), 3);
+    assert_eq!(rt; session.due(), None);
+    ignores_frames_that_go_down(rt, session);
+    hears_frame(rt, session, &Frame::Init, &[]);
+    hears_frame(rt, session, &content(rt, 1, SET), &[]);
+    hears(rt, session, &PointEvent::Damaged, &[Note::Nothing]);
+    hears(rt, session, &PointEvent::Request, &[Note::Nothing]);
+    hears(rt, session, &PointEvent::Clear, &[Note::Nothing]);
+    hears(rt, session, &PointEvent::Fault, &[Note::Nothing]);
+    hears(rt, session, &PointEvent::Hangup, &[Note::Nothing]);
+    hears(rt, session, &PointEvent::Ended(Why::Lost), &[Note::Nothing]);
+}
+
+/// Checks that the call ends as it is told.
+fn ends(rt: &impl Abort, session: &mut Session, why: Why) {
+    hears(rt, session, &PointEvent::Ended(why), &[down(why)]);
+    stays_over(rt, session);
+}
+
+/// Checks that the call ends as the desk hangs up.
+fn hangs_up(rt: &impl Abort, session: &mut Session) {
+    hears(rt, session, &PointEvent::Hangup, &[down(Why::Hangup)]);
+    stays_over(rt, session);
+}
+
+#[test]
+fn a_call_ends_once(rt: HostRuntime) {
+    hangs_up(&rt, &mut listening());
+    hangs_up(&rt, &mut talking(&rt));
+    ends(&rt, &mut asking(&rt), Why::Lost);
+    ends(&rt, &mut telling(&rt), Why::Release);
+    ends(&rt, &mut talking(&rt), Why::Hangup);
 }

@@ -3,7 +3,7 @@
 use Rattle.std.specs.Prelude.{◌≡◌, ℕ, ◌+◌, List, [], ◌∷◌, Option, Some, None, ◌==◌, if◌then◌else◌}
 use Rattle.arrayvec.specs.ArrayVec.{ArrayVec}
 use Rattle.link_frames.specs.declared.note.Note.{Note}
-use Rattle.psap_machine.specs.declared.point.Session.{Session}
+use Rattle.psap_machine.specs.declared.session.Session.{Session}
 use Rattle.psap_machine.specs.Point.{Point}
 use Rattle.channel_sim.specs.SessionsStand.{SessionsStandFor}
 use Rattle.channel_sim.specs.World.{Hearing}

@@ -24,4 +24,4 @@ returns c =
     (λ p one.
     let one' = subst (λ s. SessionStandsFor s p) (sym c.index_mut.ensures.value) one in
     subst (λ f. (c.hear.result.items ≡ (point.point_row p (point.Arrives f)).items) × SessionStandsFor c.hear.new.self (point.point_row p (point.Arrives f)).new)
-    c.lend.ensures (c.hear.ensures.items p one', c.hear.ensures.stands p one'))
+    c.lend.ensures (c.hear.ensures.gives p one', c.hear.ensures.stands p one'))

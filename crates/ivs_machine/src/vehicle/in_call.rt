@@ -1,0 +1,217 @@
+//! What the vehicle does at events and frames of its call. After EN 16062.
+ghost use Rattle.std.specs.Prelude.{◌≡◌, ◌≤◌};
+ghost use Rattle.link_frames.specs.declared.note.Note.TheVariants as note;
+
+use super::{Ivs, LEAST_OPENING, Phase, Stage};
+use link_frames::{Answer, End, FrameRef, Items, Note, Request, Why, items_of};
+
+impl Ivs {
+    ghost use Rattle.std.specs.Prelude.{◌<◌, ◌||◌, if◌then◌else◌, IsTrue, ◌↔◌};
+    ghost use Rattle.audio_switch.specs.Switch.{is_open, open_ticks};
+    ghost use Rattle.link_frames.specs.Does.{Does};
+    ghost use Rattle.link_frames.specs.Frame.{lent};
+    ghost use Rattle.link_frames.specs.declared.frame.Answer.TheVariants as answer;
+    ghost use Rattle.link_frames.specs.declared.frame.Frame.TheVariants as frame;
+    ghost use Rattle.ivs_machine.specs.VehicleRows as rows;
+    ghost use Rattle.ivs_machine.specs.VehicleRows.{vehicle_row};
+    ghost use Rattle.ivs_machine.specs.IvsStands.{IvsIs, IvsStandsFor};
+    ghost use Rattle.ivs_machine.specs.inner.Moves.{begun};
+
+    /// A fault of the audio or the modem: a muted voice opens.
+    pub(super) fn fault(&mut self) -> Items
+        ensures { Does IvsStandsFor IvsIs self.old self.new result.items (λ v. vehicle_row v rows.Fault) }
+    {
+        let fault = Note::Fault {
+            end: End::Vehicle,
+            call: self.call,
+        };
+        match self.phase {
+            Phase::InCall(Stage::Talking) => items_of(&[fault]),
+            Phase::InCall(_) => {
+                let opening = self.opens();
+                items_of(&[fault, opening])
+            }
+            _ => items_of(&[Note::Nothing]),
+        }
+    }
+
+    /// The point hung up: a call that isn't settled is dialled again.
+    pub(super) fn hung_up(&mut self) -> Items
+        ensures { Does IvsStandsFor IvsIs self.old self.new result.items (λ v. vehicle_row v rows.Hangup) }
+    {
+        match self.phase {
+            Phase::InCall(_) => {
+                let down = self.goes_down(Why::Hangup);
+                let next = self.rests_or_begins();
+                items_of(&[down, next])
+            }
+            _ => items_of(&[Note::Nothing]),
+        }
+    }
+
+    /// A call that is settled is followed by the standby, and another one by a dial series.
+    fn rests_or_begins(&mut self) -> Note
+        ensures item { result ≡ (if self.old.marked || self.old.counts then note.Standby
+            else (if self.old.network then note.Dial 1 else note.Seeking)) }
+        ensures new { self.new ≡ (if self.old.marked || self.old.counts
+            then record self.old { phase = Phase.Standby; standby = 0 } else begun self.old) }
+    {
+        if self.is_settled() {
+            self.rests()
+        } else {
+            self.begins()
+        }
+    }
+
+    fn is_settled(&self) -> bool
+        ensures { result ≡ (self.now.marked || self.now.counts) }
+    {
+        self.marked || self.counts
+    }
+
+    /// The call was lost.
+    pub(super) fn lost(&mut self) -> Items
+        ensures { Does IvsStandsFor IvsIs self.old self.new result.items (λ v. vehicle_row v rows.Lost) }
+    {
+        match self.phase {
+            Phase::InCall(_) => {
+                let down = self.goes_down(Why::Lost);
+                items_of(&[down, self.begins()])
+            }
+            _ => items_of(&[Note::Nothing]),
+        }
+    }
+
+    /// A frame that the link of the call handed up.
+    pub(super) fn frame(&mut self, frame: &FrameRef<'_>) -> Items
+        ensures { Does IvsStandsFor IvsIs self.old self.new result.items (λ v. vehicle_row v (rows.Arrives (lent frame.now))) }
+    {
+        match frame {
+            FrameRef::Start(request) => self.asked(*request),
+            FrameRef::Nack(request) => self.damaged(*request),
+            FrameRef::Ack(request) => self.acknowledged(*request),
+            FrameRef::App {
+                request,
+                answer: Answer::Positive,
+            } => self.confirmed(*request),
+            FrameRef::App {
+                request,
+                answer: Answer::Clear,
+            } => self.cleared(*request),
+            FrameRef::Init | FrameRef::Content { .. } => Items::new(),
+        }
+    }
+
+    /// A request is obeyed where it is above the greatest one obeyed, and an open voice was so for long enough.
+    fn asked(&mut self, request: Request) -> Items
+        ensures { Does IvsStandsFor IvsIs self.old self.new result.items (λ v. vehicle_row v (rows.Arrives (frame.Start request))) }
+    {
+        if request.number() <= self.served {
+            return Items::new();
+        }
+        match self.phase {
+            Phase::InCall(Stage::Talking) => self.asked_while_open(request),
+            Phase::InCall(_) => {
+                let sent = self.takes(request);
+                items_of(&[sent])
+            }
+            _ => Items::new(),
+        }
+    }
+
+    /// What was sent for a request came damaged: the same set is sent again.
+    fn damaged(&mut self, request: Request) -> Items
+        ensures { Does IvsStandsFor IvsIs self.old self.new result.items (λ v. vehicle_row v (rows.Arrives (frame.Nack request))) }
+    {
+        let Phase::InCall(stage) = self.phase else {
+            return Items::new();
+        };
+        match stage {
+            Stage::Sending(sent) if sent.number() == request.number() => {
+                let again = self.sends_again(request);
+                items_of(&[again])
+            }
+            _ => Items::new(),
+        }
+    }
+
+    /// The acknowledgement of the request that is being sent is counted.
+    fn acknowledged(&mut self, request: Request) -> Items
+        ensures { Does IvsStandsFor IvsIs self.old self.new result.items (λ v. vehicle_row v (rows.Arrives (frame.Ack request))) }
+    {
+        let Phase::InCall(stage) = self.phase else {
+            return Items::new();
+        };
+        match stage {
+            Stage::Sending(current) if current.number() == request.number() => {
+                let acked = self.counts_as(request);
+                self.enters(Stage::Confirming(request));
+                items_of(&[acked])
+            }
+            _ => Items::new(),
+        }
+    }
+
+    /// A positive application acknowledgement of the present request ends the muting.
+    fn confirmed(&mut self, request: Request) -> Items
+        ensures { Does IvsStandsFor IvsIs self.old self.new result.items (λ v. vehicle_row v (rows.Arrives (frame.App request answer.Positive))) }
+    {
+        let Phase::InCall(stage) = self.phase else {
+            return Items::new();
+        };
+        match stage {
+            Stage::Sending(sent) if sent.number() == request.number() => {
+                let acked = self.counts_as(request);
+                let opening = self.opens();
+                items_of(&[acked, opening])
+            }
+            Stage::Confirming(sent) if sent.number() == request.number() => {
+                let opening = self.opens();
+                items_of(&[opening])
+            }
+            _ => Items::new(),
+        }
+    }
+
+    /// The point lets the vehicle go.
+    fn cleared(&mut self, request: Request) -> Items
+        ensures { Does IvsStandsFor IvsIs self.old self.new result.items (λ v. vehicle_row v (rows.Arrives (frame.App request answer.Clear))) }
+    {
+        let Phase::InCall(stage) = self.phase else {
+            return Items::new();
+        };
+        match stage {
+            Stage::Sending(sent) if sent.number() == request.number() => {
+                let acked = self.counts_as(request);
+                let down = self.goes_down(Why::Release);
+                items_of(&[acked, down, self.rests()])
+            }
+            Stage::Confirming(sent) if sent.number() == request.number() => { self.is_released() }
+            Stage::Talking if self.counted.has(request) => self.is_released(),
+            _ => Items::new(),
+        }
+    }
+
+    /// A request of a vehicle that talks is obeyed once the voice was open for long enough.
+    fn asked_while_open(&mut self, request: Request) -> Items
+        requires phase { self.old.phase ≡ Phase.InCall Stage.Talking }
+        requires above { self.old.served < request }
+        ensures { Does IvsStandsFor IvsIs self.old self.new result.items (λ v. vehicle_row v (rows.Arrives (frame.Start request))) }
+    {
+        if self.is_long_open() {
+            self.voice.mute();
+            let sent = self.takes(request);
+            items_of(&[self.voices(false), sent])
+        } else {
+            Items::new()
+        }
+    }
+
+    /// Whether the voice was open for so long that a request may mute it.
+    fn is_long_open(&self) -> bool
+        ensures long { IsTrue result ↔ (20 ≤ open_ticks self.now.voice.stretch) }
+        ensures open { IsTrue result → IsTrue (is_open self.now.voice.stretch) }
+    {
+        self.voice.open_for() >= LEAST_OPENING
+    }
+}

@@ -1,0 +1,280 @@
+//! The moves of the vehicle, and the items that it gives in its call. After EN 16062 and EN 16072.
+ghost use Rattle.std.specs.Prelude.{◌≡◌, ◌≤◌};
+ghost use Rattle.link_frames.specs.declared.frame.End.TheVariants as «end»;
+ghost use Rattle.link_frames.specs.declared.note.Note.TheVariants as note;
+
+use super::{Ivs, Phase, Stage};
+use callback::Rest;
+use link_frames::{DialAttempt, End, Frame, Items, Note, Request, Timer, Why, items_of};
+use msd_fit::make;
+use redial::{MOST_ATTEMPTS, WINDOW};
+
+impl Ivs {
+    ghost use Rattle.std.specs.Prelude.{ℕ, true, [], ◌∷◌, ◌++◌, ◌<◌, ◌+◌, min, length, if◌then◌else◌, List};
+    ghost use Rattle.audio_switch.specs.Switch.{unmuted};
+    ghost use Rattle.link_frames.specs.Requests.{RequestsStandFor};
+    ghost use Rattle.link_frames.specs.declared.frame.Frame.TheVariants as frame;
+    ghost use Rattle.link_frames.specs.declared.note.Timer.TheVariants as timer;
+    ghost use Rattle.link_frames.specs.declared.note.Why.TheVariants as why;
+    ghost use Rattle.msd_fit.specs.Fitting.{made};
+    ghost use Rattle.ivs_machine.specs.VehicleRows.{is_last};
+    ghost use Rattle.ivs_machine.specs.inner.Moves.{begun, fail_items, failed};
+
+    /// A dial series begins: the one item for it.
+    pub(super) fn begins(&mut self) -> Note
+        ensures item { result ≡ (if self.old.network then note.Dial 1 else note.Seeking) }
+        ensures new { self.new ≡ begun self.old }
+    {
+        self.series = 0;
+        if self.network {
+            self.phase = Phase::Dialling;
+            self.attempts = 1;
+            self.in_phase = 0;
+            Note::Dial(DialAttempt::first())
+        } else {
+            self.phase = Phase::Seeking;
+            self.attempts = 0;
+            Note::Seeking
+        }
+    }
+
+    /// The next attempt of the series.
+    pub(super) fn dials(&mut self) -> Note
+        ensures item { self.old.attempts < 10 → result ≡ note.Dial (self.old.attempts + 1) }
+        ensures new { self.new ≡ record self.old {
+          phase = Phase.Dialling;
+          attempts = min (self.old.attempts + 1) 255;
+          in_phase = 0;
+        } }
+    {
+        self.phase = Phase::Dialling;
+        self.attempts = self.attempts.saturating_add(1);
+        self.in_phase = 0;
+        Note::Dial(self.dialled())
+    }
+
+    /// The attempt of the series that was made last.
+    pub(super) fn dialled(&self) -> DialAttempt
+        ensures { 0 < self.now.attempts → self.now.attempts ≤ 10 → result ≡ self.now.attempts }
+    {
+        DialAttempt::new(self.attempts).unwrap_or(DialAttempt::first())
+    }
+
+    /// The standby begins.
+    pub(super) fn rests(&mut self) -> Note
+        ensures item { result ≡ note.Standby }
+        ensures new { self.new ≡ record self.old { phase = Phase.Standby; standby = 0 } }
+    {
+        self.phase = Phase::Standby;
+        self.standby = Rest::enter();
+        Note::Standby
+    }
+
+    /// The window of the series is over.
+    pub(super) fn gives_up(&mut self) -> Items
+        ensures items { result.items ≡ note.Ended «end».Vehicle 0 timer.TW ∷ note.GaveUp ∷ note.Standby ∷ [] }
+        ensures new { self.new ≡ record self.old { phase = Phase.Standby; standby = 0 } }
+    {
+        items_of(&[ended(Timer::TW), Note::GaveUp, self.rests()])
+    }
+
+    /// Whether no further attempt follows.
+    pub(super) fn is_last(&self) -> bool
+        ensures { result ≡ is_last self.now.attempts self.now.series }
+    {
+        self.attempts == MOST_ATTEMPTS || self.series >= WINDOW
+    }
+
+    /// An attempt to dial failed. Items are those before, and then what follows.
+    pub(super) fn fails(&mut self, before: &[Note]) -> Items
+        requires { length before.now ≤ 4 }
+        ensures items { 0 < self.old.attempts → self.old.attempts ≤ 10 →
+            result.items ≡ before.now ++ fail_items self.old }
+        ensures failed { self.new ≡ failed self.old }
+    {
+        let mut items = items_of(before);
+        items.push(Note::Failed(self.dialled()));
+        if self.is_last() {
+            items.push(Note::GaveUp);
+            items.push(self.rests());
+        } else {
+            self.phase = Phase::Pausing;
+            self.in_phase = 0;
+        }
+        items
+    }
+
+    /// A stage of the call begins, with the voice as it is.
+    pub(super) fn enters(&mut self, stage: Stage)
+        ensures { self.new ≡ record self.old { phase = Phase.InCall stage; in_phase = 0 } }
+    {
+        self.phase = Phase::InCall(stage);
+        self.in_phase = 0;
+    }
+
+    /// Opens a muted voice: the people on both ends talk.
+    pub(super) fn opens(&mut self) -> Note
+        ensures item { result ≡ note.Voice «end».Vehicle self.old.call true true }
+        ensures new { self.new ≡ record self.old {
+          phase = Phase.InCall Stage.Talking;
+          in_phase = 0;
+          voice = self.new.voice;
+        } }
+        ensures voice { self.new.voice ≡ record self.old.voice { stretch = unmuted self.old.voice.stretch } }
+    {
+        self.voice.unmute();
+        self.enters(Stage::Talking);
+        self.voices(true)
+    }
+
+    /// A wait for data ends, and the voice opens; it may settle the call.
+    pub(super) fn times_out(&mut self, timer: Timer, settles: bool) -> Items
+        ensures items { result.items ≡ note.Ended «end».Vehicle self.old.call timer
+            ∷ note.Voice «end».Vehicle self.old.call true true ∷ [] }
+        ensures new { self.new ≡ record self.old {
+          phase = Phase.InCall Stage.Talking;
+          in_phase = 0;
+          voice = self.new.voice;
+          marked = self.new.marked;
+        } }
+        ensures voice { self.new.voice ≡ record self.old.voice { stretch = unmuted self.old.voice.stretch } }
+        ensures marked { self.new.marked ≡ (if settles then true else self.old.marked) }
+    {
+        if settles {
+            self.marked = true;
+        }
+        let ended = self.ends(timer);
+        let opening = self.opens();
+        items_of(&[ended, opening])
+    }
+
+    /// Obeys a request: its set is made once, and sent.
+    pub(super) fn takes(&mut self, request: Request) -> Note
+        ensures sent { result ≡ note.Send «end».Vehicle self.old.call
+            (frame.Content request 0 (made self.old.facts self.old.cause (min (self.old.sets + 1) 255))) }
+        ensures new { self.new ≡ record self.old {
+          phase = Phase.InCall (Stage.Sending request);
+          in_phase = 0;
+          sets = min (self.old.sets + 1) 255;
+          attempt = 0;
+          served = request;
+          octets = made self.old.facts self.old.cause (min (self.old.sets + 1) 255);
+        } }
+    {
+        self.sets = self.sets.saturating_add(1);
+        let octets = make(&self.facts, self.cause, self.sets);
+        self.octets = octets;
+        self.served = request.number();
+        self.attempt = 0;
+        self.enters(Stage::Sending(request));
+        self.sends(Frame::Content {
+            request,
+            attempt: 0,
+            octets,
+        })
+    }
+
+    /// The next attempt to send the set made last.
+    pub(super) fn sends_again(&mut self, request: Request) -> Note
+        ensures sent { result ≡ note.Send «end».Vehicle self.old.call
+            (frame.Content request (min (self.old.attempt + 1) 255) self.old.octets) }
+        ensures new { self.new ≡ record self.old { attempt = min (self.old.attempt + 1) 255 } }
+    {
+        self.attempt = self.attempt.saturating_add(1);
+        let octets = self.octets;
+        self.sends(Frame::Content {
+            request,
+            attempt: self.attempt,
+            octets,
+        })
+    }
+
+    /// Counts the acknowledgement of a request.
+    pub(super) fn counts_as(&mut self, request: Request) -> Note
+        ensures item { result ≡ note.Acked self.old.call request self.old.octets }
+        ensures new { self.new ≡ record self.old { counted = self.new.counted; counts = true } }
+        ensures counted { (rs : List ℕ) → RequestsStandFor self.old.counted rs →
+            RequestsStandFor self.new.counted (request ∷ rs) }
+    {
+        self.counted.add(request);
+        self.counts = true;
+        Note::Acked {
+            call: self.call,
+            request,
+            octets: self.octets,
+        }
+    }
+
+    /// The point lets the vehicle go.
+    pub(super) fn is_released(&mut self) -> Items
+        ensures items { result.items ≡ note.Down «end».Vehicle self.old.call why.Release ∷ note.Standby ∷ [] }
+        ensures new { self.new ≡ record self.old { phase = Phase.Standby; standby = 0 } }
+    {
+        let down = self.goes_down(Why::Release);
+        items_of(&[down, self.rests()])
+    }
+
+    // The items of a call.
+
+    pub(super) fn up(&self) -> Note
+        ensures { result ≡ note.Up «end».Vehicle self.now.call }
+    {
+        Note::Up {
+            end: End::Vehicle,
+            call: self.call,
+        }
+    }
+
+    pub(super) fn goes_down(&self, why: Why) -> Note
+        ensures { result ≡ note.Down «end».Vehicle self.now.call why }
+    {
+        Note::Down {
+            end: End::Vehicle,
+            call: self.call,
+            why,
+        }
+    }
+
+    pub(super) fn sends(&self, frame: Frame) -> Note
+        ensures { result ≡ note.Send «end».Vehicle self.now.call frame }
+    {
+        Note::Send {
+            end: End::Vehicle,
+            call: self.call,
+            frame,
+        }
+    }
+
+    pub(super) fn ends(&self, timer: Timer) -> Note
+        ensures { result ≡ note.Ended «end».Vehicle self.now.call timer }
+    {
+        Note::Ended {
+            end: End::Vehicle,
+            call: self.call,
+            timer,
+        }
+    }
+
+    /// Both directions are opened, or both muted.
+    pub(super) fn voices(&self, opened: bool) -> Note
+        ensures { result ≡ note.Voice «end».Vehicle self.now.call opened opened }
+    {
+        Note::Voice {
+            end: End::Vehicle,
+            call: self.call,
+            up: opened,
+            down: opened,
+        }
+    }
+}
+
+/// The item for the end of a timer outside a call.
+pub(super) fn ended(timer: Timer) -> Note
+    ensures { result ≡ note.Ended «end».Vehicle 0 timer }
+{
+    Note::Ended {
+        end: End::Vehicle,
+        call: 0,
+        timer,
+    }
+}

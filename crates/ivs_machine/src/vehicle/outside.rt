@@ -1,0 +1,216 @@
+//! What the vehicle does at events outside a call, and as a call comes up. After EN 16072.
+ghost use Rattle.std.specs.Prelude.{◌≡◌};
+ghost use Rattle.link_frames.specs.declared.note.Note.TheVariants as note;
+
+use super::{Ivs, Left, MOST_MUTED, Phase, Stage};
+use audio_switch::Switch;
+use callback::LONGEST_STANDBY;
+use link_frames::{Frame, Items, Note, Requests, Why, items_of};
+use msd_fit::Cause;
+
+impl Ivs {
+    ghost use Rattle.std.specs.Prelude.{true, false, [], ◌∷◌, if◌then◌else◌};
+    ghost use Rattle.link_frames.specs.Does.{Does};
+    ghost use Rattle.link_frames.specs.Requests.{RequestsStandFor};
+    ghost use Rattle.ivs_machine.specs.VehicleRows as rows;
+    ghost use Rattle.ivs_machine.specs.VehicleRows.{vehicle_row};
+    ghost use Rattle.ivs_machine.specs.IvsStands.{IvsIs, IvsStandsFor};
+    ghost use Rattle.ivs_machine.specs.inner.Moves.{begun};
+
+    /// A trigger.
+    pub(super) fn trigger(&mut self, cause: Cause) -> Items
+        ensures { Does IvsStandsFor IvsIs self.old self.new result.items (λ v. vehicle_row v (rows.Trigger cause)) }
+    {
+        match cause {
+            Cause::Auto => self.triggered_by_sensor(),
+            Cause::Manual => self.triggered_by_person(),
+            Cause::Test => self.triggered_by_test(),
+        }
+    }
+
+    /// A sensor's trigger begins a series, also in the cancel period of a manual one.
+    fn triggered_by_sensor(&mut self) -> Items
+        ensures { Does IvsStandsFor IvsIs self.old self.new result.items (λ v. vehicle_row v (rows.Trigger Cause.Auto)) }
+    {
+        match self.phase {
+            Phase::Idle | Phase::Standby | Phase::Arming(_) => self.begins_for(Cause::Auto),
+            _ => items_of(&[Note::Nothing]),
+        }
+    }
+
+    /// A person's trigger begins the cancel period.
+    fn triggered_by_person(&mut self) -> Items
+        ensures { Does IvsStandsFor IvsIs self.old self.new result.items (λ v. vehicle_row v (rows.Trigger Cause.Manual)) }
+    {
+        match self.phase {
+            Phase::Idle => self.arms(Left::Idle),
+            Phase::Standby => self.arms(Left::Standby),
+            _ => items_of(&[Note::Nothing]),
+        }
+    }
+
+    /// A test call's trigger begins a series.
+    fn triggered_by_test(&mut self) -> Items
+        ensures { Does IvsStandsFor IvsIs self.old self.new result.items (λ v. vehicle_row v (rows.Trigger Cause.Test)) }
+    {
+        match self.phase {
+            Phase::Idle | Phase::Standby => self.begins_for(Cause::Test),
+            _ => items_of(&[Note::Nothing]),
+        }
+    }
+
+    /// A dial series begins for this cause.
+    fn begins_for(&mut self, cause: Cause) -> Items
+        ensures items { result.items ≡ (if self.old.network then note.Dial 1 else note.Seeking) ∷ [] }
+        ensures begun { self.new ≡ begun (record self.old { cause = cause; sets = 0 }) }
+    {
+        self.cause = cause;
+        self.sets = 0;
+        items_of(&[self.begins()])
+    }
+
+    /// The cancel period of a manual trigger begins.
+    fn arms(&mut self, before: Left) -> Items
+        ensures items { result.items ≡ note.Arming ∷ [] }
+        ensures armed { self.new ≡ record self.old { phase = Phase.Arming before; in_phase = 0 } }
+    {
+        self.phase = Phase::Arming(before);
+        self.in_phase = 0;
+        items_of(&[Note::Arming])
+    }
+
+    /// A manual trigger is taken back.
+    pub(super) fn cancel(&mut self) -> Items
+        ensures { Does IvsStandsFor IvsIs self.old self.new result.items (λ v. vehicle_row v rows.Cancel) }
+    {
+        match self.phase {
+            Phase::Arming(Left::Idle) => {
+                self.phase = Phase::Idle;
+                items_of(&[Note::Cancelled])
+            }
+            Phase::Arming(Left::Standby) => {
+                if self.standby.elapsed() == LONGEST_STANDBY {
+                    self.phase = Phase::Idle;
+                    items_of(&[Note::Cancelled, Note::Idle])
+                } else {
+                    self.phase = Phase::Standby;
+                    items_of(&[Note::Cancelled])
+                }
+            }
+            _ => items_of(&[Note::Nothing]),
+        }
+    }
+
+    /// The network is gone.
+    pub(super) fn net_down(&mut self) -> Items
+        ensures { Does IvsStandsFor IvsIs self.old self.new result.items (λ v. vehicle_row v (rows.Net false)) }
+    {
+        if !self.network {
+            return items_of(&[Note::Nothing]);
+        }
+        self.network = false;
+        match self.phase {
+            Phase::Dialling => self.fails(&[Note::Net(false)]),
+            Phase::InCall(_) => {
+                let down = self.goes_down(Why::Lost);
+                items_of(&[Note::Net(false), down, self.begins()])
+            }
+            Phase::Idle | Phase::Standby | Phase::Arming(_) | Phase::Pausing | Phase::Seeking => {
+                items_of(&[Note::Net(false)])
+            }
+        }
+    }
+
+    /// The network is there.
+    pub(super) fn net_up(&mut self) -> Items
+        ensures { Does IvsStandsFor IvsIs self.old self.new result.items (λ v. vehicle_row v (rows.Net true)) }
+    {
+        if self.network {
+            return items_of(&[Note::Nothing]);
+        }
+        self.network = true;
+        match self.phase {
+            Phase::Seeking => {
+                let dial = self.dials();
+                items_of(&[Note::Net(true), dial])
+            }
+            _ => items_of(&[Note::Net(true)]),
+        }
+    }
+
+    /// The point took the call that is dialled.
+    pub(super) fn answered(&mut self, call: u32) -> Items
+        ensures { Does IvsStandsFor IvsIs self.old self.new result.items (λ v. vehicle_row v (rows.Answered call)) }
+    {
+        match self.phase {
+            Phase::Dialling => {
+                self.enters_call(call, Stage::Initiating, Switch::muted(MOST_MUTED), false);
+                items_of(&[self.up(), self.voices(false), self.sends(Frame::Init)])
+            }
+            _ => items_of(&[Note::Nothing]),
+        }
+    }
+
+    /// The point calls.
+    pub(super) fn incoming(&mut self, call: u32) -> Items
+        ensures { Does IvsStandsFor IvsIs self.old self.new result.items (λ v. vehicle_row v (rows.Incoming call)) }
+    {
+        match self.phase {
+            Phase::Standby if self.network => {
+                self.enters_call(call, Stage::Talking, Switch::opened(MOST_MUTED), true);
+                items_of(&[self.up(), self.voices(true)])
+            }
+            _ => items_of(&[Note::Nothing]),
+        }
+    }
+
+    /// A call of this number is up, and nothing was made, counted or sent in it.
+    fn enters_call(&mut self, call: u32, stage: Stage, voice: Switch, marked: bool)
+        ensures entered { self.new ≡ record self.old {
+          phase = Phase.InCall stage;
+          in_phase = 0;
+          call = call;
+          attempt = 0;
+          in_call = 0;
+          voice = voice;
+          marked = marked;
+          served = 0;
+          counted = self.new.counted;
+          counts = false;
+        } }
+        ensures counted { RequestsStandFor self.new.counted [] }
+    {
+        self.enters(stage);
+        self.call = call;
+        self.attempt = 0;
+        self.in_call = 0;
+        self.voice = voice;
+        self.marked = marked;
+        self.served = 0;
+        self.counted = Requests::none();
+        self.counts = false;
+    }
+
+    /// An attempt to dial failed.
+    pub(super) fn failed(&mut self) -> Items
+        ensures { Does IvsStandsFor IvsIs self.old self.new result.items (λ v. vehicle_row v rows.Failed) }
+    {
+        match self.phase {
+            Phase::Dialling => self.fails(&[]),
+            _ => items_of(&[Note::Nothing]),
+        }
+    }
+
+    /// The vehicle leaves its standby, where that lasted long enough.
+    pub(super) fn sleep(&mut self) -> Items
+        ensures { Does IvsStandsFor IvsIs self.old self.new result.items (λ v. vehicle_row v rows.Sleep) }
+    {
+        match self.phase {
+            Phase::Standby if self.standby.may_sleep() => {
+                self.phase = Phase::Idle;
+                items_of(&[Note::Idle])
+            }
+            _ => items_of(&[Note::Nothing]),
+        }
+    }
+}

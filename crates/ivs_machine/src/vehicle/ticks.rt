@@ -1,0 +1,218 @@
+//! What the vehicle does as ticks pass. After EN 16062 and EN 16072.
+ghost use Rattle.std.specs.Prelude.{◌≡◌};
+
+use super::moves::ended;
+use super::{
+    CANCEL_PERIOD, INITIATES_EVERY, INITIATION, Ivs, LONGEST_AWAITING, LONGEST_CALL,
+    LONGEST_CONFIRMING, LONGEST_SENDING, Left, MOST_MUTED, Phase, SENDS_EVERY, Stage,
+};
+use callback::LONGEST_STANDBY;
+use link_frames::{Frame, Items, Note, Request, Timer, Why, items_of};
+use msd_fit::Cause;
+use redial::{LONGEST_ATTEMPT, PAUSE, WINDOW};
+
+impl Ivs {
+    ghost use Rattle.std.specs.Prelude.{◌<◌};
+    ghost use Rattle.audio_switch.specs.Switch.{muted_ticks};
+    ghost use Rattle.link_frames.specs.Does.{Does};
+    ghost use Rattle.ivs_machine.specs.Vehicle.{Vehicle};
+    ghost use Rattle.ivs_machine.specs.VehicleRows.{acts, due_of};
+    ghost use Rattle.ivs_machine.specs.IvsStands.{IvsIs, IvsIsDue, IvsStandsFor, ivs_aged};
+    ghost use Rattle.ivs_machine.specs.inner.Moves.{stage_left};
+
+    /// The least ticks that a timer or a repeat of the phase has left.
+    pub(super) fn ticks_left(&self) -> Option<u32>
+        ensures { (v : Vehicle) → IvsStandsFor self.now v → result ≡ due_of v }
+    {
+        match self.phase {
+            Phase::Idle => None,
+            Phase::Standby => Some(LONGEST_STANDBY.saturating_sub(self.standby.elapsed())),
+            Phase::Arming(_) => Some(CANCEL_PERIOD.saturating_sub(self.in_phase)),
+            Phase::Dialling => Some(LONGEST_ATTEMPT.saturating_sub(self.in_phase)),
+            Phase::Pausing => {
+                let window = WINDOW.saturating_sub(self.series);
+                Some(window.min(PAUSE.saturating_sub(self.in_phase)))
+            }
+            Phase::Seeking => Some(WINDOW.saturating_sub(self.series)),
+            Phase::InCall(stage) => {
+                let call = LONGEST_CALL.saturating_sub(self.in_call);
+                Some(call.min(self.left_in(stage)))
+            }
+        }
+    }
+
+    /// The least ticks that a timer or a repeat of this stage has left.
+    fn left_in(&self, stage: Stage) -> u32
+        ensures { result ≡ stage_left self.now stage }
+    {
+        let muted = MOST_MUTED.saturating_sub(self.voice.muted_for());
+        let ticks = self.in_phase;
+        match stage {
+            Stage::Initiating => {
+                let repeat = INITIATES_EVERY - ticks % INITIATES_EVERY;
+                muted.min(INITIATION.saturating_sub(ticks)).min(repeat)
+            }
+            Stage::Awaiting => muted.min(LONGEST_AWAITING.saturating_sub(ticks)),
+            Stage::Sending(_) => {
+                let repeat = SENDS_EVERY - ticks % SENDS_EVERY;
+                muted.min(LONGEST_SENDING.saturating_sub(ticks)).min(repeat)
+            }
+            Stage::Confirming(_) => muted.min(LONGEST_CONFIRMING.saturating_sub(ticks)),
+            Stage::Talking => u32::MAX,
+        }
+    }
+
+    /// Each sum that runs, `n` ticks later; a voice is muted for at most its limit.
+    pub(super) fn age(&mut self, n: u32)
+        ensures { self.new ≡ ivs_aged n self.old self.old.phase }
+    {
+        match self.phase {
+            Phase::Idle => {}
+            Phase::Standby => {
+                let _ended = self.standby.pass(n);
+            }
+            Phase::Arming(Left::Idle) => {
+                self.in_phase = self.in_phase.saturating_add(n);
+            }
+            Phase::Arming(Left::Standby) => {
+                self.in_phase = self.in_phase.saturating_add(n);
+                let _ended = self.standby.pass(n);
+            }
+            Phase::Dialling | Phase::Pausing => {
+                self.in_phase = self.in_phase.saturating_add(n);
+                self.series = self.series.saturating_add(n);
+            }
+            Phase::Seeking => {
+                self.series = self.series.saturating_add(n);
+            }
+            Phase::InCall(_) => {
+                self.in_call = self.in_call.saturating_add(n);
+                self.in_phase = self.in_phase.saturating_add(n);
+                let room = self.voice.room().unwrap_or(n);
+                self.voice.pass(n.min(room));
+            }
+        }
+    }
+
+    /// What the timers and repeats do that have no ticks left.
+    pub(super) fn acts(&mut self) -> Items
+        ensures { Does IvsIsDue IvsIs self.old self.new result.items acts }
+    {
+        match self.phase {
+            Phase::Idle => Items::new(),
+            Phase::Standby => {
+                if self.standby.elapsed() >= LONGEST_STANDBY {
+                    self.phase = Phase::Idle;
+                    items_of(&[ended(Timer::T10), Note::Idle])
+                } else {
+                    Items::new()
+                }
+            }
+            Phase::Arming(_) => {
+                if self.in_phase >= CANCEL_PERIOD {
+                    self.cause = Cause::Manual;
+                    self.sets = 0;
+                    items_of(&[ended(Timer::T1), self.begins()])
+                } else {
+                    Items::new()
+                }
+            }
+            Phase::Dialling => {
+                if self.in_phase >= LONGEST_ATTEMPT {
+                    self.fails(&[ended(Timer::TD)])
+                } else {
+                    Items::new()
+                }
+            }
+            Phase::Pausing => self.acts_pausing(),
+            Phase::Seeking => {
+                if self.series >= WINDOW {
+                    self.gives_up()
+                } else {
+                    Items::new()
+                }
+            }
+            Phase::InCall(stage) => self.acts_in_call(stage),
+        }
+    }
+
+    /// The end of the series, or of the pause.
+    fn acts_pausing(&mut self) -> Items
+        requires { self.old.phase ≡ Phase.Pausing }
+        ensures { Does IvsIsDue IvsIs self.old self.new result.items acts }
+    {
+        if self.series >= WINDOW {
+            self.gives_up()
+        } else if self.in_phase >= PAUSE {
+            if self.network {
+                let dial = self.dials();
+                items_of(&[dial])
+            } else {
+                self.phase = Phase::Seeking;
+                items_of(&[Note::Seeking])
+            }
+        } else {
+            Items::new()
+        }
+    }
+
+    /// The timers and repeats of a call, by rank.
+    fn acts_in_call(&mut self, stage: Stage) -> Items
+        requires { self.old.phase ≡ Phase.InCall stage }
+        ensures { Does IvsIsDue IvsIs self.old self.new result.items acts }
+    {
+        if self.in_call >= LONGEST_CALL {
+            let ended = self.ends(Timer::T2);
+            let down = self.goes_down(Why::Release);
+            return items_of(&[ended, down, self.rests()]);
+        }
+        if self.voice.muted_for() >= MOST_MUTED {
+            return self.times_out(Timer::Sum, true);
+        }
+        match stage {
+            Stage::Initiating => self.acts_initiating(),
+            Stage::Awaiting if self.in_phase >= LONGEST_AWAITING => {
+                self.times_out(Timer::T5, true)
+            }
+            Stage::Sending(request) => self.acts_sending(request),
+            Stage::Confirming(_) if self.in_phase >= LONGEST_CONFIRMING => {
+                self.times_out(Timer::T6, false)
+            }
+            Stage::Awaiting | Stage::Confirming(_) | Stage::Talking => Items::new(),
+        }
+    }
+
+    /// The end of the initiation, or its repeat.
+    fn acts_initiating(&mut self) -> Items
+        requires phase { self.old.phase ≡ Phase.InCall Stage.Initiating }
+        requires call { self.old.in_call < LONGEST_CALL }
+        requires sum { muted_ticks self.old.voice.stretch < MOST_MUTED }
+        ensures { Does IvsIsDue IvsIs self.old self.new result.items acts }
+    {
+        if self.in_phase >= INITIATION {
+            self.enters(Stage::Awaiting);
+            items_of(&[self.ends(Timer::T3)])
+        } else if self.in_phase.is_multiple_of(INITIATES_EVERY) {
+            items_of(&[self.sends(Frame::Init)])
+        } else {
+            Items::new()
+        }
+    }
+
+    /// The end of sending a set, or the next attempt.
+    fn acts_sending(&mut self, request: Request) -> Items
+        requires phase { self.old.phase ≡ Phase.InCall (Stage.Sending request) }
+        requires call { self.old.in_call < LONGEST_CALL }
+        requires sum { muted_ticks self.old.voice.stretch < MOST_MUTED }
+        ensures { Does IvsIsDue IvsIs self.old self.new result.items acts }
+    {
+        if self.in_phase >= LONGEST_SENDING {
+            self.times_out(Timer::T7, true)
+        } else if self.in_phase.is_multiple_of(SENDS_EVERY) {
+            let again = self.sends_again(request);
+            items_of(&[again])
+        } else {
+            Items::new()
+        }
+    }
+}

@@ -1,0 +1,6 @@
+use Rattle.psap_machine.proofs.Hears.{pass_stands}
+use Rattle.psap_machine.proofs.session.Session.pass.Goals as goal
+
+pub returns-clause-ticks : goal.returns-clause-ticks
+returns-clause-ticks g c =
+    pass_stands c.args.n c.args.self.now _ _ c.requires.least c.requires.due (rw c.age.ensures at c.acts.ensures)
