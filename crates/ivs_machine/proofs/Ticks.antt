@@ -5,6 +5,7 @@ use Rattle.std.specs.List.{AllByRecursion}
 use Rattle.std.proofs.lemmas.Bool.Decides.{nat_tests}
 use Rattle.link_frames.specs.declared.note.Note.{Note}
 use Rattle.link_frames.specs.Ranks.{behind, Deadline, first_of, soonest, least_left}
+use Rattle.link_frames.proofs.RanksLemmas.{EachLeaves, due_leaves, none_acts, due_at_least}
 use Rattle.link_frames.specs.Row.{Row, silent}
 use Rattle.ivs_machine.specs.Vehicle.{Vehicle, Phase, Idle, Standby, Arming, Dialling, Pausing, Seeking, InCall, LeftIdle, LeftStandby, Initiating, Awaiting, Sending, Confirming, Talking}
 use Rattle.ivs_machine.specs.VehicleKept.{IsKept, IsKeptBy}
@@ -12,32 +13,9 @@ use Rattle.ivs_machine.specs.VehicleRows.{deadlines, aged, acts, unit_row, units
 use Rattle.ivs_machine.specs.declared.vehicle.Ivs.{Ivs}
 use Rattle.ivs_machine.specs.IvsStands.{IvsIs, ivs_aged}
 
--- each has at least n ticks left
-abbrev pub EachLeaves : {A : Type 0} → ℕ → List (Deadline A) → Type 0
-EachLeaves n ds = AllByRecursion (λ d. n ≤ d.left) ds
-
 -- what each line of a vehicle leaves
 abbrev pub Leaves : ℕ → Vehicle → Type 0
 Leaves n v = EachLeaves n (deadlines v v.phase)
-
-least_leaves : {A : Type 0} (n k : ℕ) (ds : List (Deadline A)) → n ≤ least_left k ds → (n ≤ k) × EachLeaves n ds
-least_leaves n k [] h = (h, tt)
-least_leaves n k (d ∷ ds) h =
-    let below : n ≤ least_left d.left ds = omega arith in (omega arith, least_leaves n d.left ds below)
-
--- up to what is due each line leaves one tick less
-pub due_leaves : {A : Type 0} (n : ℕ) (ds : List (Deadline A))
-    → IfSome (soonest ds) (λ due. suc n ≤ due)
-    → EachLeaves n ds
-due_leaves n [] h = tt
-due_leaves n (d ∷ ds) h = let below : n ≤ least_left d.left ds = omega (arith, h) in least_leaves n d.left ds below
-
--- nothing acts while each line has a tick left
-none_acts : {A : Type 0} (n : ℕ) (none : A) (ds : List (Deadline A)) → EachLeaves (suc n) ds → first_of none ds ≡ none
-none_acts n none [] h = refl
-none_acts n none (d ∷ ds) h =
-    let some : nat_eq d.left 0 ≡ false = (let least : suc n ≤ d.left = h.0 in grind (arith, nat_tests)) in
-    rw some (none_acts n none ds h.1)
 
 quiet_tick : (n : ℕ) (v : Vehicle) → Leaves (suc n) (aged 1 v) → unit_row v ≡ silent (aged 1 v)
 quiet_tick n v h = none_acts n (silent (aged 1 v)) (deadlines (aged 1 v) (aged 1 v).phase) h
@@ -127,10 +105,6 @@ due_in v (InCall Awaiting) h due e = due_awaiting v h due e
 due_in v (InCall (Sending r)) h due e = due_sending v r h due e
 due_in v (InCall (Confirming r)) h due e = due_confirming v r h due e
 due_in v (InCall Talking) h due e = due_talking v h due e
-
-due_at_least : {A : Type 0} (ds : List (Deadline A)) (due : ℕ) → soonest ds ≡ Some due → 1 ≤ due
-due_at_least [] due e = cc
-due_at_least (d ∷ ds) due e = let same : least_left d.left ds + 1 ≡ due = cc in omega arith
 
 least_in : (o : Option ℕ) (v : Vehicle) → IsKept v → due_of v ≡ o → IsLeastDue o v
 least_in None v h e = λ n.

@@ -1,6 +1,6 @@
--- Which states of the in-vehicle system an `Ivs` stands for: one equation for all that the code determines, one relation
--- for each thing that it only stands for, and what every such state keeps. This project's profile. Cited by the
--- contracts of `Ivs`, and by what stands on it.
+-- Which states of the in-vehicle system an `Ivs` stands for: one equation for all that the code determines, one
+-- relation for each thing that it only stands for, and what every such state keeps. This project's profile. Cited by
+-- the contracts of `Ivs`, and by what stands on it.
 use Rattle.std.specs.Prelude.{◌≡◌, ℕ, List, [], ◌∷◌, min, ◌+◌, ◌-◌, ◌^◌}
 use Rattle.audio_switch.specs.Switch.{Switching}
 use Rattle.audio_switch.specs.declared.switch.Stretch.{Stretch}

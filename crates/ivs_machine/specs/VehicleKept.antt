@@ -1,6 +1,6 @@
--- What the states of the in-vehicle system keep among themselves, as a predicate on the state: which sums and numbers go
--- with which phase, the bounds of its ticks, and which set was made last. This project's profile. Every row of the table
--- keeps it. Cited by what an `Ivs` stands for, and by the world's invariant.
+-- What the states of the in-vehicle system keep among themselves, as a predicate on the state: which sums and numbers
+-- go with which phase, the bounds of its ticks, and which set was made last. This project's profile. Every row of the
+-- table keeps it. Cited by what an `Ivs` stands for, and by the world's invariant.
 use Rattle.std.specs.Prelude.{ℕ, Bool, true, false, List, [], ◌∷◌, ◌≡◌, ◌≤◌, ◌<◌, ◌+◌}
 use Rattle.callback.specs.Rest.{longest_standby}
 use Rattle.link_frames.specs.Legs.{Kept, muting_limit}

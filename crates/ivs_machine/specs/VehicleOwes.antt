@@ -1,6 +1,6 @@
--- What each row of the in-vehicle system owes to the world: the vehicle as a seat in its call, and the rows of events, of
--- the unit tick and of a call that comes up. Proved of every row in `proofs/VehicleOwed`; the world's safety stands on
--- it. This project's profile.
+-- What each row of the in-vehicle system owes to the world: the vehicle as a seat in its call, and the rows of events,
+-- of the unit tick and of a call that comes up. Proved of every row in `proofs/VehicleOwed`; the world's safety stands
+-- on it. This project's profile.
 use Rattle.std.specs.Prelude.{ℕ, Bool, true, false, List, [], ◌∷◌, Option, Some, None, ◌≡◌, ◌≤◌, length}
 use Rattle.link_frames.specs.declared.frame.End.TheVariants as «end»
 use Rattle.link_frames.specs.declared.frame.Frame.{Frame}

@@ -53,8 +53,8 @@ heard event.Hangup = Hangup
 heard event.Lost = Lost
 heard (event.Frame f) = Arrives (lent f)
 
--- The profile's numbers, in ticks of 100 ms. Those of a dial series and of a standby are those of the crates `redial` and
--- `callback`.
+-- The profile's numbers, in ticks of 100 ms. Those of a dial series and of a standby are those of the crates `redial`
+-- and `callback`.
 
 -- T1: in which a manual trigger may be cancelled
 abbrev pub cancel_period : ℕ

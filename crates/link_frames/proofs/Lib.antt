@@ -1,1 +1,2 @@
+pub mod RanksLemmas
 pub mod RequestsLemmas

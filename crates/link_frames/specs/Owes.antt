@@ -133,7 +133,13 @@ InTime e k = k.talks ≡ false → k.ticks < muting_limit e
 
 -- What a row owes of a leg that is up or down, where this frame came, if one did. `old` is the seat at which the row
 -- began, with the tick passed where the row is a unit tick.
-pub record Owes (e : End) (c : ℕ) (came : Option Frame) (old : Option Seat) (items : List Note) (new : Option Seat) : Type 0 where
+pub record Owes
+    (e : End)
+    (c : ℕ)
+    (came : Option Frame)
+    (old : Option Seat)
+    (items : List Note)
+    (new : Option Seat) : Type 0 where
   pub given : Along (MayGive e c came) e old items
   pub seat : new ≡ through (seat_moved e) old items
   pub in_time : IfSome new (InTime e)

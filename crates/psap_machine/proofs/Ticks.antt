@@ -1,11 +1,11 @@
 -- Unit ticks: n of them give what the lines give once n ticks have gone, where no line acts before.
-use Rattle.std.proofs.Common.{◌≡◌, ◌≤◌, ◌+◌, ℕ, false, zero, suc, List, [], ◌∷◌, Some, None, refl, sym, ap, arith, rules, ◌∙◌, IfSome}
+use Rattle.std.proofs.Common.{◌≡◌, ◌≤◌, ℕ, zero, suc, List, [], Some, None, refl, sym, ap, arith, rules, ◌∙◌, IfSome}
 use Rattle.std.specs.Prelude.{Option}
-use Rattle.std.specs.List.{AllByRecursion}
 use Rattle.std.proofs.lemmas.Bool.Decides.{nat_tests}
 use Rattle.link_frames.specs.declared.note.Note.{Note}
-use Rattle.std.proofs.Common.{append-nil, nat_eq, ◌≢◌}
-use Rattle.link_frames.specs.Ranks.{behind, Deadline, first_of, soonest, least_left}
+use Rattle.std.proofs.Common.{append-nil, ◌≢◌}
+use Rattle.link_frames.specs.Ranks.{behind}
+use Rattle.link_frames.proofs.RanksLemmas.{EachLeaves, due_leaves, none_acts, due_at_least}
 use Rattle.link_frames.specs.Row.{Row, silent}
 use Rattle.psap_machine.specs.Point.{Point, Phase, Listening, Asking, Telling, Talking, Clearing, Over}
 use Rattle.psap_machine.specs.PointKept.{IsKept, IsKeptBy}
@@ -14,32 +14,9 @@ use Rattle.psap_machine.specs.declared.session.Session.{Session}
 use Rattle.psap_machine.specs.SessionStands.{SessionIs}
 use Rattle.psap_machine.specs.inner.Ageing.{aged_in}
 
--- each has at least n ticks left
-abbrev pub EachLeaves : {A : Type 0} → ℕ → List (Deadline A) → Type 0
-EachLeaves n ds = AllByRecursion (λ d. n ≤ d.left) ds
-
 -- what a session of so many ticks leaves
 abbrev pub Leaves : ℕ → Point → Type 0
 Leaves n s = EachLeaves n (deadlines s s.phase)
-
-least_leaves : {A : Type 0} (n k : ℕ) (ds : List (Deadline A)) → n ≤ least_left k ds → (n ≤ k) × EachLeaves n ds
-least_leaves n k [] h = (h, tt)
-least_leaves n k (d ∷ ds) h =
-    let below : n ≤ least_left d.left ds = omega arith in (omega arith, least_leaves n d.left ds below)
-
--- up to what is due each line leaves one tick less
-pub due_leaves : {A : Type 0} (n : ℕ) (ds : List (Deadline A))
-    → IfSome (soonest ds) (λ due. suc n ≤ due)
-    → EachLeaves n ds
-due_leaves n [] h = tt
-due_leaves n (d ∷ ds) h = let below : n ≤ least_left d.left ds = omega (arith, h) in least_leaves n d.left ds below
-
--- nothing acts while each line has a tick left
-none_acts : {A : Type 0} (n : ℕ) (none : A) (ds : List (Deadline A)) → EachLeaves (suc n) ds → first_of none ds ≡ none
-none_acts n none [] h = refl
-none_acts n none (d ∷ ds) h =
-    let some : nat_eq d.left 0 ≡ false = (let least : suc n ≤ d.left = h.0 in grind (arith, nat_tests)) in
-    rw some (none_acts n none ds h.1)
 
 quiet_tick : (n : ℕ) (s : Point) → Leaves (suc n) (aged 1 s) → unit_row s ≡ silent (aged 1 s)
 quiet_tick n s h = none_acts n (silent (aged 1 s)) (deadlines (aged 1 s) (aged 1 s).phase) h
@@ -132,10 +109,6 @@ due_acts_in s (Telling r) h due e = due_telling s r h due e
 due_acts_in s Talking h due e = cc
 due_acts_in s (Clearing r) h due e = due_clearing s r h due e
 due_acts_in s Over h due e = cc
-
-due_at_least : {A : Type 0} (ds : List (Deadline A)) (due : ℕ) → soonest ds ≡ Some due → 1 ≤ due
-due_at_least [] due e = cc
-due_at_least (d ∷ ds) due e = let same : least_left d.left ds + 1 ≡ due = cc in omega arith
 
 least_in : (o : Option ℕ) (s : Point) → IsKept s → due_of s ≡ o → IsLeastDue o s
 least_in None s h e = λ n.
