@@ -1,15 +1,17 @@
--- A buffer of octets whose bits behind a place are 0: one step of writing into an octet, and what it pads to.
-use Rattle.std.proofs.Common.{◌≡◌, ℕ, ◌+◌, ◌-◌, ◌*◌, ◌/◌, ◌%◌, ◌^◌, ◌<◌, ◌≤◌, zero, suc, Bool, false, List, [], ◌∷◌, ◌++◌, length, take, drop, get_or, set, replicate, min, bit_or, refl, ap, sym, ◌∙◌, arith}
-use Rattle.std.proofs.lemmas.List.{length-append, length-take, length-drop, length-replicate, take-append-drop, append_assoc, take-take, set_split, take_all, take-append-le, drop-append-le, take-replicate, drop-replicate, replicate-append-replicate, take_at}
+-- A buffer of octets whose bits behind a place are 0: one step of writing into a window of 64 bits, and what it pads to.
+use Rattle.std.proofs.Common.{◌≡◌, ℕ, ◌+◌, ◌-◌, ◌*◌, ◌/◌, ◌%◌, ◌^◌, ◌<◌, ◌≤◌, zero, suc, Bool, false, List, [], ◌∷◌, ◌++◌, length, take, drop, get_or, replicate, min, refl, ap, sym, subst, ◌∙◌, arith}
+use Rattle.std.proofs.lemmas.List.{length-append, length-take, length-drop, length-replicate, take-append-drop, append_assoc, take-take, take-append-le, drop-append-le, take-replicate, drop-replicate, replicate-append-replicate, drop-drop}
 use Rattle.std.proofs.lemmas.Grind.{flat_map-append}
-use Rattle.std.proofs.lemmas.Nat.{or_shifted, shl_below, pow-add, pow_pos, shr-shr, mod_below}
-use Rattle.std.proofs.Math.Nat.{mod-eq_of_lt}
+use Rattle.std.proofs.lemmas.Nat.{pow-add, pow_pos, mod_below}
+use Rattle.std.proofs.Math.Nat.{mod-eq_of_lt, pow-suc}
+use Rattle.std.specs.Int.{byte_at, bytes_high_first}
+use borrow.Rule.Slice.PartMut.{put_mid}
 use Rattle.std.proofs.Math.Seq.{take-add, take-append-add, drop-append-add}
 use Rattle.per_bits.specs.Bits.{digits, value_of, octet_bits, octets_of, padded}
 use Rattle.per_bits.specs.Parts.{AreOctets}
-use Rattle.per_bits.proofs.Digits.{length_digits, value_digits, digits_value, digits_append, digits_low, value_append}
+use Rattle.per_bits.proofs.Digits.{length_digits, value_below, value_digits, digits_value, digits_append, digits_low, value_append}
 use Rattle.per_bits.proofs.Octets.{are_octets, octets_of_bits}
-use Rattle.per_bits.proofs.Places.{length_prefix, octet_field, take_octets, drop_octets}
+use Rattle.per_bits.proofs.Places.{length_prefix, take_octets, drop_octets}
 
 pub zero_octet : digits 8 0 ≡ replicate 8 false
 unfolding digits
@@ -36,92 +38,123 @@ value_before_zeros bits n =
 joined : (a b c d : ℕ) → a * (b * c) + d * c ≡ (a * b + d) * c
 joined a b c d = omega arith
 
--- n bits more in an octet whose bits behind the first ones are 0
-octet_step : (bits : List Bool) (k n piece o : ℕ) → length bits ≡ k → k + n ≤ 8 → o < 256 → digits 8 o ≡ bits ++ replicate (8 - k) false → piece < 2 ^ n
-    → digits 8 (bit_or o (piece * 2 ^ (8 - k - n))) ≡ (bits ++ digits n piece) ++ replicate (8 - k - n) false
-octet_step bits k n piece o e fits small is below =
-    let o_is : o ≡ value_of bits * 2 ^ (8 - k) =
-    sym (value_digits 8 o ∙ mod-eq_of_lt small) ∙ ap value_of is ∙ value_before_zeros bits (8 - k) in
-    let room : piece * 2 ^ (8 - k - n) < 2 ^ (n + (8 - k - n)) = shl_below piece n (8 - k - n) below in
-    let far : n + (8 - k - n) ≡ 8 - k = omega arith in
-    let long : length ((bits ++ digits n piece) ++ replicate (8 - k - n) false) ≡ 8 =
-    length-append (bits ++ digits n piece) (replicate (8 - k - n) false)
-    ∙ omega (arith, length-append bits (digits n piece), length_digits n piece, length-replicate (8 - k - n) false) in
-    let value : bit_or o (piece * 2 ^ (8 - k - n)) ≡ value_of ((bits ++ digits n piece) ++ replicate (8 - k - n) false) =
-    ap (λ x. bit_or x (piece * 2 ^ (8 - k - n))) o_is
-    ∙ or_shifted (value_of bits) (8 - k) (piece * 2 ^ (8 - k - n)) (rw far at room)
-    ∙ ap (λ x. value_of bits * 2 ^ x + piece * 2 ^ (8 - k - n)) (sym far)
-    ∙ ap (λ x. value_of bits * x + piece * 2 ^ (8 - k - n)) (pow-add 2 n (8 - k - n))
-    ∙ joined (value_of bits) (2 ^ n) (2 ^ (8 - k - n)) piece
-    ∙ ap (λ x. x * 2 ^ (8 - k - n))
+window_long : (bits : List Bool) (k n piece : ℕ) → length bits ≡ k → k + n ≤ 64 → length ((bits ++ digits n piece) ++ replicate (64 - k - n) false) ≡ 64
+window_long bits k n piece e fits =
+    length-append (bits ++ digits n piece) (replicate (64 - k - n) false)
+    ∙ omega (arith, length-append bits (digits n piece), length_digits n piece, length-replicate (64 - k - n) false)
+
+-- n bits more in a window whose bits behind the first ones are 0
+window_with : (bits : List Bool) (k n piece w : ℕ) → length bits ≡ k → k + n ≤ 64 → w ≡ value_of (bits ++ replicate (64 - k) false) → piece < 2 ^ n
+    → w + piece * 2 ^ (64 - k - n) ≡ value_of ((bits ++ digits n piece) ++ replicate (64 - k - n) false)
+window_with bits k n piece w e fits is below =
+    let far : n + (64 - k - n) ≡ 64 - k = omega arith in
+    ap (λ x. x + piece * 2 ^ (64 - k - n)) (is ∙ value_before_zeros bits (64 - k))
+    ∙ ap (λ x. value_of bits * 2 ^ x + piece * 2 ^ (64 - k - n)) (sym far)
+    ∙ ap (λ x. value_of bits * x + piece * 2 ^ (64 - k - n)) (pow-add 2 n (64 - k - n))
+    ∙ joined (value_of bits) (2 ^ n) (2 ^ (64 - k - n)) piece
+    ∙ ap (λ x. x * 2 ^ (64 - k - n))
     (sym (value_append bits (digits n piece)
     ∙ ap (λ x. value_of bits * 2 ^ x + value_of (digits n piece)) (length_digits n piece)
     ∙ ap (λ x. value_of bits * 2 ^ n + x) (value_digits n piece ∙ mod-eq_of_lt below)))
-    ∙ sym (value_before_zeros (bits ++ digits n piece) (8 - k - n)) in
-    ap (digits 8) value ∙ ap (λ w. digits w (value_of ((bits ++ digits n piece) ++ replicate (8 - k - n) false))) (sym long)
-    ∙ digits_value ((bits ++ digits n piece) ++ replicate (8 - k - n) false)
+    ∙ sym (value_before_zeros (bits ++ digits n piece) (64 - k - n))
 
--- the octet at a place is the bits that stand in it, and zeros
-octet_there : (octets : List ℕ) (front : List Bool) (i k : ℕ) → octet_bits octets ≡ front ++ replicate (8 * length octets - length front) false
-    → length front ≡ 8 * i + k → k < 8 → i < length octets → digits 8 (get_or octets i 0) ≡ drop (8 * i) front ++ replicate (8 - k) false
-octet_there octets front i k is at below h =
-    let far : 8 ≡ length (drop (8 * i) front) + (8 - k) = omega (arith, length-drop (8 * i) front) in
-    sym (take_all 8 (digits 8 (get_or octets i 0)) (omega (arith, length_digits 8 (get_or octets i 0))))
-    ∙ sym (octet_field octets i 0 8 h (omega arith))
-    ∙ ap (λ n. take 8 (drop n (octet_bits octets))) (omega arith)
-    ∙ ap (λ l. take 8 (drop (8 * i) l)) is
-    ∙ ap (take 8) (drop-append-le (8 * i) front (replicate (8 * length octets - length front) false) (omega arith))
-    ∙ ap (λ n. take n (drop (8 * i) front ++ replicate (8 * length octets - length front) false)) far
-    ∙ take-append-add (drop (8 * i) front) (replicate (8 * length octets - length front) false) (8 - k)
-    ∙ ap (λ l. drop (8 * i) front ++ l) (take-replicate (8 - k) (8 * length octets - length front) false (omega arith))
+times_both : (a b c : ℕ) → a * b * c ≡ a * (b * c)
+times_both a b c = omega arith
 
--- an octet set, between those before it and those behind it
-octet_set : (octets : List ℕ) (i o : ℕ) → i < length octets → octet_bits (set octets i o) ≡ take (8 * i) (octet_bits octets) ++ (digits 8 o ++ drop (8 * suc i) (octet_bits octets))
-octet_set octets i o h =
-    ap octet_bits (set_split octets i o h)
-    ∙ flat_map-append (digits 8) (take i octets) (o ∷ drop (suc i) octets)
-    ∙ ap (λ l. l ++ (digits 8 o ++ octet_bits (drop (suc i) octets))) (sym (take_octets i octets))
-    ∙ ap (λ l. take (8 * i) (octet_bits octets) ++ (digits 8 o ++ l)) (sym (drop_octets (suc i) octets))
+-- a shift after a shift
+pub shifted_twice : (a j k : ℕ) → a * 2 ^ j * 2 ^ k ≡ a * 2 ^ (j + k)
+shifted_twice a j k = times_both a (2 ^ j) (2 ^ k) ∙ ap (λ p. a * p) (sym (pow-add 2 j k))
+
+-- the window at a place is the bits that stand in it, and zeros
+window_there : (bits front : List Bool) (size at k : ℕ) → bits ≡ front ++ replicate (size - length front) false → length front ≡ at + k → k ≤ 64 → at + 64 ≤ size
+    → take 64 (drop at bits) ≡ drop at front ++ replicate (64 - k) false
+window_there bits front size at k is place below h =
+    let far : 64 ≡ length (drop at front) + (64 - k) = omega (arith, length-drop at front) in
+    ap (λ l. take 64 (drop at l)) is
+    ∙ ap (take 64) (drop-append-le at front (replicate (size - length front) false) (omega arith))
+    ∙ ap (λ n. take n (drop at front ++ replicate (size - length front) false)) far
+    ∙ take-append-add (drop at front) (replicate (size - length front) false) (64 - k)
+    ∙ ap (λ l. drop at front ++ l) (take-replicate (64 - k) (size - length front) false (omega arith))
 
 -- the lists of a step, put together
 regroup : (a b c x y : List Bool) → a ++ (((b ++ c) ++ x) ++ y) ≡ ((a ++ b) ++ c) ++ (x ++ y)
 regroup a b c x y = simp append_assoc
 
-pub put_step : (octets : List ℕ) (front : List Bool) (i k n piece : ℕ) → octet_bits octets ≡ front ++ replicate (8 * length octets - length front) false
-    → length front ≡ 8 * i + k → k < 8 → i < length octets → get_or octets i 0 < 256 → k + n ≤ 8 → piece < 2 ^ n
-    → octet_bits (set octets i (bit_or (get_or octets i 0) (piece * 2 ^ (8 - k - n)))) ≡ (front ++ digits n piece) ++ replicate (8 * length octets - (length front + n)) false
-put_step octets front i k n piece is at below h small fits less =
-    let rest : drop (8 * suc i) (octet_bits octets) ≡ replicate (8 * length octets - length front - (8 - k)) false =
-    ap (drop (8 * suc i)) is
-    ∙ ap (λ m. drop m (front ++ replicate (8 * length octets - length front) false)) (omega arith)
-    ∙ drop-append-add front (replicate (8 * length octets - length front) false) (8 - k)
-    ∙ drop-replicate (8 - k) (8 * length octets - length front) false in
-    let before : take (8 * i) (octet_bits octets) ≡ take (8 * i) front =
-    ap (take (8 * i)) is ∙ take-append-le (8 * i) front (replicate (8 * length octets - length front) false) (omega arith) in
-    let here = octet_step (drop (8 * i) front) k n piece (get_or octets i 0) (length-drop (8 * i) front ∙ omega arith) fits small (octet_there octets front i k is at below h) less in
-    octet_set octets i (bit_or (get_or octets i 0) (piece * 2 ^ (8 - k - n))) h
-    ∙ ap (λ l. l ++ (digits 8 (bit_or (get_or octets i 0) (piece * 2 ^ (8 - k - n))) ++ drop (8 * suc i) (octet_bits octets))) before
-    ∙ ap (λ l. take (8 * i) front ++ (l ++ drop (8 * suc i) (octet_bits octets))) here
-    ∙ ap (λ l. take (8 * i) front ++ (((drop (8 * i) front ++ digits n piece) ++ replicate (8 - k - n) false) ++ l)) rest
-    ∙ regroup (take (8 * i) front) (drop (8 * i) front) (digits n piece) (replicate (8 - k - n) false) (replicate (8 * length octets - length front - (8 - k)) false)
-    ∙ ap (λ l. (l ++ digits n piece) ++ (replicate (8 - k - n) false ++ replicate (8 * length octets - length front - (8 - k)) false)) (take-append-drop (8 * i) front)
+-- a window with n bits more is a number of 64 bits
+pub put_value : (bits front : List Bool) (size at k n piece w : ℕ) → bits ≡ front ++ replicate (size - length front) false
+    → length front ≡ at + k → at + 64 ≤ size → k + n ≤ 64 → piece < 2 ^ n → w ≡ value_of (take 64 (drop at bits))
+    → w + piece * 2 ^ (64 - k - n) ≡ value_of ((drop at front ++ digits n piece) ++ replicate (64 - k - n) false)
+put_value bits front size at k n piece w is place h fits less e =
+    window_with (drop at front) k n piece w (length-drop at front ∙ omega arith) fits
+    (e ∙ ap value_of (window_there bits front size at k is place (omega arith) h)) less
+
+pub put_fits : (bits front : List Bool) (size at k n piece w : ℕ) → bits ≡ front ++ replicate (size - length front) false
+    → length front ≡ at + k → at + 64 ≤ size → k + n ≤ 64 → piece < 2 ^ n → w ≡ value_of (take 64 (drop at bits))
+    → w + piece * 2 ^ (64 - k - n) < 2 ^ 64
+put_fits bits front size at k n piece w is place h fits less e =
+    let window : List Bool = (drop at front ++ digits n piece) ++ replicate (64 - k - n) false in
+    let long : length window ≡ 64 = window_long (drop at front) k n piece (length-drop at front ∙ omega arith) fits in
+    subst (λ v. v < 2 ^ 64) (sym (put_value bits front size at k n piece w is place h fits less e))
+    (subst (λ m. value_of window < 2 ^ m) long (value_below window))
+
+-- it is set between the bits before it and those behind it
+pub put_step : (bits front : List Bool) (size at k n piece w : ℕ) → bits ≡ front ++ replicate (size - length front) false
+    → length front ≡ at + k → at + 64 ≤ size → k + n ≤ 64 → piece < 2 ^ n → w ≡ value_of (take 64 (drop at bits))
+    → take at bits ++ (digits 64 (w + piece * 2 ^ (64 - k - n)) ++ drop (at + 64) bits) ≡ (front ++ digits n piece) ++ replicate (size - (length front + n)) false
+put_step bits front size at k n piece w is place h fits less e =
+    let window : List Bool = (drop at front ++ digits n piece) ++ replicate (64 - k - n) false in
+    let long : length window ≡ 64 = window_long (drop at front) k n piece (length-drop at front ∙ omega arith) fits in
+    let rest : drop (at + 64) bits ≡ replicate (size - length front - (64 - k)) false =
+    ap (drop (at + 64)) is
+    ∙ ap (λ m. drop m (front ++ replicate (size - length front) false)) (omega arith)
+    ∙ drop-append-add front (replicate (size - length front) false) (64 - k)
+    ∙ drop-replicate (64 - k) (size - length front) false in
+    let before : take at bits ≡ take at front =
+    ap (take at) is ∙ take-append-le at front (replicate (size - length front) false) (omega arith) in
+    let here : digits 64 (w + piece * 2 ^ (64 - k - n)) ≡ window =
+    ap (digits 64) (put_value bits front size at k n piece w is place h fits less e)
+    ∙ ap (λ m. digits m (value_of window)) (sym long)
+    ∙ digits_value window in
+    ap (λ l. l ++ (digits 64 (w + piece * 2 ^ (64 - k - n)) ++ drop (at + 64) bits)) before
+    ∙ ap (λ l. take at front ++ (l ++ drop (at + 64) bits)) here
+    ∙ ap (λ l. take at front ++ (window ++ l)) rest
+    ∙ regroup (take at front) (drop at front) (digits n piece) (replicate (64 - k - n) false) (replicate (size - length front - (64 - k)) false)
+    ∙ ap (λ l. (l ++ digits n piece) ++ (replicate (64 - k - n) false ++ replicate (size - length front - (64 - k)) false)) (take-append-drop at front)
     ∙ ap (λ l. (front ++ digits n piece) ++ l)
-    (replicate-append-replicate (8 - k - n) (8 * length octets - length front - (8 - k)) false ∙ ap (λ m. replicate m false) (omega arith))
+    (replicate-append-replicate (64 - k - n) (size - length front - (64 - k)) false ∙ ap (λ m. replicate m false) (omega arith))
 
--- the bits of a number go on with its next n bits
-pub digits_more : (value width left n : ℕ) → left ≤ width → n ≤ left
-    → digits (width - left) (value / 2 ^ left) ++ digits n (value / 2 ^ (left - n) % 2 ^ n) ≡ digits (width - (left - n)) (value / 2 ^ (left - n))
-digits_more value width left n h fits =
-    let far : (left - n) + n ≡ left = omega arith in
-    ap (λ l. digits (width - left) (value / 2 ^ left) ++ l) (digits_low n (value / 2 ^ (left - n) % 2 ^ n) (value / 2 ^ (left - n)) (mod-eq_of_lt (mod_below (value / 2 ^ (left - n)) (2 ^ n) (pow_pos n))))
-    ∙ ap (λ v. digits (width - left) v ++ digits n (value / 2 ^ (left - n))) (sym (shr-shr value (left - n) n ∙ ap (λ k. value / 2 ^ k) far))
-    ∙ sym (digits_append (width - left) n (value / 2 ^ (left - n)))
-    ∙ ap (λ w. digits w (value / 2 ^ (left - n))) (omega arith)
+-- ---- the octets of a window
 
--- a step of writing, where the bits before the place are known
-pub put_on : (all front new zeros rest : List Bool) (at : ℕ) → all ≡ front ++ zeros → length front ≡ at → (b : List Bool) → new ≡ (take at all ++ b) ++ rest → new ≡ (front ++ b) ++ rest
-put_on all front new zeros rest at is long b e =
-    e ∙ ap (λ l. (take at l ++ b) ++ rest) is ∙ ap (λ l. (l ++ b) ++ rest) (take_at front zeros at long)
+octet_power : (k : ℕ) → 256 ^ k ≡ 2 ^ (8 * k)
+octet_power zero = refl
+octet_power (suc k) = pow-suc 256 k ∙ ap (λ p. p * 256) (octet_power k) ∙ sym (pow-add 2 (8 * k) 8) ∙ ap (λ e. 2 ^ e) (omega arith)
+
+octet_there : (k x : ℕ) → digits 8 (byte_at k x) ≡ digits 8 (x / 2 ^ (8 * k))
+octet_there zero x = digits_low 8 (x % 256) (x / 1) (omega arith)
+octet_there (suc k) x =
+    digits_low 8 (x / 256 ^ suc k % 256) (x / 256 ^ suc k) (mod-eq_of_lt (mod_below (x / 256 ^ suc k) 256 (omega arith)))
+    ∙ ap (λ p. digits 8 (x / p)) (octet_power (suc k))
+
+pub high_first_bits : (k x : ℕ) → octet_bits (bytes_high_first k x) ≡ digits (8 * k) x
+unfolding digits
+high_first_bits zero x = refl
+high_first_bits (suc k) x =
+    ap (λ l. digits 8 (byte_at k x) ++ l) (high_first_bits k x)
+    ∙ ap (λ l. l ++ digits (8 * k) x) (octet_there k x)
+    ∙ sym (digits_append 8 (8 * k) x)
+    ∙ ap (λ w. digits w x) (omega arith)
+
+-- eight octets written over others
+pub window_set : (octets : List ℕ) (at w : ℕ) → octet_bits (put_mid at 8 octets (bytes_high_first 8 w)) ≡ take (8 * at) (octet_bits octets) ++ (digits 64 w ++ drop (8 * (at + 8)) (octet_bits octets))
+window_set octets at w =
+    ap (λ l. octet_bits (take at octets ++ (bytes_high_first 8 w ++ l))) (drop-drop 8 at octets)
+    ∙ flat_map-append (digits 8) (take at octets) (bytes_high_first 8 w ++ drop (at + 8) octets)
+    ∙ ap (λ l. octet_bits (take at octets) ++ l) (flat_map-append (digits 8) (bytes_high_first 8 w) (drop (at + 8) octets))
+    ∙ ap (λ l. octet_bits (take at octets) ++ (l ++ octet_bits (drop (at + 8) octets))) (high_first_bits 8 w)
+    ∙ ap (λ l. l ++ (digits 64 w ++ octet_bits (drop (at + 8) octets))) (sym (take_octets at octets))
+    ∙ ap (λ l. take (8 * at) (octet_bits octets) ++ (digits 64 w ++ l)) (sym (drop_octets (at + 8) octets))
+
+-- ---- places
 
 pub front_and_rest : (all : List Bool) (at n : ℕ) → drop at all ≡ replicate n false → all ≡ take at all ++ replicate n false
 front_and_rest all at n e = sym (take-append-drop at all) ∙ ap (λ l. take at all ++ l) e
@@ -130,9 +163,12 @@ front_and_rest all at n e = sym (take-append-drop at all) ∙ ap (λ l. take at 
 pub front_long : (octets : List ℕ) (start n m at : ℕ) → start + n ≡ at → start ≤ 8 * length octets → length (take start (octet_bits octets) ++ digits n m) ≡ at
 front_long octets start n m at e h = length-append (take start (octet_bits octets)) (digits n m) ∙ omega (arith, length_prefix octets start h, length_digits n m)
 
-pub no_digits : (n m : ℕ) → n ≡ 0 → digits n m ≡ []
-unfolding digits
-no_digits n m e = rw e refl
+-- the bits of a number, those before its last 32 and these
+pub two_parts : (width value : ℕ) → 32 ≤ width → digits (width - 32) (value / 2 ^ 32) ++ digits 32 (value % 2 ^ 32) ≡ digits width value
+two_parts width value h =
+    ap (λ l. digits (width - 32) (value / 2 ^ 32) ++ l) (digits_low 32 (value % 2 ^ 32) value (mod-eq_of_lt (mod_below value (2 ^ 32) (pow_pos 32))))
+    ∙ sym (digits_append (width - 32) 32 value)
+    ∙ ap (λ w. digits w value) (omega arith)
 
 are_octets_take : (m : ℕ) (octets : List ℕ) → AreOctets octets → AreOctets (take m octets)
 are_octets_take zero octets small = tt

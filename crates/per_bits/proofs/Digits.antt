@@ -1,7 +1,7 @@
 -- Numbers and their bits: the laws that join `digits` and `value_of`, and cut and join both.
 use Rattle.std.proofs.Common.{◌≡◌, ℕ, ◌+◌, ◌-◌, ◌*◌, ◌/◌, ◌%◌, ◌^◌, ◌<◌, ◌≤◌, zero, suc, Bool, true, false, nat_eq, List, [], ◌∷◌, ◌++◌, length, take, drop, refl, ap, sym, ◌∙◌, arith, zero-add, one-add, suc-add}
 use Rattle.std.proofs.Math.Nat.{pow-suc, mod-eq_of_lt}
-use Rattle.std.proofs.lemmas.Nat.{pow_pos, mod-pow-add, shr-shr, mod_below, pow-add, same_from_place}
+use Rattle.std.proofs.lemmas.Nat.{pow_pos, mod-pow-add, shl-shr, shr-shr, field_of, mod_below, pow-add, same_from_place}
 use Rattle.std.proofs.lemmas.List.{length-append, take_at, drop_at}
 use Rattle.per_bits.specs.Bits.{digits, value_of}
 
@@ -94,9 +94,16 @@ octet_field_value k n o h =
     ∙ value_digits n (o / 2 ^ (8 - k - n))
 
 -- the same of the number that a window of 64 bits reads
-pub window_field_value : (k n x : ℕ) → k + n ≤ 64 → value_of (take n (drop k (digits 64 x))) ≡ x / 2 ^ (64 - k - n) % 2 ^ n
+pub window_field_value : (k n x : ℕ) → k + n ≤ 64 → value_of (take n (drop k (digits 64 x))) ≡ x * 2 ^ k % 2 ^ 64 / 2 ^ (64 - n)
 window_field_value k n x h =
     let e : 64 ≡ k + (n + (64 - k - n)) = omega arith in
+    let whole : n + (64 - n) ≡ 64 = omega arith in
+    let before : k + (64 - k - n) ≡ 64 - n = omega arith in
     ap (λ w. value_of (take n (drop k (digits w x)))) e
     ∙ ap value_of (digits_field k n (64 - k - n) x)
     ∙ value_digits n (x / 2 ^ (64 - k - n))
+    ∙ ap (λ y. y / 2 ^ (64 - k - n) % 2 ^ n) (sym (shl-shr x k))
+    ∙ ap (λ y. y % 2 ^ n) (shr-shr (x * 2 ^ k) k (64 - k - n))
+    ∙ ap (λ m. x * 2 ^ k / 2 ^ m % 2 ^ n) before
+    ∙ sym (field_of (x * 2 ^ k) n (64 - n))
+    ∙ ap (λ m. x * 2 ^ k % 2 ^ m / 2 ^ (64 - n)) whole

@@ -182,12 +182,12 @@ octets_differ bits start i other h small e =
     ∙ mod-eq_of_lt small
 
 -- a field of a window is one of the octets
-pub window_value : (octets : List ℕ) (start n : ℕ) → start / 8 + 8 ≤ length octets → n ≤ 57
-    → value_of (take n (drop (start % 8) (digits 64 (value_of (take 64 (drop (8 * (start / 8)) (octet_bits octets))))))) ≡ value_of (take n (drop start (octet_bits octets)))
-window_value octets start n within narrow =
-    let window = take 64 (drop (8 * (start / 8)) (octet_bits octets)) in
-    let long : length window ≡ 64 = length_field octets (8 * (start / 8)) 64 (omega arith) in
+pub window_value : (octets : List ℕ) (at start n : ℕ) → at + 8 ≤ length octets → 8 * at ≤ start → start - 8 * at + n ≤ 64
+    → value_of (take n (drop (start - 8 * at) (digits 64 (value_of (take 64 (drop (8 * at) (octet_bits octets))))))) ≡ value_of (take n (drop start (octet_bits octets)))
+window_value octets at start n within before narrow =
+    let window = take 64 (drop (8 * at) (octet_bits octets)) in
+    let long : length window ≡ 64 = length_field octets (8 * at) 64 (omega arith) in
     let same : digits 64 (value_of window) ≡ window = ap (λ w. digits w (value_of window)) (sym long) ∙ digits_value window in
-    ap (λ l. value_of (take n (drop (start % 8) l))) same
-    ∙ ap value_of (part_field (octet_bits octets) (8 * (start / 8)) 64 (start % 8) n (omega arith))
+    ap (λ l. value_of (take n (drop (start - 8 * at) l))) same
+    ∙ ap value_of (part_field (octet_bits octets) (8 * at) 64 (start - 8 * at) n (omega arith))
     ∙ ap (λ k. value_of (take n (drop k (octet_bits octets)))) (omega arith)

@@ -22,13 +22,13 @@ pub(crate) fn bit_at(octets: &[u8], place: u32) -> bool
 }
 
 // How many octets are loaded at once, and the widest number that lies in them wherever in the first one it begins.
-const WINDOW: usize = 8;
+pub(crate) const WINDOW: usize = 8;
 
-const WINDOW_WIDTH: u32 = 57;
+pub(crate) const WINDOW_WIDTH: u32 = 57;
 
 // The number that the octets from one on read, a window of them.
 #[inline]
-fn window_at(octets: &[u8], at: usize) -> u64
+pub(crate) fn window_at(octets: &[u8], at: usize) -> u64
     requires within { at + WINDOW ≤ length octets.now }
     ensures value { result ≡ value_of (take 64 (drop (8 * at) (octet_bits octets.now))) }
 {
@@ -48,7 +48,7 @@ fn window_field(window: u64, skip: u32, n: u32) -> u64
     ensures value { result ≡ value_of (take n (drop skip (digits 64 window))) }
     ensures below { result < 2 ^ n }
 {
-    (window >> (64 - skip - n)) & ((1 << n) - 1)
+    (window << skip) >> (64 - n)
 }
 
 // The number that `width` bits from the place `start` on read, an octet at a time.
@@ -71,6 +71,25 @@ fn number_by_octets(octets: &[u8], start: u32, width: u32) -> u64
     value
 }
 
+// The number that `width` bits from the place `start` on read, where a window that begins there may reach past the
+// octets: out of the last window, if they are enough for one.
+#[inline(never)]
+fn number_near_end(octets: &[u8], start: u32, width: u32) -> u64
+    requires narrow { width ≤ 64 }
+    requires within { start + width ≤ 8 * length octets.now }
+    requires few { length octets.now ≤ most_borrowed }
+    ensures value { result ≡ value_of (take width (drop start (octet_bits octets.now))) }
+    ensures below { result < 2 ^ width }
+{
+    let len = octets.len();
+    if 0 < width && width <= WINDOW_WIDTH && WINDOW <= len {
+        let at = ((start / 8) as usize).min(len - WINDOW);
+        window_field(window_at(octets, at), start - 8 * at as u32, width)
+    } else {
+        number_by_octets(octets, start, width)
+    }
+}
+
 // The number that `width` bits from the place `start` on read: out of one window where it lies in one.
 #[inline]
 pub(crate) fn number_at(octets: &[u8], start: u32, width: u32) -> u64
@@ -84,7 +103,7 @@ pub(crate) fn number_at(octets: &[u8], start: u32, width: u32) -> u64
     if 0 < width && width <= WINDOW_WIDTH && at + WINDOW <= octets.len() {
         window_field(window_at(octets, at), start % 8, width)
     } else {
-        number_by_octets(octets, start, width)
+        number_near_end(octets, start, width)
     }
 }
 

@@ -1,7 +1,8 @@
 //! A buffer for the bits of one set of data.
-ghost use Rattle.std.specs.Prelude.{◌≡◌, ◌+◌, ◌-◌, ◌*◌, ◌/◌, ◌%◌, ◌^◌, ◌≤◌, ◌<◌, [], ◌++◌, false, length, take, drop, replicate, bit_or, OnOk, OnErr};
+ghost use Rattle.std.specs.Prelude.{◌≡◌, ◌+◌, ◌-◌, ◌*◌, ◌^◌, ◌≤◌, ◌<◌, [], ◌++◌, false, length, take, drop, replicate, OnOk, OnErr};
 ghost use Rattle.per_bits.specs.Bits.{Part, digits, octet_bits, padded, room_octets, room_bits};
 
+use crate::numbers::{WINDOW, WINDOW_WIDTH, window_at};
 use crate::parts::Bits;
 use std::marker::Model;
 
@@ -9,8 +10,8 @@ use std::marker::Model;
 #[derive(Clone, Copy, Debug, Drop, PartialEq, Eq)]
 pub struct Full;
 
-// How many octets a buffer holds.
-const ROOM_OCTETS: usize = 140;
+// How many octets lie in a buffer: the 140 that it holds, and a window behind them, so that a window begins at each.
+const OCTETS: usize = 148;
 
 /// How many bits a buffer holds: those of 140 octets.
 pub const ROOM_BITS: u32 = 1120;
@@ -18,7 +19,7 @@ pub const ROOM_BITS: u32 = 1120;
 /// At most 1120 bits, which is 140 octets. A contract sees the bits.
 #[derive(Drop)]
 pub struct BitBuf {
-    octets: [u8; ROOM_OCTETS],
+    octets: [u8; OCTETS],
     len: u32,
 }
 
@@ -30,7 +31,7 @@ impl Model for BitBuf {
 
     ghost view = { λ b. take b.len (octet_bits b.octets) };
 
-    ghost invariant = { λ b. (b.len ≤ room_bits) × (drop b.len (octet_bits b.octets) ≡ replicate (room_bits - b.len) false) };
+    ghost invariant = { λ b. (b.len ≤ room_bits) × (drop b.len (octet_bits b.octets) ≡ replicate (1184 - b.len) false) };
 }
 
 impl BitBuf {
@@ -39,7 +40,7 @@ impl BitBuf {
         ensures { result ≡ [] }
     {
         BitBuf {
-            octets: [0; ROOM_OCTETS],
+            octets: [0; OCTETS],
             len: 0,
         }
     }
@@ -70,7 +71,11 @@ impl BitBuf {
         if self.len() + width > ROOM_BITS {
             return Err(Full);
         }
-        self.append(value, width);
+        if width > WINDOW_WIDTH {
+            self.append_wide(value, width);
+        } else {
+            self.append(value, width);
+        }
         Ok(())
     }
 
@@ -92,9 +97,22 @@ impl BitBuf {
         Ok(())
     }
 
-    // Puts the low `width` bits of a value for which there is room.
-    fn append(&mut self, value: u64, width: u32)
+    // Puts the low `width` bits of a value that is wider than a half, for which there is room.
+    fn append_wide(&mut self, value: u64, width: u32)
+        requires wide { 32 ≤ width }
         requires narrow { width ≤ 64 }
+        requires fits { value < 2 ^ width }
+        requires room { length self.old + width ≤ room_bits }
+        ensures { self.new ≡ self.old ++ digits width value }
+    {
+        self.append(value >> 32, width - 32);
+        self.append(value % (1 << 32), 32);
+    }
+
+    // Puts the low `width` bits of a value for which there is room.
+    #[inline]
+    fn append(&mut self, value: u64, width: u32)
+        requires narrow { width ≤ 57 }
         requires fits { value < 2 ^ width }
         requires room { length self.old + width ≤ room_bits }
         ensures { self.new ≡ self.old ++ digits width value }
@@ -109,61 +127,41 @@ fn used(octets: &[u8], len: u32) -> &[u8]
     requires within { len ≤ 8 * length octets.now }
     requires clear { drop len (octet_bits octets.now) ≡ replicate (8 * length octets.now - len) false }
     ensures value { result.now ≡ padded (take len (octet_bits octets.now)) }
-    ensures few { length result.now ≤ length octets.now }
+    ensures few { 8 * length result.now < len + 8 }
 {
     &octets[..len.div_ceil(8) as usize]
 }
 
-// Writes the low `width` bits of the value at a place behind which all bits are 0, an octet at a time.
-fn put_at(octets: &mut [u8; ROOM_OCTETS], start: u32, value: u64, width: u32)
-    requires narrow { width ≤ 64 }
+// Writes the low `width` bits of the value at a place behind which all bits are 0.
+#[inline]
+fn put_at(octets: &mut [u8; OCTETS], start: u32, value: u64, width: u32)
+    requires narrow { width ≤ 57 }
     requires fits { value < 2 ^ width }
-    requires room { start + width ≤ room_bits }
-    requires clear { drop start (octet_bits octets.old) ≡ replicate (room_bits - start) false }
-    ensures { octet_bits octets.new ≡ take start (octet_bits octets.old) ++ digits width value ++ replicate (room_bits - (start + width)) false }
+    requires room { start ≤ room_bits }
+    requires clear { drop start (octet_bits octets.old) ≡ replicate (1184 - start) false }
+    ensures { octet_bits octets.new ≡ take start (octet_bits octets.old) ++ digits width value ++ replicate (1184 - (start + width)) false }
 {
-    let mut left = width;
-    let mut at = start;
-    while left > 0 {
-        let n = (8 - at % 8).min(left);
-        put_in_octet(octets, at, field(value, left - n, n), n);
-        at += n;
-        left -= n;
-    }
+    let at = (start / 8) as usize;
+    let window = window_at(octets, at) + in_window(value, start % 8, width);
+    put_window(octets, at, window);
 }
 
-// Writes n bits that stand in one octet, at a place behind which all bits are 0.
+// The window whose bits behind its first `skip` ones are the `width` low ones of the value, and then zeros.
 #[inline]
-fn put_in_octet(octets: &mut [u8; ROOM_OCTETS], at: u32, value: u8, n: u32)
-    requires some { 0 < n }
-    requires one { at % 8 + n ≤ 8 }
-    requires fits { value < 2 ^ n }
-    requires room { at < room_bits }
-    requires clear { drop at (octet_bits octets.old) ≡ replicate (room_bits - at) false }
-    ensures { octet_bits octets.new ≡ take at (octet_bits octets.old) ++ digits n value ++ replicate (room_bits - (at + n)) false }
+fn in_window(value: u64, skip: u32, width: u32) -> u64
+    requires within { skip < 8 }
+    requires narrow { width ≤ 57 }
+    requires fits { value < 2 ^ width }
+    ensures { result ≡ value * 2 ^ (64 - skip - width) }
 {
-    let i = (at / 8) as usize;
-    octets[i] = with_bits(octets[i], value, 8 - at % 8 - n);
+    (value << (57 - width)) << (7 - skip)
 }
 
-// The octet with the bits of the value, before its last `low` ones.
+// Writes a window over the eight octets from one on.
 #[inline]
-fn with_bits(octet: u8, value: u8, low: u32) -> u8
-    requires within { low < 8 }
-    requires fits { value * 2 ^ low < 2 ^ 8 }
-    ensures value { result ≡ bit_or octet (value * 2 ^ low) }
-    ensures range { octet < 2 ^ 8 }
+fn put_window(octets: &mut [u8; OCTETS], at: usize, window: u64)
+    requires within { at + 8 ≤ 148 }
+    ensures { octet_bits octets.new ≡ take (8 * at) (octet_bits octets.old) ++ (digits 64 window ++ drop (8 * (at + 8)) (octet_bits octets.old)) }
 {
-    octet | (value << low)
-}
-
-// The number that `n` bits of the value read, those before its last `low` ones.
-#[inline]
-fn field(value: u64, low: u32, n: u32) -> u8
-    requires small { n ≤ 8 }
-    requires within { low < 64 }
-    ensures value { result ≡ value / 2 ^ low % 2 ^ n }
-    ensures below { result < 2 ^ n }
-{
-    ((value >> low) & ((1 << n) - 1)) as u8
+    octets[at..at + WINDOW].copy_from_slice(&window.to_be_bytes());
 }

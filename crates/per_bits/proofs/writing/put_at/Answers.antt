@@ -1,49 +1,34 @@
-use Rattle.std.proofs.Common.{◌≡◌, ◌+◌, ◌-◌, ◌/◌, ◌^◌, List, Bool, ◌++◌, ◌∙◌, false, take, drop, replicate, ap, sym, arith}
-use Rattle.std.proofs.Math.Nat.{div-one}
-use Rattle.std.proofs.lemmas.List.{drop_at, append-nil, append_assoc}
+use Rattle.std.proofs.Common.{◌≡◌, ℕ, ◌+◌, ◌-◌, ◌*◌, ◌/◌, ◌%◌, ◌^◌, ◌<◌, ◌≤◌, ◌++◌, ◌∙◌, false, List, Bool, length, take, drop, replicate, ap, arith}
 use Rattle.per_bits.specs.Bits.{digits, octet_bits}
-use Rattle.per_bits.proofs.Buffer.{put_on, digits_more, front_and_rest, front_long, no_digits}
+use Rattle.per_bits.proofs.Places.{length_prefix}
+use Rattle.per_bits.proofs.Buffer.{put_fits, put_step, front_and_rest}
 use Rattle.per_bits.proofs.writing.put_at.Goals as goal
 
-pub loop-left-init : goal.loop-left-init
-loop-left-init c = (
-  omega arith,
-  omega arith,
-  front_and_rest (octet_bits c.args.octets.now) c.args.start (1120 - c.args.start) c.requires.clear
-      ∙ ap (λ l. l ++ replicate (1120 - c.args.start) false)
-      (sym (append-nil (take c.args.start (octet_bits c.args.octets.now)))
-      ∙ ap (λ l. take c.args.start (octet_bits c.args.octets.now) ++ l) (sym (no_digits (c.args.width - c.args.width) (c.args.value / 2 ^ c.args.width) (omega arith)))),
-)
+-- behind the place are zeros
+zeros_behind : (octets : List ℕ) (start : ℕ) → start ≤ 8 * length octets → drop start (octet_bits octets) ≡ replicate (1184 - start) false
+    → octet_bits octets ≡ take start (octet_bits octets) ++ replicate (1184 - length (take start (octet_bits octets))) false
+zeros_behind octets start h clear =
+    let long : length (take start (octet_bits octets)) ≡ start = length_prefix octets start h in
+    front_and_rest (octet_bits octets) start (1184 - length (take start (octet_bits octets))) (clear ∙ ap (λ n. replicate (1184 - n) false) (omega (arith, long)))
 
-pub put_in_octet-requires-clause-clear : goal.put_in_octet-requires-clause-clear
-put_in_octet-requires-clause-clear c =
-    let long = front_long c.args.octets.now c.args.start (c.args.width - c.loop-left.left) (c.args.value / 2 ^ c.loop-left.left) c.loop-left.at (omega arith) (omega arith) in
-    ap (drop c.loop-left.at) c.loop-left.invariant.2
-    ∙ drop_at (take c.args.start (octet_bits c.args.octets.now) ++ digits (c.args.width - c.loop-left.left) (c.args.value / 2 ^ c.loop-left.left)) (replicate (1120 - c.loop-left.at) false) c.loop-left.at long
-
-pub loop-left-preserved : goal.loop-left-preserved
-loop-left-preserved c =
-    let before : List Bool = take c.args.start (octet_bits c.args.octets.now) in
-    let written : List Bool = digits (c.args.width - c.loop-left.left) (c.args.value / 2 ^ c.loop-left.left) in
-    let rest : List Bool = replicate (1120 - (c.loop-left.at + c.min-n.result)) false in
-    let long = front_long c.args.octets.now c.args.start (c.args.width - c.loop-left.left) (c.args.value / 2 ^ c.loop-left.left) c.loop-left.at (omega arith) (omega arith) in (
-      omega arith,
-      omega arith,
-      put_on (octet_bits c.loop-left.octets) (before ++ written) (octet_bits c.put_in_octet.new.octets) (replicate (1120 - c.loop-left.at) false) rest c.loop-left.at
-          c.loop-left.invariant.2 long (digits c.min-n.result c.field.result) c.put_in_octet.ensures
-          ∙ ap (λ l. l ++ rest)
-          (append_assoc before written (digits c.min-n.result c.field.result)
-          ∙ ap (λ l. before ++ l)
-          (ap (λ x. written ++ digits c.min-n.result x) c.field.ensures.value
-          ∙ digits_more c.args.value c.args.width c.loop-left.left c.min-n.result (omega arith) (omega arith))),
-    )
+pub overflow_add-window : goal.overflow_add-window
+overflow_add-window c =
+    let bits : List Bool = octet_bits c.args.octets.now in
+    let long : length (take c.args.start bits) ≡ c.args.start = length_prefix c.args.octets.now c.args.start (omega arith) in
+    let fits : c.window_at.result + c.args.value * 2 ^ (64 - c.args.start % 8 - c.args.width) < 2 ^ 64 =
+    put_fits bits (take c.args.start bits) 1184 (8 * (c.args.start / 8)) (c.args.start % 8) c.args.width c.args.value c.window_at.result
+    (zeros_behind c.args.octets.now c.args.start (omega arith) c.requires.clear)
+    (omega (arith, long)) (omega arith) (omega arith) c.requires.fits c.window_at.ensures.value in
+    omega (arith, fits, c.in_window.ensures)
 
 pub returns : goal.returns
 returns c =
-    let none : c.loop-left.left ≡ 0 = omega arith in
-    let before : List Bool = take c.args.start (octet_bits c.args.octets.now) in
-    c.loop-left.invariant.2
-    ∙ ap (λ x. (before ++ digits (c.args.width - x) (c.args.value / 2 ^ x)) ++ replicate (1120 - c.loop-left.at) false) none
-    ∙ ap (λ k. (before ++ digits k (c.args.value / 1)) ++ replicate (1120 - c.loop-left.at) false) (omega arith)
-    ∙ ap (λ v. (before ++ digits c.args.width v) ++ replicate (1120 - c.loop-left.at) false) (div-one c.args.value)
-    ∙ ap (λ k. (before ++ digits c.args.width c.args.value) ++ replicate k false) (omega arith)
+    let bits : List Bool = octet_bits c.args.octets.now in
+    let long : length (take c.args.start bits) ≡ c.args.start = length_prefix c.args.octets.now c.args.start (omega arith) in
+    c.put_window.ensures
+    ∙ ap (λ x. take (8 * (c.args.start / 8)) bits ++ (digits 64 (c.window_at.result + x) ++ drop (8 * (c.args.start / 8 + 8)) bits)) c.in_window.ensures
+    ∙ ap (λ n. take (8 * (c.args.start / 8)) bits ++ (digits 64 (c.window_at.result + c.args.value * 2 ^ (64 - c.args.start % 8 - c.args.width)) ++ drop n bits)) (omega arith)
+    ∙ put_step bits (take c.args.start bits) 1184 (8 * (c.args.start / 8)) (c.args.start % 8) c.args.width c.args.value c.window_at.result
+    (zeros_behind c.args.octets.now c.args.start (omega arith) c.requires.clear)
+    (omega (arith, long)) (omega arith) (omega arith) c.requires.fits c.window_at.ensures.value
+    ∙ ap (λ n. take c.args.start bits ++ digits c.args.width c.args.value ++ replicate (1184 - (n + c.args.width)) false) long

@@ -16,12 +16,12 @@ invariant_of-self c =
     let long = front_long c.self.inside.octets c.self.inside.len c.args.width c.args.value (c.self.inside.len + c.args.width) (omega arith) (omega arith) in (
       omega arith,
       ap (drop (c.self.inside.len + c.args.width)) c.put_at.ensures
-          ∙ drop_at (take c.self.inside.len (octet_bits c.self.inside.octets) ++ digits c.args.width c.args.value) (replicate (1120 - (c.self.inside.len + c.args.width)) false) (c.self.inside.len + c.args.width) long,
+          ∙ drop_at (take c.self.inside.len (octet_bits c.self.inside.octets) ++ digits c.args.width c.args.value) (replicate (1184 - (c.self.inside.len + c.args.width)) false) (c.self.inside.len + c.args.width) long,
     )
 
 pub returns : goal.returns
 returns c =
     let long = front_long c.self.inside.octets c.self.inside.len c.args.width c.args.value (c.self.inside.len + c.args.width) (omega arith) (omega arith) in
     ap (take (c.self.inside.len + c.args.width)) c.put_at.ensures
-    ∙ take_at (take c.self.inside.len (octet_bits c.self.inside.octets) ++ digits c.args.width c.args.value) (replicate (1120 - (c.self.inside.len + c.args.width)) false) (c.self.inside.len + c.args.width) long
+    ∙ take_at (take c.self.inside.len (octet_bits c.self.inside.octets) ++ digits c.args.width c.args.value) (replicate (1184 - (c.self.inside.len + c.args.width)) false) (c.self.inside.len + c.args.width) long
     ∙ ap (λ l. l ++ digits c.args.width c.args.value) c.self.view_is
