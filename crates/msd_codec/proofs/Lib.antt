@@ -14,3 +14,4 @@ pub mod Lengths
 pub mod Presence
 pub mod TextNumbers
 pub mod Joined
+pub mod KnownTexts

@@ -10,6 +10,7 @@ mod elements;
 mod message;
 mod rest;
 mod structure;
+mod texts;
 
 use crate::reading::message::read_message;
 use crate::reading::rest::check_rest;

@@ -1,5 +1,6 @@
 //! Readers of the structure of a set of data and of its components.
-ghost use Rattle.std.specs.Prelude.{◌≡◌, ◌<◌, List, [], ◌∷◌, IfOk, OnOk};
+ghost use Rattle.std.specs.Prelude.{◌≡◌, ◌<◌, ◌≤◌, List, [], ◌∷◌, length, IfOk, OnOk};
+ghost use Rattle.per_bits.specs.Bits.{behind};
 ghost use Rattle.std.specs.Option.{option_map, option_to_list};
 ghost use Rattle.per_types.specs.inner.Reading.{Gives, tree_at, text_at};
 ghost use Rattle.msd_values.specs.Vin.{IsVin};
@@ -13,9 +14,13 @@ use crate::reading::elements::{
     is_present, read_angle, read_angle_delta, read_extended, read_flag, read_more, read_octet,
     read_present, read_timestamp, read_truth, read_vehicle_type,
 };
+use crate::reading::texts::known_characters;
 use msd_values::{Delta, Marks, Msd, VehicleKind, Vin};
 use per_bits::{Additions, Cursor, Refusal};
 use per_types::read_char;
+
+// How many bits the characters of an identification have, six each.
+const VIN_BITS: u32 = 102;
 
 // How the call was started, and of which category the vehicle is.
 #[derive(Drop)]
@@ -104,12 +109,24 @@ fn read_characters(c: &mut Cursor<'_>) -> Result<[u8; 17], Refusal>
     ensures vin { IfOk result IsVin }
     ensures on { OnOk result (MovesOn c.old c.new) }
 {
+    if let Some(characters) = known_characters(c) {
+        leave(c, VIN_BITS);
+        return Ok(characters);
+    }
     let mut characters = [0; 17];
     for i in 0..17 {
         let character = read_char(c)?;
         characters[i] = character;
     }
     Ok(characters)
+}
+
+// Leaves bits behind that are there.
+fn leave(c: &mut Cursor<'_>, n: u32)
+    requires { n ≤ length c.old.bits }
+    ensures { c.new ≡ behind c.old n }
+{
+    let _ = c.take(n).unwrap();
 }
 
 fn read_storage<'a>(c: &mut Cursor<'a>) -> Result<Storage<'a>, Refusal>
