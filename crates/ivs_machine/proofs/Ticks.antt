@@ -1,10 +1,9 @@
 -- Unit ticks: n of them give what the lines give once n ticks have gone, where no line acts before.
-use Rattle.std.proofs.Common.{◌≡◌, ◌≢◌, ◌≤◌, ◌+◌, ℕ, false, zero, suc, List, [], ◌∷◌, Some, None, refl, sym, ap, arith, rules, ◌∙◌, IfSome, append-nil, nat_eq}
+use Rattle.std.proofs.Common.{◌≡◌, ◌≢◌, ◌≤◌, ℕ, zero, suc, List, [], Some, None, refl, sym, ap, arith, rules, ◌∙◌, IfSome, append-nil}
 use Rattle.std.specs.Prelude.{Option}
-use Rattle.std.specs.List.{AllByRecursion}
 use Rattle.std.proofs.lemmas.Bool.Decides.{nat_tests}
 use Rattle.link_frames.specs.declared.note.Note.{Note}
-use Rattle.link_frames.specs.Ranks.{behind, Deadline, first_of, soonest, least_left}
+use Rattle.link_frames.specs.Ranks.{behind}
 use Rattle.link_frames.proofs.RanksLemmas.{EachLeaves, due_leaves, none_acts, due_at_least}
 use Rattle.link_frames.specs.Row.{Row, silent}
 use Rattle.ivs_machine.specs.Vehicle.{Vehicle, Phase, Idle, Standby, Arming, Dialling, Pausing, Seeking, InCall, LeftIdle, LeftStandby, Initiating, Awaiting, Sending, Confirming, Talking}
