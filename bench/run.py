@@ -1,8 +1,8 @@
 #!/usr/bin/env python3
 """run.py PROGRAM: how many sets of data `PROGRAM decode` reads and describes a second, in 4 MB of address space; how much
 processor time that takes beside a plain program and beside a decoder that asn1c generates from format2.asn1; what decoding alone
-takes of both; what encoding alone takes of both; with how many calls the text is written; and what `PROGRAM encode` takes beside the
-plain program. Parts that need a tool that isn't there are skipped in a line."""
+takes of both; what encoding alone takes of both; with how many calls the text is written; and what `PROGRAM encode` and `PROGRAM run`
+take beside the plain program. Parts that need a tool that isn't there are skipped in a line."""
 import glob
 import os
 import re
@@ -26,6 +26,8 @@ BELOW = {"call_io": "thiserror", "per_bits": "", "per_types": "per_bits", "msd_v
 BELOW |= {"msd_codec": "per_bits per_types msd_values arrayvec", "encoder": "per_bits msd_values msd_codec call_io arrayvec"}
 ENCODINGS = 50_000
 WRITES = 50_000
+# the kinds of scripts.py, each with how many it is measured with, and then with twice as many
+SCRIPTS = {"mixed": 2_000, "calls": 20_000, "flows": 1_000, "one": 200_000, "legs": 5_000, "callbacks": 150_000}
 
 
 class Skipped(Exception):
@@ -163,6 +165,35 @@ def encodes(program, plain, folder):
         print(f"  {what:<34} {seconds:7.3f} s  {times[0] / seconds:5.2f}")
 
 
+def write_script(folder, kind, count):
+    path = os.path.join(folder, f"{kind}-{count}.script")
+    with open(path, "wb") as script:
+        subprocess.run([sys.executable, os.path.join(HERE, "scripts.py"), kind, str(count)], stdout=script, check=True)
+    return path
+
+
+def same_trace(commands, path):
+    """The bytes of the trace of a script, which all commands write alike."""
+    text = [subprocess.run(command, stdin=open(path, "rb"), capture_output=True).stdout for command in commands]
+    if any(other != text[0] for other in text):
+        raise OSError(f"the traces of {os.path.basename(path)} differ")
+    return len(text[0])
+
+
+def plays(program, plain, folder):
+    """The processor time of `run` over scripts of all kinds, beside the plain program's, and that of twice as much."""
+    commands = [[program, "run"]] + ([[plain, "run"]] if plain else [])
+    print("\nScripts: processor time of `ecall run`, of the plain program, and of twice as much")
+    print(f"{'kind':>10} {'count':>8} {'trace':>10} {'ecall':>8} {'plain':>8} {'ratio':>6} {'doubled':>8} {'ratio':>6}")
+    for kind, count in SCRIPTS.items():
+        path, double = write_script(folder, kind, count), write_script(folder, kind, 2 * count)
+        size = same_trace(commands, path)
+        times = least(commands, path)
+        [twice] = least(commands[:1], double)
+        beside_plain = f"{times[1]:8.3f} {times[0] / times[1]:6.2f}" if plain else f"{'-':>8} {'-':>6}"
+        print(f"{kind:>10} {count:>8} {size:>10} {times[0]:8.3f} {beside_plain} {twice:8.3f} {twice / times[0]:6.2f}")
+
+
 def instructions(command, text):
     """How many instructions a command needs for this input."""
     run = ["valgrind", "--tool=cachegrind", "--cache-sim=no", "--cachegrind-out-file=/dev/null", *command]
@@ -265,6 +296,7 @@ def main(program):
         generated = attempt("generated codec", generated_codec, os.path.join(folder, "generated"))
         beside(program, plain, generated, known)
         encodes(program, plain, folder)
+        plays(program, plain, folder)
         attempt("decoding alone", lambda _: alone(program, generated, known), folder)
         attempt("encoding alone", lambda here: encoding(generated, known, here), os.path.join(folder, "encoder"))
         attempt("calls of write", lambda _: writes(program, known), folder)

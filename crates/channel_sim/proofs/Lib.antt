@@ -1,11 +1,38 @@
-mod FirstCall
-pub mod FitKept
-mod Lists
-mod PointFits
-mod Posted
-mod SessionsLemmas
-mod Shown
+mod ActLemmas
+pub mod Acts
+mod ArrivalLemmas
+mod BoundLemmas
+pub mod CallsKept
+mod CallsLemmas
+pub mod CallUp
+mod CatchLemmas
+mod ChangeLemmas
+mod DueLemmas
+mod HandLemmas
+mod Jump
+mod LagLemmas
+pub mod LegRow
+mod LineLemmas
+pub mod LinksRow
+pub mod Lists
+mod MomentLemmas
+mod PassLemmas
+mod PlaceLemmas
+mod Played
+mod Reached
+pub mod RowKept
+pub mod RowOwes
+pub mod Running
+mod SeatLemmas
+pub mod Seats
+mod SendsLemmas
+mod SessionLemmas
+mod Standing
 mod StepLemmas
 mod TellingLemmas
-mod TrafficLemmas
-mod VehicleFits
+mod TickLemmas
+pub mod Ticks
+mod TidyLemmas
+mod VehicleLemmas
+mod WaitLemmas
+pub mod Whole

@@ -3,15 +3,16 @@ use Rattle.std.specs.Prelude.{ℕ, List, [], ◌∷◌, ◌++◌, slice_get, IfS
 use Rattle.std.specs.List.{AllByRecursion}
 use Rattle.std.proofs.Common.{zero, suc}
 
-pub all_append : {X : Type 0} (P : X → Type 0) → (xs ys : List X) → AllByRecursion P xs → AllByRecursion P ys → AllByRecursion P (xs ++ ys)
+pub all_append : {X : Type 0} (P : X → Type 0) → (xs ys : List X) → AllByRecursion P xs → AllByRecursion P ys →
+    AllByRecursion P (xs ++ ys)
 all_append P [] ys a b = b
 all_append P (x ∷ xs) ys a b = (a.0, all_append P xs ys a.1 b)
 
-pub all_into : {X : Type 0} (P Q : X → Type 0) → ((x : X) → P x → Q x) → (xs : List X) → AllByRecursion P xs → AllByRecursion Q xs
+pub all_into : {X : Type 0} (P Q : X → Type 0) → ((x : X) → P x → Q x) → (xs : List X) → AllByRecursion P xs →
+    AllByRecursion Q xs
 all_into P Q f [] a = tt
 all_into P Q f (x ∷ xs) a = (f x a.0, all_into P Q f xs a.1)
 
--- what holds of each holds of the one at a place
 pub all_at : {X : Type 0} (P : X → Type 0) → (xs : List X) (i : ℕ) → AllByRecursion P xs → IfSome (slice_get xs i) P
 all_at P [] i a = tt
 all_at P (x ∷ xs) zero a = a.0

@@ -1,75 +1,169 @@
--- When a trace fits a world: what ties each frame in flight, and each end's seat in its call, to the entries written so
--- far. This project's profile. Cited by the law that each step keeps it, from which follows that every acknowledged set
--- was shown earlier.
-use Rattle.std.specs.Prelude.{◌≡◌, ◌≤◌, ℕ, List, Option, Some, None}
+-- When a trace fits a world: what ties the state of both ends, and each frame in flight, to the entries written so far.
+-- It holds at first and each step keeps it; from it follows that every trace is safe. It names no row of either end. This
+-- project's profile. Cited by the laws of this crate and the contract of `World::step`.
+use Rattle.std.specs.Prelude.{◌≡◌, ◌≤◌, ◌<◌, ℕ, ◌+◌, true, false, List, [], ◌∷◌, ◌++◌, ◌⊎◌, ◌||◌, Option, Some, None, IfSome, if◌then◌else◌}
 use Rattle.std.specs.List.{AllByRecursion}
+use Rattle.std.specs.Option.{is_some}
+use Rattle.link_frames.specs.declared.frame.End.{End}
+use Rattle.link_frames.specs.declared.frame.End.TheVariants as «end»
 use Rattle.link_frames.specs.declared.frame.Frame.{Frame}
 use Rattle.link_frames.specs.declared.frame.Frame.TheVariants as frame
 use Rattle.link_frames.specs.declared.note.Note.{Note}
 use Rattle.link_frames.specs.declared.note.Note.TheVariants as note
-use Rattle.link_frames.specs.Legs.{Kept}
-use Rattle.link_frames.specs.Owes.{Seat, set_for}
+use Rattle.link_frames.specs.Legs.{Kept, owner}
+use Rattle.link_frames.specs.Owes.{Seat, InTime, set_for, HasSet}
+use Rattle.ivs_machine.specs.Vehicle.{Vehicle, vehicle_call}
 use Rattle.ivs_machine.specs.VehicleKept as vehicle
-use Rattle.ivs_machine.specs.VehicleOwes.{seat_of, number_of}
+use Rattle.ivs_machine.specs.VehicleOwes.{seat_of}
+use Rattle.psap_machine.specs.Point.{Point}
 use Rattle.psap_machine.specs.PointKept as point
 use Rattle.psap_machine.specs.PointOwes as session
 use Rattle.trace_text.specs.declared.entry.Entry.{Entry}
-use Rattle.trace_text.specs.Safety.{WasShown, Agreed}
-use Rattle.channel_sim.specs.World.{World, Traffic}
+use Rattle.trace_text.specs.History.{Sent, sent_by, sets_of}
+use Rattle.trace_text.specs.Safety.{Leg, leg_at, WasShown, Safe, Finished}
+use Rattle.channel_sim.specs.World.{World, Call, is_number, call_of, session_of, left_by}
+
+-- Call numbers and ticks.
+
+-- an item is of no call whose number wasn't drawn
+abbrev pub IsDrawn : (drawn : ℕ) → Option (End × ℕ) → Type 0
+IsDrawn drawn None = Unit {0}
+IsDrawn drawn (Some o) = o.1 ≤ drawn
+
+-- ticks never fall, from the first of these two to the second
+abbrev pub Rises : (from : ℕ) → List Entry → (to : ℕ) → Type 0
+Rises from [] to = from ≤ to
+Rises from (x ∷ xs) to = (from ≤ x.tick) × Rises x.tick xs to
+
+-- Both ends as seats in their calls.
+
+-- the vehicle's seat in a call, if it is in it
+abbrev pub vehicle_seat : ℕ → Vehicle → Option Seat
+vehicle_seat c v = if is_number c (vehicle_call v) then seat_of v else None
+
+-- the seat of a session, if there is one
+abbrev pub point_seat : Option Point → Option Seat
+point_seat None = None
+point_seat (Some s) = session.seat_of s
+
+abbrev pub seats_of : Vehicle → List Call → End → ℕ → Option Seat
+seats_of v calls «end».Vehicle c = vehicle_seat c v
+seats_of v calls «end».Point c = point_seat (session_of c calls)
+
+-- An end is in a call as the entries say: its leg is up, its voice is as they say and has been so since the tick that
+-- they say, and the sets that it made or showed are exactly theirs.
+pub record SeatFits (now : ℕ) (k : Seat) (leg : Leg) (had : List Kept) : Type 0 where
+  pub up : leg.up ≡ true
+  pub talks : leg.talks ≡ k.talks
+  pub time : leg.since + k.ticks ≡ now
+  pub sets : had ≡ k.sets
+
+-- an end that isn't in the call has no leg up by the entries
+abbrev pub LegFits : (now : ℕ) → Option Seat → Leg → List Kept → Type 0
+LegFits now None leg sets = leg.up ≡ false
+LegFits now (Some k) leg sets = SeatFits now k leg sets
+
+-- Frames in flight.
+
+-- all that was sent in a call is what the entries say was sent
+pub record FramesFit (entries : List Entry) (k : Call) : Type 0 where
+  pub up : k.up ≡ sent_by «end».Vehicle k.number entries
+  pub down : k.down ≡ sent_by «end».Point k.number entries
+
+-- Sets made, shown and acknowledged in a call.
+
+-- a set in a frame is the one made for its request
+abbrev pub CarriesMade : (made : List Kept) → Frame → Type 0
+CarriesMade made (frame.Content r attempt octets) = set_for r made ≡ Some octets
+CarriesMade made _ = Unit {0}
+
+-- an acknowledgement of either layer is of a request whose set was shown
+abbrev pub ConfirmsShown : (shown : List Kept) → Frame → Type 0
+ConfirmsShown shown (frame.Ack r) = HasSet r shown
+ConfirmsShown shown (frame.App r answer) = HasSet r shown
+ConfirmsShown shown _ = Unit {0}
+
+-- Each set that the vehicle sent, by whichever attempt, is the one set made for its request; so is each set shown; and
+-- each acknowledgement is of a set shown.
+pub record Links (made shown : List Kept) (up down : List Sent) : Type 0 where
+  pub carried : AllByRecursion (λ s. CarriesMade made s.frame) up
+  pub same : (r : ℕ) (octets : List ℕ) → set_for r shown ≡ Some octets → set_for r made ≡ Some octets
+  pub confirmed : AllByRecursion (λ s. ConfirmsShown shown s.frame) down
+
+abbrev pub CallLinks : List Entry → ℕ → Type 0
+CallLinks entries c =
+    Links (sets_of «end».Vehicle c entries) (sets_of «end».Point c entries) (sent_by «end».Vehicle c entries)
+    (sent_by «end».Point c entries)
+
+-- the item sends these octets for this request of this call
+abbrev pub IsSent : ℕ → ℕ → List ℕ → Note → Type 0
+IsSent call request octets (note.Send «end».Vehicle c (frame.Content r attempt o)) =
+    (c ≡ call) × (r ≡ request) × (o ≡ octets)
+IsSent call request octets _ = ⊥
+
+-- among these entries is one that sends these octets for this request of this call
+abbrev pub WasSent : ℕ → ℕ → List ℕ → List Entry → Type 0
+WasSent call request octets [] = ⊥
+WasSent call request octets (x ∷ xs) = IsSent call request octets x.note ⊎ WasSent call request octets xs
 
 -- some set was shown for this request of this call
 abbrev pub SomeShown : ℕ → ℕ → List Entry → Type 0
 SomeShown call request entries = (octets : List ℕ) × WasShown call request octets entries
 
--- a set shown is of a call whose number was drawn
-abbrev pub IsDrawn : ℕ → Note → Type 0
-IsDrawn calls (note.Shown c r o) = c ≤ calls
-IsDrawn calls _ = Unit {0}
+-- A set is shown behind its sending, and acknowledged, by either layer, behind its showing.
+abbrev pub ComesBehind : (before : List Entry) → Note → Type 0
+ComesBehind before (note.Shown c r octets) = WasSent c r octets before
+ComesBehind before (note.Send «end».Point c (frame.Ack r)) = SomeShown c r before
+ComesBehind before (note.Send «end».Point c (frame.App r answer)) = SomeShown c r before
+ComesBehind before _ = Unit {0}
 
--- a set in a frame is the one made for its request
-abbrev pub CarriesMade : (made : List Kept) → Frame → Type 0
-CarriesMade made (frame.Content r attempt o) = set_for r made ≡ Some o
-CarriesMade made _ = Unit {0}
+abbrev pub OrderedFrom : (before : List Entry) → List Entry → Type 0
+OrderedFrom before [] = Unit {0}
+OrderedFrom before (x ∷ xs) = ComesBehind before x.note × OrderedFrom (before ++ x ∷ []) xs
 
--- a set shown in this call is the one made for its request
-abbrev pub ShowsMade : (call : ℕ) (made : List Kept) → Note → Type 0
-ShowsMade call made (note.Shown c r o) = c ≡ call → set_for r made ≡ Some o
-ShowsMade call made _ = Unit {0}
+-- The calls with a leg up.
 
--- an acknowledgement of either layer comes behind a set shown for its request
-abbrev pub ConfirmsShown : ℕ → List Entry → Frame → Type 0
-ConfirmsShown call entries (frame.Ack r) = SomeShown call r entries
-ConfirmsShown call entries (frame.App r answer) = SomeShown call r entries
-ConfirmsShown call entries _ = Unit {0}
+-- a session is its call's, isn't over, and keeps what the states of a session keep
+pub record IsSessionOf (c : ℕ) (s : Point) : Type 0 where
+  pub call : s.call ≡ c
+  pub stays : left_by s ≡ Some s
+  pub kept : point.IsKept s
 
--- The sets sent and shown in the vehicle's call are those that it made, one for each request.
-pub record CallFits (calls number : ℕ) (made : List Kept) (traffic : List Traffic) (entries : List Entry) : Type 0 where
-  pub drawn : number ≤ calls
-  pub sent : AllByRecursion (λ x. AllByRecursion (λ f. x.call ≡ number → CarriesMade made f) x.up) traffic
-  pub shown : AllByRecursion (λ x. ShowsMade number made x.note) entries
+pub record IsCall (drawn : ℕ) (k : Call) : Type 0 where
+  pub number : k.number ≤ drawn
+  pub session : IfSome k.session (IsSessionOf k.number)
 
--- the vehicle's call fits, where it is in one
-abbrev pub SeatFits : (calls number : ℕ) → Option Seat → List Traffic → List Entry → Type 0
-SeatFits calls number None traffic entries = Unit {0}
-SeatFits calls number (Some k) traffic entries = CallFits calls number k.sets traffic entries
+-- a call is there only while one of its legs is up
+abbrev pub HasLeg : (in_call : Option ℕ) → Call → Type 0
+HasLeg in_call k = (is_number k.number in_call || is_some k.session) ≡ true
 
--- what a session counts as shown stands among the entries
-abbrev pub SeatShown : (call : ℕ) → Option Seat → List Entry → Type 0
-SeatShown call None entries = Unit {0}
-SeatShown call (Some k) entries = AllByRecursion (λ set. WasShown call set.0 set.1 entries) k.sets
+-- calls stand by number, each above the one before
+abbrev pub AreInOrder : (below : ℕ) → List Call → Type 0
+AreInOrder below [] = Unit {0}
+AreInOrder below (k ∷ ks) = (below < k.number) × AreInOrder k.number ks
 
--- the entries fit the world
+-- The entries fit the world, in eight parts: numbers and ticks; legs and voices; frames in flight; one set for each
+-- request; shown behind sent; acknowledged behind shown; the bounds by phase; and safe and finished.
 pub record Fit (w : World) (entries : List Entry) : Type 0 where
-  -- the states of both ends keep what they must
-  pub vehicle_kept : vehicle.IsKept w.vehicle
-  pub sessions_kept : AllByRecursion (λ s. point.IsKept s) w.sessions
-  -- each call's number was drawn
-  pub carried : AllByRecursion (λ x. x.call ≤ w.calls) w.traffic
-  pub seated : AllByRecursion (λ s. s.call ≤ w.calls) w.sessions
-  pub drawn : AllByRecursion (λ x. IsDrawn w.calls x.note) entries
-  -- what a session counts as shown stands among the entries
-  pub shown : AllByRecursion (λ s. SeatShown s.call (session.seat_of s) entries) w.sessions
-  -- each acknowledgement in flight comes behind its set
-  pub confirmed : AllByRecursion (λ x. AllByRecursion (ConfirmsShown x.call entries) x.down) w.traffic
-  pub call : SeatFits w.calls (number_of w.vehicle) (seat_of w.vehicle) w.traffic entries
-  pub agreed : Agreed entries
+  -- each call number of an entry was drawn; ticks never fall, and none is above the world's
+  pub drawn : AllByRecursion (λ x. IsDrawn w.drawn (owner x.note)) entries
+  pub rises : Rises 0 entries w.tick
+  -- each end is in each call as the entries say: its leg, its voice and since when, and the sets made, or shown, in it
+  pub seats : (e : End) (c : ℕ) →
+      LegFits w.tick (seats_of w.vehicle w.calls e c) (leg_at e c entries) (sets_of e c entries)
+  -- the frames of a call are those that the entries say were sent; the calls are those with a leg up
+  pub frames : AllByRecursion (FramesFit entries) w.calls
+  pub legs : AllByRecursion (HasLeg (vehicle_call w.vehicle)) w.calls
+  pub listed : IfSome (vehicle_call w.vehicle) (λ c. is_some (call_of c w.calls) ≡ true)
+  -- there is one set for each request of a call: it is sent, then shown, and then acknowledged
+  pub links : (c : ℕ) → CallLinks entries c
+  pub ordered : OrderedFrom [] entries
+  -- Both ends keep what their states keep: the bounds of the ticks by phase, the requests obeyed rise, each request is
+  -- shown once, and the request of a phase was obeyed, or shown.
+  pub vehicle : vehicle.IsKept w.vehicle
+  pub calls : AllByRecursion (IsCall w.drawn) w.calls
+  pub in_order : AreInOrder 0 w.calls
+  -- a muted voice has ticks left to its limit
+  pub in_time : (e : End) (c : ℕ) → IfSome (seats_of w.vehicle w.calls e c) (InTime e)
+  pub safe : Safe entries w.tick
+  pub finished : Finished entries

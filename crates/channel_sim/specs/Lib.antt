@@ -1,6 +1,6 @@
 pub mod Fit
-pub mod SessionsStand
+pub mod inner
+pub mod Lines
 pub mod SimFault
 pub mod World
 pub mod WorldStands
-pub mod inner

@@ -1,15 +1,16 @@
 //! The world: a vehicle, the point's sessions, and the simulated channel between them.
 #![tactic(auto)]
 
+mod calls;
+mod consequence;
 mod fault;
 mod laws;
-mod sessions;
+mod sends;
 mod telling;
 #[cfg(test)]
 mod tests;
-mod traffic;
 mod world;
 
 pub use fault::SimFault;
-pub use laws::acknowledged_sets_were_shown;
+pub use laws::{fitting_worlds, traces_are_safe};
 pub use world::World;

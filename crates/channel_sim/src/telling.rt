@@ -2,7 +2,7 @@
 
 ghost use Rattle.std.specs.Prelude.{◌≡◌, ◌≤◌, OnOk, OnErr, IfErr};
 ghost use Rattle.channel_sim.specs.SimFault.{SimFaultCause};
-ghost use Rattle.channel_sim.specs.World.{told};
+ghost use Rattle.trace_text.specs.History.{told};
 
 use crate::fault::SimFault;
 use link_frames::Note;

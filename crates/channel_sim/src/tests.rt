@@ -1,12 +1,16 @@
 //! Scripts stepped through the world. The expected items follow by hand from the tables of both ends.
+ghost use Rattle.std.specs.Prelude.{ℕ, ◌≡◌, ◌<◌, ◌^◌};
 
 use crate::{SimFault, World};
-use link_frames::{Answer, DialAttempt, End, Frame, Note, OCTETS, Request};
+use link_frames::{Answer, DialAttempt, End, Frame, Note, OCTETS, Request, Steps, Timer, Why};
 use msd_fit::{Cause, Facts};
 use std::alloc::Global;
 use std::process::Abort;
-use std::test::Fail;
-use trace_text::{Deaf, Entry, Event, Kept, Listener, Positive};
+use std::sync::ledger::Ledger;
+use trace_text::{Delay, Event, Kept, Listener, Positive};
+
+mod deaf;
+mod rows;
 
 const SET: [u8; OCTETS] = [7; OCTETS];
 
@@ -16,326 +20,199 @@ fn positive(rt: &impl Abort, number: u32) -> Positive {
     Positive::new(number).expect(rt, "at least 1")
 }
 
-fn up(rt: &impl Abort, call: u32, k: u32) -> Event {
+fn tick(rt: &impl Abort, ticks: u32) -> Event {
+    Event::Tick(positive(rt, ticks))
+}
+
+fn flow(rt: &impl Abort, up: bool, ticks: u32) -> Event {
+    let delay = Delay::new(ticks).expect(rt, "at most 1000");
+    Event::Flow { up, delay }
+}
+
+fn deliver(rt: &impl Abort, up: bool, call: u32, k: u32) -> Event {
     Event::Deliver {
-        up: true,
+        up,
         call: positive(rt, call),
         k: positive(rt, k),
     }
 }
 
-fn down(rt: &impl Abort, call: u32, k: u32) -> Event {
-    Event::Deliver {
-        up: false,
-        call: positive(rt, call),
-        k: positive(rt, k),
-    }
+fn request(rt: &impl Abort, number: u8) -> Request {
+    Request::new(number).expect(rt, "1 to 255")
 }
 
-fn sends(end: End, frame: Frame) -> Note {
-    Note::Send {
-        end,
+fn dial(rt: &impl Abort, number: u8) -> Note {
+    Note::Dial(DialAttempt::new(number).expect(rt, "1 to 10"))
+}
+
+fn sends(end: End, call: u32, frame: Frame) -> Note {
+    Note::Send { end, call, frame }
+}
+
+fn asks(rt: &impl Abort, call: u32, number: u8) -> Note {
+    sends(End::Point, call, Frame::Start(request(rt, number)))
+}
+
+/// The vehicle sends its set.
+fn tells(rt: &impl Abort, call: u32, number: u8, attempt: u8) -> Note {
+    let content = Frame::Content {
+        request: request(rt, number),
+        attempt,
+        octets: SET,
+    };
+    sends(End::Vehicle, call, content)
+}
+
+/// The point's application answers to a request of call 1.
+fn app(rt: &impl Abort, number: u8, answer: Answer) -> Note {
+    let request = request(rt, number);
+    sends(End::Point, 1, Frame::App { request, answer })
+}
+
+/// What the point does at the set in call 1.
+fn takes(rt: &impl Abort, number: u8, octets: [u8; OCTETS]) -> [Note; 3] {
+    let request = request(rt, number);
+    [
+        Note::Shown {
+            call: 1,
+            request,
+            octets,
+        },
+        sends(End::Point, 1, Frame::Ack(request)),
+        app(rt, number, Answer::Positive),
+    ]
+}
+
+fn acked(rt: &impl Abort, number: u8) -> Note {
+    Note::Acked {
         call: 1,
-        frame,
+        request: request(rt, number),
+        octets: SET,
     }
 }
 
-fn voice(end: End, open: bool) -> Note {
+fn voice(end: End, call: u32, open: bool) -> Note {
     Note::Voice {
         end,
-        call: 1,
+        call,
         up: open,
         down: open,
     }
 }
 
-fn leg_is_up(end: End) -> Note {
-    Note::Up { end, call: 1 }
+fn down(end: End, call: u32, why: Why) -> Note {
+    Note::Down { end, call, why }
 }
 
-/// The vehicle sends the set that was requested first.
-fn sends_set() -> Note {
-    let content = Frame::Content {
-        request: Request::first(),
-        attempt: 0,
-        octets: SET,
-    };
-    sends(End::Vehicle, content)
+fn ended(end: End, call: u32, timer: Timer) -> Note {
+    Note::Ended { end, call, timer }
 }
 
-/// The point sends that the set is accepted.
-fn accepts_set() -> Note {
-    let app = Frame::App {
-        request: Request::first(),
-        answer: Answer::Positive,
-    };
-    sends(End::Point, app)
+fn failed(rt: &impl Abort, number: u8) -> Note {
+    Note::Failed(DialAttempt::new(number).expect(rt, "1 to 10"))
 }
 
-fn set_is_shown() -> Note {
-    Note::Shown {
-        call: 1,
-        request: Request::first(),
-        octets: SET,
+/// The call's legs come up.
+fn answered(call: u32) -> [Note; 5] {
+    [
+        Note::Up {
+            end: End::Vehicle,
+            call,
+        },
+        voice(End::Vehicle, call, false),
+        sends(End::Vehicle, call, Frame::Init),
+        Note::Up {
+            end: End::Point,
+            call,
+        },
+        voice(End::Point, call, false),
+    ]
+}
+
+fn ticks_are_few(event: &Event)
+    ensures { (n : ℕ) → event.now ≡ Event.Tick n → n < 2 ^ 32 }
+{
+    if let Event::Tick(n) = event {
+        n.number();
     }
 }
 
-fn set_is_acknowledged() -> Note {
-    Note::Acked {
-        call: 1,
-        request: Request::first(),
-        octets: SET,
-    }
-}
-
-fn start(alloc: Global) -> World {
-    World::new(alloc, Facts::Ready(SET))
-}
-
-/// Steps a world through a script, in which each event gives so many entries, and checks that all of them are these
-/// items at tick 0.
-fn play(
+/// What an event does, where the numbers of calls and of ticks aren't spent.
+fn step<H: Listener, L: Ledger>(
     rt: &impl Abort,
     alloc: Global,
-    from: World,
-    steps: &[(Event, usize)],
-    want: &[Note],
+    moments: &mut Steps<L>,
+    world: World,
+    to: &mut H,
+    event: &Event,
 ) -> Result<World, SimFault> {
-    let mut to = Kept::new(alloc);
-    let mut world = from;
-    for (event, count) in steps {
-        assert!(rt; world.calls() < u32::MAX);
-        let before = to.entries().len();
-        world = world.step(alloc, event, &mut to)?;
-        assert_eq!(rt;
-            to.entries().len(),
-            before.wrapping_add(*count),
-            "at {event:?}"
-        );
-    }
-    assert_eq!(rt; to.entries().len(), want.len());
-    for (entry, note) in to.entries().iter().zip(want) {
-        assert_eq!(rt; entry.tick, 0);
-        assert_eq!(rt; entry.note, *note);
-    }
-    Ok(world)
+    assert!(rt; world.calls() < 1_000_000);
+    assert!(rt; world.tick() < 1_000_000_000);
+    ticks_are_few(event);
+    world.step(alloc, event, to, moments)
 }
 
-/// A world in which the vehicle was just answered, in call 1.
-fn answered(rt: &impl Abort, alloc: Global) -> Result<World, SimFault> {
-    let steps = [(TRIGGER, 1), (Event::Answer, 5)];
-    let want = [
-        Note::Dial(DialAttempt::first()),
-        leg_is_up(End::Vehicle),
-        voice(End::Vehicle, false),
-        sends(End::Vehicle, Frame::Init),
-        leg_is_up(End::Point),
-        voice(End::Point, false),
-    ];
-    play(rt, alloc, start(alloc), &steps, &want)
-}
-
-#[test]
-fn hands_one_set_over(rt: HostRuntime) -> Result<(), Fail> {
-    let first = Request::first();
-    let steps = [
-        (up(&rt, 1, 1), 1),
-        (down(&rt, 1, 1), 1),
-        (up(&rt, 1, 2), 3),
-        (down(&rt, 1, 2), 1),
-        (down(&rt, 1, 3), 1),
-    ];
-    let want = [
-        sends(End::Point, Frame::Start(first)),
-        sends_set(),
-        set_is_shown(),
-        sends(End::Point, Frame::Ack(first)),
-        accepts_set(),
-        set_is_acknowledged(),
-        voice(End::Vehicle, true),
-    ];
-    let world = play(&rt, rt.alloc(), answered(&rt, rt.alloc())?, &steps, &want)?;
-    assert_eq!(rt; world.tick(), 0);
-    assert_eq!(rt; world.calls(), 1);
-    assert_eq!(rt; world.vehicle_call(), Some(1));
-    assert!(rt; !world.vehicle().dialling());
-    assert_eq!(rt; world.session(1).map(|s| s.call()), Some(1));
-    assert!(rt; world.session(2).is_none());
-    Ok(())
-}
-
-#[test]
-fn has_no_call_at_the_start(rt: HostRuntime) -> Result<(), Fail> {
-    let quiet = play(&rt, rt.alloc(), start(rt.alloc()), &[], &[])?;
-    assert_eq!(rt; quiet.calls(), 0);
-    assert_eq!(rt; quiet.vehicle_call(), None);
-    Ok(())
-}
-
-#[test]
-fn applies_what_it_can_before_an_answer(rt: HostRuntime) -> Result<(), Fail> {
-    // Before any call, and while one is dialled.
-    let steps = [
-        (Event::Answer, 1),
-        (up(&rt, 1, 1), 1),
-        (down(&rt, 1, 1), 1),
-        (TRIGGER, 1),
-        (TRIGGER, 1),
-        (up(&rt, 1, 1), 1),
-        (Event::Answer, 5),
-    ];
-    let want = [
-        Note::Nothing,
-        Note::Nothing,
-        Note::Nothing,
-        Note::Dial(DialAttempt::first()),
-        Note::Nothing,
-        Note::Nothing,
-        leg_is_up(End::Vehicle),
-        voice(End::Vehicle, false),
-        sends(End::Vehicle, Frame::Init),
-        leg_is_up(End::Point),
-        voice(End::Point, false),
-    ];
-    let world = play(&rt, rt.alloc(), start(rt.alloc()), &steps, &want)?;
-    assert_eq!(rt; world.calls(), 1);
-    Ok(())
-}
-
-#[test]
-fn applies_what_it_can_in_a_call(rt: HostRuntime) -> Result<(), Fail> {
-    // To a call that doesn't exist, and to frames that were not sent.
-    let steps = [
-        (Event::Answer, 1),
-        (up(&rt, 2, 1), 1),
-        (down(&rt, 2, 1), 1),
-        (up(&rt, 1, 2), 1),
-        (down(&rt, 1, 1), 1),
-        (TRIGGER, 1),
-    ];
-    let want = [Note::Nothing; 6];
-    let world = play(&rt, rt.alloc(), answered(&rt, rt.alloc())?, &steps, &want)?;
-    assert_eq!(rt; world.calls(), 1);
-    Ok(())
-}
-
-#[test]
-fn keeps_frames_for_later(rt: HostRuntime) -> Result<(), Fail> {
-    // Frames twice, late, and the application acknowledgement before the acknowledgement.
-    let first = Request::first();
-    let steps = [
-        (up(&rt, 1, 1), 1),
-        (up(&rt, 1, 1), 0),
-        (down(&rt, 1, 1), 1),
-        (down(&rt, 1, 1), 0),
-        (up(&rt, 1, 2), 3),
-        (up(&rt, 1, 2), 1),
-        (down(&rt, 1, 3), 2),
-        (down(&rt, 1, 2), 0),
-        (down(&rt, 1, 3), 0),
-        (down(&rt, 1, 4), 0),
-        (down(&rt, 1, 1), 0),
-        (up(&rt, 1, 1), 0),
-        (up(&rt, 1, 2), 1),
-        (down(&rt, 1, 6), 1),
-    ];
-    let want = [
-        sends(End::Point, Frame::Start(first)),
-        sends_set(),
-        set_is_shown(),
-        sends(End::Point, Frame::Ack(first)),
-        accepts_set(),
-        sends(End::Point, Frame::Ack(first)),
-        set_is_acknowledged(),
-        voice(End::Vehicle, true),
-        sends(End::Point, Frame::Ack(first)),
-        Note::Nothing,
-    ];
-    play(&rt, rt.alloc(), answered(&rt, rt.alloc())?, &steps, &want)?;
-    Ok(())
-}
-
-/// Takes so many entries, and then fails.
+/// A script that was played, and its entries, of which so many were checked.
 #[derive(Drop)]
-struct Failing {
-    left: usize,
-    why: Deaf,
-    faults: u64,
+struct Played {
+    world: World,
+    kept: Kept,
+    checked: usize,
 }
 
-impl Listener for Failing {
-    ghost grew = { λ _ _ _. Unit {0} };
-
-    ghost partly = { λ _ _ _. Unit {0} };
-
-    ghost faults = { λ f. f.faults };
-
-    fn hear(&mut self, _alloc: Global, _entry: &Entry) -> Result<(), Deaf> {
-        if self.left > 0 {
-            self.left -= 1;
-            return Ok(());
+impl Played {
+    fn new(alloc: Global, octets: [u8; OCTETS]) -> Played {
+        Played {
+            world: World::new(alloc, Facts::Ready(octets)),
+            kept: Kept::new(alloc),
+            checked: 0,
         }
-        match self.why {
-            Deaf::Write => {
-                self.faults = self.faults.saturating_add(1);
-                Err(Deaf::Write)
+    }
+
+    /// Plays further events.
+    fn play<L: Ledger>(
+        self,
+        rt: &impl Abort,
+        alloc: Global,
+        moments: &mut Steps<L>,
+        events: &[Event],
+    ) -> Result<Played, SimFault> {
+        let Played {
+            mut world,
+            mut kept,
+            checked,
+        } = self;
+        for event in events {
+            world = step(rt, alloc, moments, world, &mut kept, event)?;
+        }
+        Ok(Played {
+            world,
+            kept,
+            checked,
+        })
+    }
+
+    /// Checks that the next entries are these items, at this tick.
+    fn gives(&mut self, rt: &impl Abort, tick: u64, notes: &[Note]) {
+        for note in notes {
+            match self.kept.entries().get(self.checked) {
+                Some(entry) => {
+                    assert_eq!(rt; entry.tick, tick);
+                    assert_eq!(rt; entry.note, *note, "at {tick}");
+                }
+                None => panic!(rt; "no more entries at {tick}"),
             }
-            Deaf::Memory => Err(Deaf::Memory),
+            self.checked = self.checked.wrapping_add(1);
         }
     }
 
-    ghost unchanged = { λ _. tt };
-
-    ghost twice = { λ _ _ _ _ _ _ _. tt };
-
-    ghost whole = { λ _ _ _ _. tt };
-
-    ghost then_partly = { λ _ _ _ _ _ _ _. tt };
-
-    ghost longer = { λ _ _ _ _ _. tt };
-}
-
-/// The fault of the first step that fails, for a listener that takes so many entries.
-fn fault_after(rt: &impl Abort, alloc: Global, left: usize, why: Deaf) -> Option<SimFault> {
-    let mut to = Failing {
-        left,
-        why,
-        faults: 0,
-    };
-    let mut world = start(alloc);
-    for event in [TRIGGER, Event::Answer, up(rt, 1, 1), Event::Answer] {
-        assert!(rt; world.calls() < u32::MAX);
-        match world.step(alloc, &event, &mut to) {
-            Ok(next) => world = next,
-            Err(fault) => {
-                assert_eq!(rt; to.left, 0);
-                return Some(fault);
-            }
-        }
+    /// Leaves out all entries but the last ones, so many.
+    fn skips_to_last(&mut self, count: usize) {
+        self.checked = self.kept.entries().len().saturating_sub(count);
     }
-    None
-}
 
-#[test]
-fn hands_on_each_fault(rt: HostRuntime) -> Result<(), Fail> {
-    for left in 0..8 {
-        assert_eq!(rt;
-            fault_after(&rt, rt.alloc(), left, Deaf::Write),
-            Some(SimFault::Write)
-        );
-        assert_eq!(rt;
-            fault_after(&rt, rt.alloc(), left, Deaf::Memory),
-            Some(SimFault::Memory)
-        );
+    /// Checks that no more entries are there.
+    fn ends(&self, rt: &impl Abort) {
+        assert_eq!(rt; self.kept.entries().len(), self.checked);
     }
-    assert_eq!(rt; fault_after(&rt, rt.alloc(), 8, Deaf::Write), None);
-    assert_eq!(rt;
-        format!(in rt.alloc(); "{}", SimFault::Write)?.as_str(),
-        "write failed"
-    );
-    assert_eq!(rt;
-        format!(in rt.alloc(); "{}", SimFault::Memory)?.as_str(),
-        "no memory"
-    );
-    Ok(())
 }

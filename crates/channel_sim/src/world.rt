@@ -1,55 +1,68 @@
 //! The world, and what one event line does in it.
 
-use crate::fault::SimFault;
-use crate::sessions::{admit, find_session, hear_session};
-use crate::telling::tell;
-use crate::traffic::{Traffic, find_frame, post};
-use ivs_machine::{Ivs, VehicleEvent};
-use link_frames::{Frame, Note};
-use msd_fit::{Cause, Facts};
-use psap_machine::Session;
-use std::alloc::{AllocError, Global};
-use trace_text::{Event, Listener, Positive};
+mod acts;
+mod deeds;
+mod flows;
+mod moments;
 
-/// A vehicle, the point's sessions, and all that was ever sent in their calls.
+use crate::calls::{Call, find};
+use crate::fault::SimFault;
+use ivs_machine::{Ivs, VehicleEvent};
+use link_frames::{Steps, Why};
+use msd_fit::Facts;
+use psap_machine::{PointEvent, Session};
+use std::alloc::Global;
+use std::sync::ledger::Ledger;
+use trace_text::{Event, Listener};
+
+/// A vehicle, the calls with a leg up, and all that was ever sent in them.
 #[derive(Drop)]
 pub struct World {
     tick: u64,
     vehicle: Ivs,
-    calls: u32,
-    sessions: Vec<Session>,
-    traffic: Vec<Traffic>,
+    /// The tick up to which the vehicle was passed.
+    passed: u64,
+    drawn: u32,
+    calls: Vec<Call>,
+    /// After how many ticks a flow hands a frame over; 0 is off.
+    up_flow: u32,
+    down_flow: u32,
 }
 
 impl World {
-    ghost use Rattle.std.specs.Prelude.{true, false, ◌≡◌, ◌+◌, ◌<◌, ◌≤◌, map, OnOk, OnErr, IfOk, IfErr};
+    ghost use Rattle.std.specs.Prelude.{true, false, ◌≡◌, ◌+◌, ◌^◌, ◌<◌, ◌≤◌, ℕ, OnOk, OnErr, IfOk, IfErr, if◌then◌else◌, ◌++◌, List};
     ghost use Rattle.std.specs.Option.{option_copied};
     ghost use Rattle.ivs_machine.specs.IvsStands.{IvsStandsFor};
     ghost use Rattle.ivs_machine.specs.Vehicle.{vehicle_call};
-    ghost use Rattle.ivs_machine.specs.VehicleRows as vehicle;
-    ghost use Rattle.psap_machine.specs.PointRows as point;
+    ghost use Rattle.trace_text.specs.declared.entry.Entry.{Entry};
+    ghost use Rattle.channel_sim.specs.Fit.{Fit};
     ghost use Rattle.channel_sim.specs.World as model;
-    ghost use Rattle.channel_sim.specs.SessionsStand.{FoundStandsFor, session_of};
+    ghost use Rattle.channel_sim.specs.Lines as lines;
     ghost use Rattle.channel_sim.specs.SimFault.{SimFaultCause};
-    ghost use Rattle.channel_sim.specs.WorldStands.{WorldStandsFor, CameTo, calls_drawn, traffic_of};
+    ghost use Rattle.channel_sim.specs.WorldStands.{WorldStandsFor, CameTo, FoundStandsFor, NeedsCall, TicksIn, calls_drawn, ticks_reached};
+    ghost use Rattle.channel_sim.specs.inner.Lag.{CameNow, StandsNow};
 
     /// The world before anything happened, with a vehicle that knows these facts. It takes no memory.
     pub fn new(alloc: Global, facts: Facts) -> World
         ensures stands { WorldStandsFor result (model.first_world facts) }
         ensures calls { calls_drawn result ≡ 0 }
+        ensures reached { ticks_reached result ≡ 0 }
     {
         World {
             tick: 0,
             vehicle: Ivs::new(facts),
-            calls: 0,
-            sessions: Vec::new(alloc),
-            traffic: Vec::new(alloc),
+            passed: 0,
+            drawn: 0,
+            calls: Vec::new(alloc),
+            up_flow: 0,
+            down_flow: 0,
         }
     }
 
     /// The tick that the world has reached, in ticks of 100 ms.
     pub fn tick(&self) -> u64
-        ensures { (w : model.World) → WorldStandsFor self.now w → result ≡ w.tick }
+        ensures reached { result ≡ ticks_reached self.now }
+        ensures tick { (w : model.World) → WorldStandsFor self.now w → result ≡ w.tick }
     {
         self.tick
     }
@@ -57,9 +70,9 @@ impl World {
     /// The last call number drawn, and 0 before the first.
     pub fn calls(&self) -> u32
         ensures drawn { result ≡ calls_drawn self.now }
-        ensures calls { (w : model.World) → WorldStandsFor self.now w → result ≡ w.calls }
+        ensures calls { (w : model.World) → WorldStandsFor self.now w → result ≡ w.drawn }
     {
-        self.calls
+        self.drawn
     }
 
     /// The number of the call that the vehicle is in; `None` exactly where it is in none.
@@ -79,235 +92,122 @@ impl World {
     /// The world's session of a call; `None` exactly where there is none.
     pub fn session(&self, call: u32) -> Option<&Session>
         ensures { (w : model.World) → WorldStandsFor self.now w →
-            FoundStandsFor (option_copied result) (session_of call w.sessions) }
+            FoundStandsFor (option_copied result) (model.session_of call w.calls) }
     {
-        let i = find_session(&self.sessions, call)?;
-        Some(&self.sessions[i])
+        let i = find(&self.calls, call)?;
+        self.calls[i].session.as_ref()
     }
 
     /// What one event line does: the listener hears each entry of the step, in order. After a failure the world is
     /// spent.
-    pub fn step<H: Listener>(
-        self,
+    pub fn step<H: Listener, L: Ledger>(
+        mut self,
         alloc: Global,
         event: &Event,
         to: &mut H,
+        moments: &mut Steps<L>,
     ) -> Result<World, SimFault>
-        requires { event.now ≡ Event.Answer → calls_drawn self < 4294967295 }
+        requires calls { NeedsCall event.now → calls_drawn self < 4294967295 }
+        requires time { (n : ℕ) → event.now ≡ Event.Tick n → ticks_reached self + n < 2 ^ 64 }
         ensures step { (w : model.World) → WorldStandsFor self w →
-            CameTo (H.grew to.old to.new) (H.partly to.old to.new) result (model.step w event.now) }
+            CameTo (H.grew to.old to.new) (H.partly to.old to.new) result (lines.step w event.now) }
+        // Where the entries so far fit the world before the step, those of the step behind them fit the world behind it.
+        ensures fits { (w : model.World) (entries : List Entry) → WorldStandsFor self w → Fit w entries →
+            OnOk result (Fit (lines.step w event.now).world (entries ++ (lines.step w event.now).entries)) }
+        ensures calls { (w : model.World) → WorldStandsFor self w →
+            IfOk result (λ kept. calls_drawn kept ≤ calls_drawn self + 1) }
+        ensures reached { (w : model.World) → WorldStandsFor self w →
+            IfOk result (λ kept. ticks_reached kept ≤ ticks_reached self + 4294967295) }
         ensures stood { OnOk result (H.faults to.new ≡ H.faults to.old) }
         ensures cause { IfErr result (λ e. SimFaultCause e (H.faults to.old) (H.faults to.new)) }
         ensures counted { H.faults to.old ≤ H.faults to.new }
+        ensures passes { (w : model.World) → WorldStandsFor self w →
+            OnOk result (moments.new ≤ moments.old + lines.passes_within w event.now) }
+    {
+        self.play(alloc, event, to, moments)?;
+        Ok(self)
+    }
+
+    /// What one event line does.
+    fn play<H: Listener, L: Ledger>(
+        &mut self,
+        alloc: Global,
+        event: &Event,
+        to: &mut H,
+        moments: &mut Steps<L>,
+    ) -> Result<(), SimFault>
+        requires calls { NeedsCall event.now → calls_drawn self.old < 4294967295 }
+        requires ticks { TicksIn event.now (λ n. ticks_reached self.old + n < 2 ^ 64) }
+        ensures step { (w : model.World) → StandsNow self.old w →
+            CameNow (H.grew to.old to.new) (H.partly to.old to.new) result self.new (lines.step w event.now) }
+        ensures few { TicksIn event.now (λ n. n ≤ 4294967295) }
+        ensures stood { OnOk result (H.faults to.new ≡ H.faults to.old) }
+        ensures cause { IfErr result (λ e. SimFaultCause e (H.faults to.old) (H.faults to.new)) }
+        ensures counted { H.faults to.old ≤ H.faults to.new }
+        ensures passes { (w : model.World) → StandsNow self.old w →
+            OnOk result (moments.new ≤ moments.old + lines.passes_within w event.now) }
     {
         match event {
-            Event::Trigger(cause) => self.trigger(alloc, *cause, to),
+            Event::Trigger(cause) => {
+                self.vehicle_line(alloc, &VehicleEvent::Trigger(*cause), to, moments)
+            }
+            Event::Cancel => self.vehicle_line(alloc, &VehicleEvent::Cancel, to, moments),
+            Event::Net(up) => self.vehicle_line(alloc, &VehicleEvent::Net(*up), to, moments),
+            Event::Fail => self.vehicle_line(alloc, &VehicleEvent::Failed, to, moments),
+            Event::Sleep => self.vehicle_line(alloc, &VehicleEvent::Sleep, to, moments),
+            Event::FaultVehicle => self.vehicle_line(alloc, &VehicleEvent::Fault, to, moments),
+            Event::FaultPoint(call) => {
+                self.point_line(alloc, call.number(), &PointEvent::Fault, to, moments)
+            }
+            Event::Damaged(call) => {
+                self.point_line(alloc, call.number(), &PointEvent::Damaged, to, moments)
+            }
+            Event::Request(call) => {
+                self.point_line(alloc, call.number(), &PointEvent::Request, to, moments)
+            }
+            Event::Clear(call) => {
+                self.point_line(alloc, call.number(), &PointEvent::Clear, to, moments)
+            }
+            Event::Hangup(call) => {
+                self.point_line(alloc, call.number(), &PointEvent::Hangup, to, moments)
+            }
+            Event::DropPoint(call) => {
+                self.point_line(
+                    alloc,
+                    call.number(),
+                    &PointEvent::Ended(Why::Lost),
+                    to,
+                    moments,
+                )
+            }
+            Event::DropVehicle => self.drop_vehicle(alloc, to, moments),
+            Event::DropBoth(call) => self.drop_both(alloc, call.number(), to, moments),
             Event::Answer => self.answer(alloc, to),
+            Event::Callback => self.callback(alloc, to),
             Event::Deliver { up, call, k } => {
+                let place = k.number() as usize - 1;
                 if *up {
-                    self.deliver_up(alloc, call.number(), *k, to)
+                    self.deliver_up(alloc, call.number(), place, to, moments)
                 } else {
-                    self.deliver_down(alloc, call.number(), *k, to)
+                    self.deliver_down(alloc, call.number(), place, to, moments)
                 }
             }
+            Event::Flow { up, delay } => {
+                self.set_flow(*up, delay.ticks());
+                Ok(())
+            }
+            Event::Tick(n) => self.elapses(alloc, n.number(), to, moments),
         }
     }
 
-    /// Tells that a line applies to nothing.
-    fn tell_nothing<H: Listener>(self, alloc: Global, to: &mut H) -> Result<World, SimFault>
-        ensures step { (w : model.World) → WorldStandsFor self w →
-            CameTo (H.grew to.old to.new) (H.partly to.old to.new) result (model.nothing_step w) }
-        ensures stood { OnOk result (H.faults to.new ≡ H.faults to.old) }
-        ensures cause { IfErr result (λ e. SimFaultCause e (H.faults to.old) (H.faults to.new)) }
-        ensures counted { H.faults to.old ≤ H.faults to.new }
+    /// Sets the flow of a direction.
+    fn set_flow(&mut self, up: bool, delay: u32)
+        ensures { self.new ≡ (if up then record self.old { up_flow = delay } else record self.old { down_flow = delay }) }
     {
-        tell(alloc, self.tick, &[Note::Nothing], to)?;
-        Ok(self)
-    }
-
-    /// Tells what an end did, and posts what it sent.
-    fn gives<H: Listener>(
-        mut self,
-        alloc: Global,
-        items: &[Note],
-        to: &mut H,
-    ) -> Result<World, SimFault>
-        ensures kept { IfOk result (λ kept. kept ≡ record self { traffic = kept.traffic }) }
-        ensures posted { IfOk result (λ kept.
-            map traffic_of kept.traffic.items ≡ model.posted items.now (map traffic_of self.traffic.items)) }
-        ensures grew { OnOk result (H.grew to.old to.new (model.told self.tick items.now)) }
-        ensures partly { OnErr result (H.partly to.old to.new (model.told self.tick items.now)) }
-        ensures stood { OnOk result (H.faults to.new ≡ H.faults to.old) }
-        ensures cause { IfErr result (λ e. SimFaultCause e (H.faults to.old) (H.faults to.new)) }
-        ensures counted { H.faults to.old ≤ H.faults to.new }
-    {
-        tell(alloc, self.tick, items, to)?;
-        post(items, &mut self.traffic)?;
-        Ok(self)
-    }
-
-    /// The vehicle hears a trigger.
-    fn trigger<H: Listener>(
-        mut self,
-        alloc: Global,
-        cause: Cause,
-        to: &mut H,
-    ) -> Result<World, SimFault>
-        ensures step { (w : model.World) → WorldStandsFor self w →
-            CameTo (H.grew to.old to.new) (H.partly to.old to.new) result
-            (model.vehicle_hears w (vehicle.Trigger cause)) }
-        ensures stood { OnOk result (H.faults to.new ≡ H.faults to.old) }
-        ensures cause { IfErr result (λ e. SimFaultCause e (H.faults to.old) (H.faults to.new)) }
-        ensures counted { H.faults to.old ≤ H.faults to.new }
-    {
-        let items = self.vehicle.hear(&VehicleEvent::Trigger(cause));
-        self.gives(alloc, items.as_slice(), to)
-    }
-
-    /// The vehicle hears that its call was answered.
-    fn answered<H: Listener>(
-        mut self,
-        alloc: Global,
-        call: u32,
-        to: &mut H,
-    ) -> Result<World, SimFault>
-        ensures step { (w : model.World) → WorldStandsFor self w →
-            CameTo (H.grew to.old to.new) (H.partly to.old to.new) result
-            (model.vehicle_hears w (vehicle.Answered call)) }
-        ensures stood { OnOk result (H.faults to.new ≡ H.faults to.old) }
-        ensures cause { IfErr result (λ e. SimFaultCause e (H.faults to.old) (H.faults to.new)) }
-        ensures counted { H.faults to.old ≤ H.faults to.new }
-    {
-        let items = self.vehicle.hear(&VehicleEvent::Answered(call));
-        self.gives(alloc, items.as_slice(), to)
-    }
-
-    /// A frame is handed to the vehicle.
-    fn comes_down<H: Listener>(
-        mut self,
-        alloc: Global,
-        frame: &Frame,
-        to: &mut H,
-    ) -> Result<World, SimFault>
-        ensures step { (w : model.World) → WorldStandsFor self w →
-            CameTo (H.grew to.old to.new) (H.partly to.old to.new) result
-            (model.vehicle_hears w (vehicle.Arrives frame.now)) }
-        ensures stood { OnOk result (H.faults to.new ≡ H.faults to.old) }
-        ensures cause { IfErr result (λ e. SimFaultCause e (H.faults to.old) (H.faults to.new)) }
-        ensures counted { H.faults to.old ≤ H.faults to.new }
-    {
-        let items = self.vehicle.hear(&VehicleEvent::Frame(frame.lend()));
-        self.gives(alloc, items.as_slice(), to)
-    }
-
-    /// A frame is handed to the point's session of a call.
-    fn comes_up<H: Listener>(
-        mut self,
-        alloc: Global,
-        call: u32,
-        frame: &Frame,
-        to: &mut H,
-    ) -> Result<World, SimFault>
-        ensures step { (w : model.World) → WorldStandsFor self w →
-            CameTo (H.grew to.old to.new) (H.partly to.old to.new) result
-            (model.point_hears w call (point.Arrives frame.now)) }
-        ensures stood { OnOk result (H.faults to.new ≡ H.faults to.old) }
-        ensures cause { IfErr result (λ e. SimFaultCause e (H.faults to.old) (H.faults to.new)) }
-        ensures counted { H.faults to.old ≤ H.faults to.new }
-    {
-        match hear_session(&mut self.sessions, call, frame) {
-            Some(items) => self.gives(alloc, items.as_slice(), to),
-            None => self.tell_nothing(alloc, to),
-        }
-    }
-
-    /// Draws the next call's number; nothing is sent in it yet.
-    fn draw(mut self, alloc: Global) -> Result<World, AllocError>
-        requires { calls_drawn self < 4294967295 }
-        ensures drawn { (w : model.World) → WorldStandsFor self w →
-            IfOk result (λ kept. WorldStandsFor kept (model.drawn w)) }
-        ensures calls { IfOk result (λ kept. calls_drawn kept ≡ calls_drawn self + 1) }
-    {
-        self.calls += 1;
-        self.traffic.push(Traffic::new(alloc, self.calls))?;
-        Ok(self)
-    }
-
-    /// A call comes in at the point.
-    fn session_arrives<H: Listener>(
-        mut self,
-        alloc: Global,
-        call: u32,
-        to: &mut H,
-    ) -> Result<World, SimFault>
-        ensures step { (w : model.World) → WorldStandsFor self w →
-            CameTo (H.grew to.old to.new) (H.partly to.old to.new) result (model.session_arrives call w) }
-        ensures stood { OnOk result (H.faults to.new ≡ H.faults to.old) }
-        ensures cause { IfErr result (λ e. SimFaultCause e (H.faults to.old) (H.faults to.new)) }
-        ensures counted { H.faults to.old ≤ H.faults to.new }
-    {
-        let items = admit(&mut self.sessions, call)?;
-        self.gives(alloc, items.as_slice(), to)
-    }
-
-    /// The point takes the call that is dialled, if one is.
-    fn answer<H: Listener>(self, alloc: Global, to: &mut H) -> Result<World, SimFault>
-        requires { calls_drawn self < 4294967295 }
-        ensures step { (w : model.World) → WorldStandsFor self w →
-            CameTo (H.grew to.old to.new) (H.partly to.old to.new) result (model.step w Event.Answer) }
-        ensures stood { OnOk result (H.faults to.new ≡ H.faults to.old) }
-        ensures cause { IfErr result (λ e. SimFaultCause e (H.faults to.old) (H.faults to.new)) }
-        ensures counted { H.faults to.old ≤ H.faults to.new }
-    {
-        if !self.vehicle.dialling() {
-            return self.tell_nothing(alloc, to);
-        }
-        let drawn = self.draw(alloc)?;
-        let call = drawn.calls;
-        let answered = drawn.answered(alloc, call, to)?;
-        answered.session_arrives(alloc, call, to)
-    }
-
-    /// Hands the k-th frame sent up in a call to the point.
-    fn deliver_up<H: Listener>(
-        self,
-        alloc: Global,
-        call: u32,
-        k: Positive,
-        to: &mut H,
-    ) -> Result<World, SimFault>
-        ensures step { (w : model.World) → WorldStandsFor self w →
-            CameTo (H.grew to.old to.new) (H.partly to.old to.new) result (model.deliver w true call k) }
-        ensures stood { OnOk result (H.faults to.new ≡ H.faults to.old) }
-        ensures cause { IfErr result (λ e. SimFaultCause e (H.faults to.old) (H.faults to.new)) }
-        ensures counted { H.faults to.old ≤ H.faults to.new }
-    {
-        match find_frame(&self.traffic, true, call, k) {
-            Some(frame) => self.comes_up(alloc, call, &frame, to),
-            None => self.tell_nothing(alloc, to),
-        }
-    }
-
-    /// Hands the k-th frame sent down in a call to the vehicle, while its leg of that call is up.
-    fn deliver_down<H: Listener>(
-        self,
-        alloc: Global,
-        call: u32,
-        k: Positive,
-        to: &mut H,
-    ) -> Result<World, SimFault>
-        ensures step { (w : model.World) → WorldStandsFor self w →
-            CameTo (H.grew to.old to.new) (H.partly to.old to.new) result (model.deliver w false call k) }
-        ensures stood { OnOk result (H.faults to.new ≡ H.faults to.old) }
-        ensures cause { IfErr result (λ e. SimFaultCause e (H.faults to.old) (H.faults to.new)) }
-        ensures counted { H.faults to.old ≤ H.faults to.new }
-    {
-        if self.vehicle.call() != Some(call) {
-            return self.tell_nothing(alloc, to);
-        }
-        match find_frame(&self.traffic, false, call, k) {
-            Some(frame) => self.comes_down(alloc, &frame, to),
-            None => self.tell_nothing(alloc, to),
+        if up {
+            self.up_flow = delay;
+        } else {
+            self.down_flow = delay;
         }
     }
 }

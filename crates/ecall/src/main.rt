@@ -1,16 +1,22 @@
 //! The program `ecall`: its words, standard input and output, and its exit status.
 #![tactic(auto)]
 
+ghost use Rattle.std.specs.Prelude.{◌≡◌, ◌<◌};
+
 mod explanation;
 #[cfg(test)]
 mod tests;
 
 use crate::explanation::Explanation;
-use call_io::{RealSink, RealSource};
+use call_io::{RealSink, RealSource, Sink, Source};
 use ecall_top::{Status, ecall};
+use link_frames::Steps;
+use std::alloc::Global;
 use std::env::{self, Env};
 use std::io;
+use std::marker::Brand;
 use std::process::ExitCode;
+use std::sync::ledger::{Blank, Ledger};
 
 /// The command line's words without the program's name. A word that is not UTF-8 is no word of any form, so such a
 /// command line has none.
@@ -30,12 +36,35 @@ fn explain(rt: &impl Eprint, status: Status, word: Option<&str>) {
     }
 }
 
+/// Carries out what the words ask for. Nobody reads how often the ends of calls were passed, so that count is begun here.
+fn carry_out<I: Source, O: Sink, L: Ledger>(
+    alloc: Global,
+    words: &[String],
+    input: &mut I,
+    output: &mut O,
+    blank: Blank,
+) -> Status
+    requires name { blank.name ≡ L.name }
+    requires parts { blank.parts ≡ L.parts }
+    requires some { 0 < blank.parts }
+{
+    let mut moments = Steps::<L>::start(blank);
+    ecall(alloc, words, input, output, &mut moments)
+}
+
 fn main(rt: HostRuntime) -> ExitCode {
     let status = match words(&rt) {
         Ok(words) => {
             let mut input = RealSource::new(rt.reader());
             let mut output = RealSink::new(io::writer(&rt));
-            let status = ecall(rt.alloc(), &words, &mut input, &mut output);
+            let blank = Blank::new(1);
+            let status = carry_out::<_, _, Brand>(
+                rt.alloc(),
+                &words,
+                &mut input,
+                &mut output,
+                blank,
+            );
             explain(&rt, status, words.first().map(|word| word.as_str()));
             status
         }

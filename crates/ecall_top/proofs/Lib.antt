@@ -9,6 +9,8 @@ mod EncodeRead
 mod EncodeSaid
 mod ScriptRead
 mod TextSoFar
+mod Passes
+mod Safely
 mod Endings
 mod Staged
 mod Turned

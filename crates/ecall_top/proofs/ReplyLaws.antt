@@ -17,7 +17,8 @@ replies_some (Some command.Run) input = (run_reply input, refl)
 replies_some (Some command.Decode) input = decoded_some 1 (lines_of input)
 replies_some (Some command.Encode) input = (encode_reply input, refl)
 
-pub replies_one : (asked : Option Command) (input : List ℕ) (r s : Reply) → Replies asked input r → Replies asked input s → r ≡ s
+pub replies_one : (asked : Option Command) (input : List ℕ) (r s : Reply) → Replies asked input r
+    → Replies asked input s → r ≡ s
 replies_one None input r s a b = a ∙ sym b
 replies_one (Some command.Run) input r s a b = a ∙ sym b
 replies_one (Some command.Decode) input r s a b = decoded_one 1 (lines_of input) r s a b

@@ -40,20 +40,25 @@ word_octets None = tt
 word_octets (Some word) = hex_octets word
 
 judged_octets : (text : List ℕ) → AreSome (judged_set text)
-judged_octets text = by_parts (line_fault text) (is_comment text) (octets_of_word (only_word_of (words text))) (word_octets (only_word_of (words text)))
+judged_octets text =
+    by_parts (line_fault text) (is_comment text) (octets_of_word (only_word_of (words text)))
+    (word_octets (only_word_of (words text)))
   where
-    by_parts : (why : Option Reason) (passed_over : Bool) (octets : Result (List ℕ) Reason) → AreSome (some_octets octets) → AreSome (judged_by why passed_over octets)
+    by_parts : (why : Option Reason) (passed_over : Bool) (octets : Result (List ℕ) Reason)
+        → AreSome (some_octets octets) → AreSome (judged_by why passed_over octets)
     by_parts (Some why) passed_over octets h = tt
     by_parts None true octets h = tt
     by_parts None false octets h = h
 
 -- a line has a reply, where the lines behind it have one
-line_some : (number : ℕ) (place : Result (Option (List ℕ)) Reason) (Rest : Reply → Type 0) → AreSome place → (r : Reply) → Rest r → (whole : Reply) × IsLineDecoded number place Rest whole
+line_some : (number : ℕ) (place : Result (Option (List ℕ)) Reason) (Rest : Reply → Type 0) → AreSome place
+    → (r : Reply) → Rest r → (whole : Reply) × IsLineDecoded number place Rest whole
 line_some number (Err why) Rest h r rest = (refusal_reply (refused.Line (record { line = number; reason = why })), refl)
 line_some number (Ok None) Rest h r rest = (r, rest)
 line_some number (Ok (Some octets)) Rest h r rest = by_set (decided octets h)
   where
-    by_set : ((msd : Msd) × Shows octets msd) ⊎ ((refusal : Refusal) × StopsAt octets refusal) → (whole : Reply) × IsLineDecoded number (Ok (Some octets)) Rest whole
+    by_set : ((msd : Msd) × Shows octets msd) ⊎ ((refusal : Refusal) × StopsAt octets refusal)
+        → (whole : Reply) × IsLineDecoded number (Ok (Some octets)) Rest whole
     by_set (inl shows) = (
       in_front_of (description shows.0) r,
       inl (record { msd = shows.0; rest = r; shown = shows.1; replied = rest; says = refl }),
@@ -76,20 +81,26 @@ one_refusal octets r s a b =
     cc e
 
 -- a line has one reply, where the lines behind it have one
-line_one : (number : ℕ) (place : Result (Option (List ℕ)) Reason) (Rest : Reply → Type 0) → ((r s : Reply) → Rest r → Rest s → r ≡ s) → (r s : Reply) → IsLineDecoded number place Rest r → IsLineDecoded number place Rest s → r ≡ s
+line_one : (number : ℕ) (place : Result (Option (List ℕ)) Reason) (Rest : Reply → Type 0)
+    → ((r s : Reply) → Rest r → Rest s → r ≡ s) → (r s : Reply) → IsLineDecoded number place Rest r
+    → IsLineDecoded number place Rest s → r ≡ s
 line_one number (Err why) Rest one r s a b = a ∙ sym b
 line_one number (Ok None) Rest one r s a b = one r s a b
 line_one number (Ok (Some octets)) Rest one r s (inl a) (inl b) =
     a.says
     ∙ (ap (λ text. in_front_of text a.rest) (one_text octets a.msd b.msd a.shown b.shown)
     ∙ (ap (in_front_of (description b.msd)) (one a.rest b.rest a.replied b.replied) ∙ sym b.says))
-line_one number (Ok (Some octets)) Rest one r s (inl a) (inr b) = absurd (apart octets (tree a.msd) b.refusal a.shown b.stops)
-line_one number (Ok (Some octets)) Rest one r s (inr a) (inl b) = absurd (apart octets (tree b.msd) a.refusal b.shown a.stops)
+line_one number (Ok (Some octets)) Rest one r s (inl a) (inr b) =
+    absurd (apart octets (tree a.msd) b.refusal a.shown b.stops)
+line_one number (Ok (Some octets)) Rest one r s (inr a) (inl b) =
+    absurd (apart octets (tree b.msd) a.refusal b.shown a.stops)
 line_one number (Ok (Some octets)) Rest one r s (inr a) (inr b) =
-    a.says ∙ (ap (λ refusal. refusal_reply (refused.Set number refusal)) (one_refusal octets a.refusal b.refusal a.stops b.stops) ∙ sym b.says)
+    a.says ∙ (ap (λ refusal. refusal_reply (refused.Set number refusal))
+    (one_refusal octets a.refusal b.refusal a.stops b.stops) ∙ sym b.says)
 
 -- each list of lines has one reply
-pub decoded_one : (number : ℕ) (texts : List (List ℕ)) (r s : Reply) → AreDecoded number texts r → AreDecoded number texts s → r ≡ s
+pub decoded_one : (number : ℕ) (texts : List (List ℕ)) (r s : Reply) → AreDecoded number texts r
+    → AreDecoded number texts s → r ≡ s
 decoded_one number [] r s a b = a ∙ sym b
 decoded_one number (text ∷ texts) r s a b =
     line_one number (judged_set text) (AreDecoded (number + 1) texts) (decoded_one (number + 1) texts) r s a b

@@ -21,30 +21,51 @@ use Rattle.ecall_top.specs.declared.refusal.Refused.TheVariants as refused
 use Rattle.ecall_top.specs.inner.DecodeTurns.{IsRefusedSet, by_line, in_refusal, DecodesLine}
 
 -- why a line is refused was written, or a part of it
-pub ends_by : (place : Result (Option (List ℕ)) Reason) (number : ℕ) (why : Refused) (held held' : Option (List ℕ)) → IsRefusedSet place number why → (answer : Status) → EndsWithText held held' (refusal_line why) (status.Refused why) answer → DecodesLine place number held held' (Some answer)
+pub ends_by : (place : Result (Option (List ℕ)) Reason) (number : ℕ) (why : Refused) (held held' : Option (List ℕ))
+    → IsRefusedSet place number why → (answer : Status)
+    → EndsWithText held held' (refusal_line why) (status.Refused why) answer
+    → DecodesLine place number held held' (Some answer)
 ends_by place number why held held' refused_is answer (inl h) =
     subst (λ (a : Status). DecodesLine place number held held' (Some a)) (sym h.0) (refused_is, h.1)
 ends_by place number why held held' refused_is answer (inr h) =
     subst (λ (a : Status). DecodesLine place number held held' (Some a)) (sym h.0) (in_refusal why refused_is h.1)
 
 -- a line that is refused
-pub refuses : (place : Result (Option (List ℕ)) Reason) (number : ℕ) (reason : Reason) (held held' : Option (List ℕ)) → place ≡ Err reason → (answer : Status) → EndsWithText held held' (refusal_line (refused.Line (record { line = number; reason = reason }))) (status.Refused (refused.Line (record { line = number; reason = reason }))) answer → DecodesLine place number held held' (Some answer)
+pub refuses : (place : Result (Option (List ℕ)) Reason) (number : ℕ) (reason : Reason) (held held' : Option (List ℕ))
+    → place ≡ Err reason → (answer : Status)
+    → EndsWithText held held' (refusal_line (refused.Line (record { line = number; reason = reason })))
+    (status.Refused (refused.Line (record { line = number; reason = reason }))) answer
+    → DecodesLine place number held held' (Some answer)
 refuses place number reason held held' placed answer ends =
-    ends_by place number (refused.Line (record { line = number; reason = reason })) held held' (by_line reason placed refl) answer ends
+    ends_by place number (refused.Line (record { line = number; reason = reason })) held held'
+    (by_line reason placed refl) answer ends
 
 -- a line that hasn't one word is refused
-pub other_words : (line : Numbered) (text : List ℕ) (number : ℕ) (held held' : Option (List ℕ)) → text ≡ line.text → number ≡ line.number → None ≡ only_word_of (words text) → (answer : Status) → EndsWithText held held' (refusal_line (refused.Line (record { line = number; reason = reason.Count }))) (status.Refused (refused.Line (record { line = number; reason = reason.Count }))) answer → DecodesLine (some_octets (octets_of_word (only_word_of (words line.text)))) line.number held held' (Some answer)
+pub other_words : (line : Numbered) (text : List ℕ) (number : ℕ) (held held' : Option (List ℕ)) → text ≡ line.text
+    → number ≡ line.number → None ≡ only_word_of (words text) → (answer : Status)
+    → EndsWithText held held' (refusal_line (refused.Line (record { line = number; reason = reason.Count })))
+    (status.Refused (refused.Line (record { line = number; reason = reason.Count }))) answer
+    → DecodesLine (some_octets (octets_of_word (only_word_of (words line.text)))) line.number held held' (Some answer)
 other_words line text number held held' text_is number_is none answer ends =
-    subst (λ (t : List ℕ). DecodesLine (some_octets (octets_of_word (only_word_of (words t)))) line.number held held' (Some answer)) text_is
-    (subst (λ (n : ℕ). DecodesLine (some_octets (octets_of_word (only_word_of (words text)))) n held held' (Some answer)) number_is
-    (refuses (some_octets (octets_of_word (only_word_of (words text)))) number reason.Count held held' (ap (λ word. some_octets (octets_of_word word)) (sym none)) answer ends))
+    subst (λ (t : List ℕ).
+    DecodesLine (some_octets (octets_of_word (only_word_of (words t)))) line.number held held' (Some answer)) text_is
+    (subst (λ (n : ℕ).
+    DecodesLine (some_octets (octets_of_word (only_word_of (words text)))) n held held' (Some answer)) number_is
+    (refuses (some_octets (octets_of_word (only_word_of (words text)))) number reason.Count held held'
+    (ap (λ word. some_octets (octets_of_word word)) (sym none)) answer ends))
 
 -- a line of one word
-pub one_word : (line : Numbered) (text word : List ℕ) (number : ℕ) (held held' : Option (List ℕ)) (answer : Option Status) → text ≡ line.text → number ≡ line.number → Some word ≡ only_word_of (words text) → DecodesLine (some_octets (octets_in (decode_of word))) number held held' answer → DecodesLine (some_octets (octets_of_word (only_word_of (words line.text)))) line.number held held' answer
+pub one_word : (line : Numbered) (text word : List ℕ) (number : ℕ) (held held' : Option (List ℕ))
+    (answer : Option Status) → text ≡ line.text → number ≡ line.number → Some word ≡ only_word_of (words text)
+    → DecodesLine (some_octets (octets_in (decode_of word))) number held held' answer
+    → DecodesLine (some_octets (octets_of_word (only_word_of (words line.text)))) line.number held held' answer
 one_word line text word number held held' answer text_is number_is only decodes =
-    subst (λ (t : List ℕ). DecodesLine (some_octets (octets_of_word (only_word_of (words t)))) line.number held held' answer) text_is
-    (subst (λ (n : ℕ). DecodesLine (some_octets (octets_of_word (only_word_of (words text)))) n held held' answer) number_is
-    (subst (λ (w : Option (List ℕ)). DecodesLine (some_octets (octets_of_word w)) number held held' answer) only decodes))
+    subst (λ (t : List ℕ).
+    DecodesLine (some_octets (octets_of_word (only_word_of (words t)))) line.number held held' answer) text_is
+    (subst (λ (n : ℕ). DecodesLine (some_octets (octets_of_word (only_word_of (words text)))) n held held' answer)
+    number_is
+    (subst (λ (w : Option (List ℕ)). DecodesLine (some_octets (octets_of_word w)) number held held' answer) only
+    decodes))
 
 -- which is all of it
 word_is_line : (text word : List ℕ) → Some word ≡ only_word_of (words text) → word ≡ text
@@ -57,7 +78,8 @@ word_is_line text word only = by_space (position is_space text) refl
     by_space (Some i) h =
         let others : List ℕ = take (length text - (i + 1)) (drop (i + 1) text) in
         let more : (other : List ℕ) × (rest : List (List ℕ)) × (words others ≡ other ∷ rest) = words-some others in
-        let none : Some word ≡ None = only ∙ ap only_word_of (words-found text i h ∙ ap (λ ws. take i text ∷ ws) more.2) in
+        let none : Some word ≡ None =
+        only ∙ ap only_word_of (words-found text i h ∙ ap (λ ws. take i text ∷ ws) more.2) in
         absurd (cc none)
 
 short_line : (text : List ℕ) → line_fault text ≡ None → length text ≤ most_in_line
@@ -71,8 +93,10 @@ short_line text sound = by_test (nat_lt most_in_line (length text)) refl
         absurd (cc none)
 
 -- and as short as a line is
-pub short_word : (text word : List ℕ) → line_fault text ≡ None → Some word ≡ only_word_of (words text) → length word ≤ most_in_line
-short_word text word sound only = subst (λ (t : List ℕ). length t ≤ most_in_line) (sym (word_is_line text word only)) (short_line text sound)
+pub short_word : (text word : List ℕ) → line_fault text ≡ None → Some word ≡ only_word_of (words text)
+    → length word ≤ most_in_line
+short_word text word sound only =
+    subst (λ (t : List ℕ). length t ≤ most_in_line) (sym (word_is_line text word only)) (short_line text sound)
 
 -- room for half as many octets as there are digits is the right room
 sized_is : (text : List ℕ) (n : ℕ) → n ≡ length text / 2 → decode_sized text n ≡ decode_of text
@@ -82,20 +106,37 @@ sized_is text n half = elim (eqb_tells (length text / 2) n) [
 ]
 
 -- digits that couldn't be read are no octets
-pub no_hex : (text : List ℕ) (n : ℕ) (e : FromHexError) (P : List ℕ → Type 0) → n ≡ length text / 2 → MatchResult (decode_sized text n) (λ bytes. (◌≡◌ {A = Result (Unit {0}) FromHexError} (Err e) (Ok tt)) × P bytes) (λ why. ◌≡◌ {A = Result (Unit {0}) FromHexError} (Err e) (Err why)) → some_octets (octets_in (decode_of text)) ≡ Err reason.Hex
+pub no_hex : (text : List ℕ) (n : ℕ) (e : FromHexError) (P : List ℕ → Type 0) → n ≡ length text / 2
+    → MatchResult (decode_sized text n)
+    (λ bytes. (◌≡◌ {A = Result (Unit {0}) FromHexError} (Err e) (Ok tt)) × P bytes)
+    (λ why. ◌≡◌ {A = Result (Unit {0}) FromHexError} (Err e) (Err why))
+    → some_octets (octets_in (decode_of text)) ≡ Err reason.Hex
 no_hex text n e P half fails =
-    by_result (decode_of text) (subst (λ (r : Result (List ℕ) FromHexError). MatchResult r (λ bytes. (◌≡◌ {A = Result (Unit {0}) FromHexError} (Err e) (Ok tt)) × P bytes) (λ why. ◌≡◌ {A = Result (Unit {0}) FromHexError} (Err e) (Err why))) (sized_is text n half) fails)
+    by_result (decode_of text)
+    (subst (λ (r : Result (List ℕ) FromHexError).
+    MatchResult r (λ bytes. (◌≡◌ {A = Result (Unit {0}) FromHexError} (Err e) (Ok tt)) × P bytes)
+    (λ why. ◌≡◌ {A = Result (Unit {0}) FromHexError} (Err e) (Err why))) (sized_is text n half) fails)
   where
-    by_result : (r : Result (List ℕ) FromHexError) → MatchResult r (λ bytes. (◌≡◌ {A = Result (Unit {0}) FromHexError} (Err e) (Ok tt)) × P bytes) (λ why. ◌≡◌ {A = Result (Unit {0}) FromHexError} (Err e) (Err why)) → some_octets (octets_in r) ≡ Err reason.Hex
+    by_result : (r : Result (List ℕ) FromHexError)
+        → MatchResult r (λ bytes. (◌≡◌ {A = Result (Unit {0}) FromHexError} (Err e) (Ok tt)) × P bytes)
+        (λ why. ◌≡◌ {A = Result (Unit {0}) FromHexError} (Err e) (Err why))
+        → some_octets (octets_in r) ≡ Err reason.Hex
     by_result (Ok bytes) h = absurd (cc)
     by_result (Err why) h = refl
 
 -- digits that could be read are these octets
-pub hex_read : (text : List ℕ) (n : ℕ) (out : List ℕ) (u : Unit {0}) → n ≡ length text / 2 → MatchResult (decode_sized text n) (λ bytes. (◌≡◌ {A = Result (Unit {0}) FromHexError} (Ok u) (Ok tt)) × (out ≡ bytes)) (λ why. ◌≡◌ {A = Result (Unit {0}) FromHexError} (Ok u) (Err why)) → decode_of text ≡ Ok out
+pub hex_read : (text : List ℕ) (n : ℕ) (out : List ℕ) (u : Unit {0}) → n ≡ length text / 2
+    → MatchResult (decode_sized text n)
+    (λ bytes. (◌≡◌ {A = Result (Unit {0}) FromHexError} (Ok u) (Ok tt)) × (out ≡ bytes))
+    (λ why. ◌≡◌ {A = Result (Unit {0}) FromHexError} (Ok u) (Err why)) → decode_of text ≡ Ok out
 hex_read text n out u half reads =
     by_result (decode_of text)
-    (subst (λ (r : Result (List ℕ) FromHexError). MatchResult r (λ bytes. (◌≡◌ {A = Result (Unit {0}) FromHexError} (Ok u) (Ok tt)) × (out ≡ bytes)) (λ why. ◌≡◌ {A = Result (Unit {0}) FromHexError} (Ok u) (Err why))) (sized_is text n half) reads)
+    (subst (λ (r : Result (List ℕ) FromHexError).
+    MatchResult r (λ bytes. (◌≡◌ {A = Result (Unit {0}) FromHexError} (Ok u) (Ok tt)) × (out ≡ bytes))
+    (λ why. ◌≡◌ {A = Result (Unit {0}) FromHexError} (Ok u) (Err why))) (sized_is text n half) reads)
   where
-    by_result : (r : Result (List ℕ) FromHexError) → MatchResult r (λ bytes. (◌≡◌ {A = Result (Unit {0}) FromHexError} (Ok u) (Ok tt)) × (out ≡ bytes)) (λ why. ◌≡◌ {A = Result (Unit {0}) FromHexError} (Ok u) (Err why)) → r ≡ Ok out
+    by_result : (r : Result (List ℕ) FromHexError)
+        → MatchResult r (λ bytes. (◌≡◌ {A = Result (Unit {0}) FromHexError} (Ok u) (Ok tt)) × (out ≡ bytes))
+        (λ why. ◌≡◌ {A = Result (Unit {0}) FromHexError} (Ok u) (Err why)) → r ≡ Ok out
     by_result (Ok bytes) h = ap Ok (sym h.1)
     by_result (Err why) h = absurd (cc)

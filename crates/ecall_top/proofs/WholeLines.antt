@@ -35,7 +35,8 @@ some_line : (b : ℕ) (bytes : List ℕ) → 0 < length (lines_of (b ∷ bytes))
 some_line b bytes = elim (eqb_tells b 10) [
   | inl same ↦ let e : length (lines_of (b ∷ bytes)) ≡ suc (length (lines_of bytes)) = ap length (newline_first b bytes same.0) in omega arith
   | inr other ↦
-      let e : length (lines_of (b ∷ bytes)) ≡ length (onto_first b (lines_of bytes)) = ap length (other_first b bytes other.0) in
+      let e : length (lines_of (b ∷ bytes)) ≡ length (onto_first b (lines_of bytes)) =
+      ap length (other_first b bytes other.0) in
       omega (arith, onto_some b (lines_of bytes))
 ]
 
@@ -46,7 +47,8 @@ IsLineMore bytes = length (lines_of (bytes ++ 0 ∷ [])) ≡ length (lines_of by
 -- a newline in front of bytes keeps that
 more_behind_newline : (b : ℕ) (bytes : List ℕ) → (b == 10) ≡ true → IsLineMore (b ∷ bytes) → IsLineMore bytes
 more_behind_newline b bytes h more =
-    let long : length (lines_of (b ∷ (bytes ++ 0 ∷ []))) ≡ suc (length (lines_of (bytes ++ 0 ∷ []))) = ap length (newline_first b (bytes ++ 0 ∷ []) h) in
+    let long : length (lines_of (b ∷ (bytes ++ 0 ∷ []))) ≡ suc (length (lines_of (bytes ++ 0 ∷ []))) =
+    ap length (newline_first b (bytes ++ 0 ∷ []) h) in
     let short : length (lines_of (b ∷ bytes)) ≡ suc (length (lines_of bytes)) = ap length (newline_first b bytes h) in
     omega (arith, more)
 
@@ -54,7 +56,8 @@ more_behind_newline b bytes h more =
 more_behind_other : (b c : ℕ) (bytes : List ℕ) → (b == 10) ≡ false → IsLineMore (b ∷ c ∷ bytes) → IsLineMore (c ∷ bytes)
 more_behind_other b c bytes h more =
     let long : length (lines_of (b ∷ c ∷ (bytes ++ 0 ∷ []))) ≡ length (lines_of (c ∷ (bytes ++ 0 ∷ []))) =
-    ap length (other_first b (c ∷ (bytes ++ 0 ∷ [])) h) ∙ onto_length b (lines_of (c ∷ (bytes ++ 0 ∷ []))) (some_line c (bytes ++ 0 ∷ [])) in
+    ap length (other_first b (c ∷ (bytes ++ 0 ∷ [])) h) ∙ onto_length b (lines_of (c ∷ (bytes ++ 0 ∷ [])))
+    (some_line c (bytes ++ 0 ∷ [])) in
     let short : length (lines_of (b ∷ c ∷ bytes)) ≡ length (lines_of (c ∷ bytes)) =
     ap length (other_first b (c ∷ bytes) h) ∙ onto_length b (lines_of (c ∷ bytes)) (some_line c bytes) in
     omega (arith, more)
@@ -64,7 +67,8 @@ no_more_behind_other : (b : ℕ) → (b == 10) ≡ false → IsLineMore (b ∷ [
 no_more_behind_other b h more =
     let long : length (lines_of (b ∷ 0 ∷ [])) ≡ 1 =
     ap length (other_first b (0 ∷ []) h) ∙ ap (λ ls. length (onto_first b ls)) one_line in
-    let short : length (lines_of (b ∷ [])) ≡ 1 = ap length (other_first b [] h) ∙ ap (λ ls. length (onto_first b ls)) no_lines in
+    let short : length (lines_of (b ∷ [])) ≡ 1 =
+    ap length (other_first b [] h) ∙ ap (λ ls. length (onto_first b ls)) no_lines in
     omega (arith, more)
 
 whole_behind : (b : ℕ) (bytes : List ℕ) → b ≡ 10 → AreWholeLines bytes → AreWholeLines (b ∷ bytes)
@@ -87,12 +91,14 @@ whole_by (b ∷ c ∷ bytes) more = elim (eqb_tells b 10) [
     after_other b bytes some (inr whole) = inr (b ∷ whole.0, ap (λ xs. b ∷ xs) whole.1)
 
 -- bytes whose lines stand in front of those of whatever follows are whole lines
-pub whole_lines : (front : List ℕ) (lines : List (List ℕ)) → ((more : List ℕ) → lines_of (front ++ more) ≡ lines ++ lines_of more) → AreWholeLines front
+pub whole_lines : (front : List ℕ) (lines : List (List ℕ))
+    → ((more : List ℕ) → lines_of (front ++ more) ≡ lines ++ lines_of more) → AreWholeLines front
 whole_lines front lines h =
     let long : length (lines_of (front ++ 0 ∷ [])) ≡ length lines + 1 =
     ap length (h (0 ∷ [])) ∙ (length-append lines (lines_of (0 ∷ [])) ∙ ap (λ ls. length lines + length ls) one_line) in
     let short : length (lines_of front) ≡ length lines =
-    ap (λ bytes. length (lines_of bytes)) (sym (append-nil front)) ∙ (ap length (h []) ∙ (ap (λ ls. length (lines ++ ls)) no_lines ∙ ap length (append-nil lines))) in
+    ap (λ bytes. length (lines_of bytes)) (sym (append-nil front)) ∙
+    (ap length (h []) ∙ (ap (λ ls. length (lines ++ ls)) no_lines ∙ ap length (append-nil lines))) in
     whole_by front (omega arith)
 
 -- whole lines behind whole lines

@@ -1,7 +1,7 @@
--- What an answer of `ecall` says of the bytes that it took from its input and wrote to its output, and of the reads and
--- writes that failed. This project's profile. Cited by the contract of `ecall`. Where a source or a sink doesn't tell
--- its bytes, nothing is said of them.
-use Rattle.std.specs.Prelude.{◌≡◌, ℕ, ◌<◌, ◌≤◌, ◌⊎◌, List, [], ◌∷◌, ◌++◌, length, Option}
+-- What an answer of `ecall` says of the bytes that it took from its input and wrote to its output, of how often it
+-- passed the ends of its calls, and of the reads and writes that failed. This project's profile. Cited by the contract
+-- of `ecall`. Where a source or a sink doesn't tell its bytes, nothing is said of them.
+use Rattle.std.specs.Prelude.{◌≡◌, ℕ, ◌+◌, ◌<◌, ◌≤◌, ◌⊎◌, List, [], ◌∷◌, ◌++◌, length, Option}
 use Rattle.std.specs.List.{AllByRecursion}
 use Rattle.std.specs.Io.KnownBytes.{IsAtEnd}
 use Rattle.call_io.specs.Bytes.{Took, Grew, GrewPartly}
@@ -13,26 +13,30 @@ use Rattle.ecall_top.specs.declared.command.Command.{Command}
 use Rattle.ecall_top.specs.declared.status.Status.{Status}
 use Rattle.ecall_top.specs.declared.status.Status.TheVariants as status
 use Rattle.ecall_top.specs.Refusals.{Reply}
-use Rattle.ecall_top.specs.Replies.{Replies}
+use Rattle.ecall_top.specs.Replies.{Replies, passes_of}
 
--- The bytes told by a source and a sink.
+-- The bytes told by a source and a sink, and how often ends were passed.
 pub record Streams : Type 0 where
   pub left : Option (List ℕ)
   pub held : Option (List ℕ)
+  pub passes : ℕ
 
--- what these two tell
-abbrev pub streams_of : {I O : Type 0} → (left : I → Option (List ℕ)) → (held : O → Option (List ℕ)) → I → O → Streams
-streams_of left held input output = record { left = left input; held = held output }
+-- what these tell
+abbrev pub streams_of : {I O : Type 0} → (left : I → Option (List ℕ)) → (held : O → Option (List ℕ)) → I → O
+    → (passes : ℕ) → Streams
+streams_of left held input output passes = record { left = left input; held = held output; passes = passes }
 
 -- these bytes are whole lines: there are none, or a newline ends them
 abbrev pub AreWholeLines : List ℕ → Type 0
 AreWholeLines bytes = (bytes ≡ []) ⊎ ((before : List ℕ) × (bytes ≡ before ++ newline ∷ []))
 
--- This input was taken, and answered whole: the sink grew by exactly the text of this reply to it.
+-- This input was taken, and answered whole: the sink grew by exactly the text of this reply to it, and ends were passed
+-- no more often than it gives reason for.
 pub record Answered (asked : Option Command) (old new : Streams) (input : List ℕ) (r : Reply) : Type 0 where
   pub took : Took old.left new.left input
   pub replies : Replies asked input r
   pub wrote : Grew old.held new.held r.text
+  pub counted : new.passes ≤ old.passes + passes_of asked input
 
 -- This input was taken, and the answer was cut short: the sink grew by a front of the text of the reply to it.
 pub record CutShort (asked : Option Command) (old new : Streams) (input : List ℕ) : Type 0 where

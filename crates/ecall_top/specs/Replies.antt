@@ -1,14 +1,15 @@
--- What `ecall` replies to words and a whole input. This project's profile. Cited by the contracts of `ecall` and of
--- `reply_laws`.
+-- What `ecall` replies to words and a whole input, and how often it passes the ends at most. This project's profile.
+-- Cited by the contracts of `ecall` and of `reply_laws`.
 use Rattle.std.specs.Prelude.{◌≡◌, ℕ, List, [], ◌∷◌, ◌++◌, Option, Some, None, codes}
 use Rattle.trace_text.specs.Characters.{newline}
+use Rattle.trace_text.specs.Script.{script_of}
 use Rattle.ecall_top.specs.declared.command.Command.{Command}
 use Rattle.ecall_top.specs.declared.command.Command.TheVariants as command
 use Rattle.ecall_top.specs.declared.status.Status.TheVariants as status
 use Rattle.ecall_top.specs.Decode.{IsDecoded}
 use Rattle.ecall_top.specs.Encode.{encode_reply}
 use Rattle.ecall_top.specs.Refusals.{Reply}
-use Rattle.ecall_top.specs.Run.{run_reply}
+use Rattle.ecall_top.specs.Run.{run_reply, script_passes}
 
 abbrev pub usage_line : List ℕ
 usage_line = codes "usage: ecall run|register|decode|encode|frames|replay|trial N|make N|conform" ++ newline ∷ []
@@ -19,3 +20,8 @@ Replies None input r = r ≡ record { text = usage_line; status = status.Usage }
 Replies (Some command.Run) input r = r ≡ run_reply input
 Replies (Some command.Decode) input r = IsDecoded input r
 Replies (Some command.Encode) input r = r ≡ encode_reply input
+
+-- how often the ends are passed at most for a command and an input: `run` alone passes any
+abbrev pub passes_of : Option Command → List ℕ → ℕ
+passes_of (Some command.Run) input = script_passes (script_of input)
+passes_of _ input = 0

@@ -1,6 +1,6 @@
 //! The command `decode`: sets of data in hexadecimal in, their descriptions out.
 
-ghost use Rattle.std.specs.Prelude.{◌≡◌, ◌≤◌, false, Some, Ok, length, MatchOption};
+ghost use Rattle.std.specs.Prelude.{◌≡◌, ℕ, ◌≤◌, false, Some, Ok, length, MatchOption};
 ghost use Rattle.call_io.specs.Blocks.{held, sink, way};
 ghost use Rattle.call_io.specs.Ways.{Onward};
 ghost use Rattle.hex.specs.Hex.{decode_of};
@@ -24,7 +24,9 @@ const MOST_OCTETS: usize = 256;
 
 /// Describes the sets of data that the input has in hexadecimal, one on each line. It takes no memory.
 pub(crate) fn decode_sets<I: Source, O: Sink>(input: &mut I, output: &mut Block<'_, O>) -> Status
-    ensures outcome { Outcome (Some command.Decode) (streams_of I.left (held O.held) input.old output.old) (streams_of I.left (held O.held) input.new output.new) result }
+    ensures outcome { (passes : ℕ) → Outcome (Some command.Decode)
+        (streams_of I.left (held O.held) input.old output.old passes)
+        (streams_of I.left (held O.held) input.new output.new passes) result }
     ensures in_place { result ≡ Status.Memory → ⊥ }
     ensures unread { ReadCause result (I.faults input.old) (I.faults input.new) }
     ensures unwritten { WriteCause result (O.faults (sink output.old)) (O.faults (sink output.new)) }
@@ -48,10 +50,14 @@ fn next_set<I: Source, O: Sink>(
     output: &mut Block<'_, O>,
 ) -> Option<Status>
     requires { lines.old.failed ≡ false }
-    ensures turns { (start : Streams) → SetsStanding start (streams_of I.left (held O.held) input.old output.old) lines.old → SetTurns start (streams_of I.left (held O.held) input.new output.new) lines.old lines.new result }
+    ensures turns { (start : Streams) (passes : ℕ) →
+        SetsStanding start (streams_of I.left (held O.held) input.old output.old passes) lines.old →
+        SetTurns start (streams_of I.left (held O.held) input.new output.new passes) lines.old lines.new result }
     ensures in_place { result ≡ Some Status.Memory → ⊥ }
-    ensures unread { MatchOption result (I.faults input.new ≡ I.faults input.old) (λ answer. ReadCause answer (I.faults input.old) (I.faults input.new)) }
-    ensures unwritten { MatchOption result (O.faults (sink output.new) ≡ O.faults (sink output.old)) (λ answer. WriteCause answer (O.faults (sink output.old)) (O.faults (sink output.new))) }
+    ensures unread { MatchOption result (I.faults input.new ≡ I.faults input.old)
+        (λ answer. ReadCause answer (I.faults input.old) (I.faults input.new)) }
+    ensures unwritten { MatchOption result (O.faults (sink output.new) ≡ O.faults (sink output.old))
+        (λ answer. WriteCause answer (O.faults (sink output.old)) (O.faults (sink output.new))) }
     ensures reads_counted { I.faults input.old ≤ I.faults input.new }
     ensures writes_counted { O.faults (sink output.old) ≤ O.faults (sink output.new) }
     ensures onward { Onward (way O.held output.old) (way O.held output.new) }
@@ -70,8 +76,10 @@ fn next_set<I: Source, O: Sink>(
 
 /// Describes the set of a line.
 fn decode_line<O: Sink>(line: &Line<'_>, output: &mut O) -> Option<Status>
-    ensures decodes { DecodesLine (some_octets (octets_of_word (only_word_of (words line.now.text)))) line.now.number (O.held output.old) (O.held output.new) result }
-    ensures unwritten { MatchOption result (O.faults output.new ≡ O.faults output.old) (λ answer. WriteCause answer (O.faults output.old) (O.faults output.new)) }
+    ensures decodes { DecodesLine (some_octets (octets_of_word (only_word_of (words line.now.text)))) line.now.number
+        (O.held output.old) (O.held output.new) result }
+    ensures unwritten { MatchOption result (O.faults output.new ≡ O.faults output.old)
+        (λ answer. WriteCause answer (O.faults output.old) (O.faults output.new)) }
     ensures counted { O.faults output.old ≤ O.faults output.new }
     ensures onward { Onward (O.way output.old) (O.way output.new) }
 {
@@ -84,8 +92,10 @@ fn decode_line<O: Sink>(line: &Line<'_>, output: &mut O) -> Option<Status>
 /// Describes the set that stands in hexadecimal.
 fn decode_word<O: Sink>(number: u32, word: &[u8], output: &mut O) -> Option<Status>
     requires { length word.now ≤ most_in_line }
-    ensures decodes { DecodesLine (some_octets (octets_in (decode_of word.now))) number (O.held output.old) (O.held output.new) result }
-    ensures unwritten { MatchOption result (O.faults output.new ≡ O.faults output.old) (λ answer. WriteCause answer (O.faults output.old) (O.faults output.new)) }
+    ensures decodes { DecodesLine (some_octets (octets_in (decode_of word.now))) number
+        (O.held output.old) (O.held output.new) result }
+    ensures unwritten { MatchOption result (O.faults output.new ≡ O.faults output.old)
+        (λ answer. WriteCause answer (O.faults output.old) (O.faults output.new)) }
     ensures counted { O.faults output.old ≤ O.faults output.new }
     ensures onward { Onward (O.way output.old) (O.way output.new) }
 {
@@ -100,7 +110,8 @@ fn decode_word<O: Sink>(number: u32, word: &[u8], output: &mut O) -> Option<Stat
 /// Describes the set that the octets show.
 fn decode_set<O: Sink>(number: u32, octets: &[u8], output: &mut O) -> Option<Status>
     ensures decodes { DecodesLine (Ok (Some octets.now)) number (O.held output.old) (O.held output.new) result }
-    ensures unwritten { MatchOption result (O.faults output.new ≡ O.faults output.old) (λ answer. WriteCause answer (O.faults output.old) (O.faults output.new)) }
+    ensures unwritten { MatchOption result (O.faults output.new ≡ O.faults output.old)
+        (λ answer. WriteCause answer (O.faults output.old) (O.faults output.new)) }
     ensures counted { O.faults output.old ≤ O.faults output.new }
     ensures onward { Onward (O.way output.old) (O.way output.new) }
 {

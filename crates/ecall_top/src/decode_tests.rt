@@ -10,15 +10,53 @@ use trace_text::Reason;
 /// A car that runs on petrol, its set made by the airbag and its place to be trusted.
 pub(crate) const PETROL: &str = "02000681d54970d65c3597ca0420c414640af05f080452e9960413e2550168";
 
-pub(crate) const PETROL_SAYS: &str =
-    "format 2\nmessage 1\nautomatic yes\ntest no\ntrusted yes\nkind M1\nvin WM9VDSVDSYA123456\nfuel 1000000\nfuel_more none\ntime 1577836800 2020-01-01T00:00:00Z\nlatitude 173880000\nlongitude 41700000\nheading 45\nbefore1 none\nbefore2 none\npassengers none\nset_more none\nextra none\nmessage_more none\nremarks none\n";
+pub(crate) const PETROL_SAYS: &str = "format 2
+message 1
+automatic yes
+test no
+trusted yes
+kind M1
+vin WM9VDSVDSYA123456
+fuel 1000000
+fuel_more none
+time 1577836800 2020-01-01T00:00:00Z
+latitude 173880000
+longitude 41700000
+heading 45
+before1 none
+before2 none
+passengers none
+set_more none
+extra none
+message_more none
+remarks none
+";
 
 /// A set with additions in each of its sections and an added kind, as an independent model of the format wrote it.
 const ADDED: &str =
     "02f14c403a0b2d34aa4cbc00441c80e93bbbf010151d6bf38972c190b43c32eb971b4800597604000000000000002fe07af1cc002e20206531b000";
 
-const ADDED_SAYS: &str =
-    "format 2\nmessage 83\nautomatic no\ntest no\ntrusted no\nkind added 0\nvin W1STTMJSX028EG7JW\nfuel 1011101\nfuel_more 1 0:51\ntime 3602856087 2084-03-02T17:21:27Z\nlatitude -1407644861\nlongitude 1127135601\nheading 180\nbefore1 0 -423\nbefore2 none\npassengers none\nset_more 60 6:7f\nextra d78e60 71\nmessage_more 1 0:298d80\nremarks latitude longitude heading\n";
+const ADDED_SAYS: &str = "format 2
+message 83
+automatic no
+test no
+trusted no
+kind added 0
+vin W1STTMJSX028EG7JW
+fuel 1011101
+fuel_more 1 0:51
+time 3602856087 2084-03-02T17:21:27Z
+latitude -1407644861
+longitude 1127135601
+heading 180
+before1 0 -423
+before2 none
+passengers none
+set_more 60 6:7f
+extra d78e60 71
+message_more 1 0:298d80
+remarks latitude longitude heading
+";
 
 /// The status of a set that is refused on the first line.
 fn no_set(place: u32, reason: SetReason, value: u64) -> Status {

@@ -1,6 +1,6 @@
 //! The command `encode`: facts of a vehicle in, the octets of the sets that fit them out.
 
-ghost use Rattle.std.specs.Prelude.{◌≡◌, ◌≤◌, List, OnErr, OnOk, false, length, Some, MatchOption};
+ghost use Rattle.std.specs.Prelude.{◌≡◌, ℕ, ◌≤◌, List, OnErr, OnOk, false, length, Some, MatchOption};
 ghost use Rattle.call_io.specs.Blocks.{held, sink, way};
 ghost use Rattle.call_io.specs.Bytes.{Grew, GrewPartly};
 ghost use Rattle.call_io.specs.Counts.{Rose};
@@ -28,7 +28,9 @@ const LONGEST_LINE: usize = 281;
 
 /// Writes the sets that the lines of the input ask for, each of the facts so far. It takes no memory.
 pub(crate) fn encode_sets<I: Source, O: Sink>(input: &mut I, output: &mut Block<'_, O>) -> Status
-    ensures outcome { Outcome (Some command.Encode) (streams_of I.left (held O.held) input.old output.old) (streams_of I.left (held O.held) input.new output.new) result }
+    ensures outcome { (passes : ℕ) → Outcome (Some command.Encode)
+        (streams_of I.left (held O.held) input.old output.old passes)
+        (streams_of I.left (held O.held) input.new output.new passes) result }
     ensures in_place { result ≡ Status.Memory → ⊥ }
     ensures unread { ReadCause result (I.faults input.old) (I.faults input.new) }
     ensures unwritten { WriteCause result (O.faults (sink output.old)) (O.faults (sink output.new)) }
@@ -54,10 +56,15 @@ fn obey_next<I: Source, O: Sink>(
     output: &mut Block<'_, O>,
 ) -> Option<Status>
     requires { lines.old.failed ≡ false }
-    ensures turns { (start : Streams) → EncodeStanding start (streams_of I.left (held O.held) input.old output.old) lines.old draft.old → EncodeTurn start (streams_of I.left (held O.held) input.new output.new) lines.old lines.new draft.new result }
+    ensures turns { (start : Streams) (passes : ℕ) →
+        EncodeStanding start (streams_of I.left (held O.held) input.old output.old passes) lines.old draft.old →
+        EncodeTurn start (streams_of I.left (held O.held) input.new output.new passes) lines.old lines.new draft.new
+        result }
     ensures in_place { result ≡ Some Status.Memory → ⊥ }
-    ensures unread { MatchOption result (I.faults input.new ≡ I.faults input.old) (λ answer. ReadCause answer (I.faults input.old) (I.faults input.new)) }
-    ensures unwritten { MatchOption result (O.faults (sink output.new) ≡ O.faults (sink output.old)) (λ answer. WriteCause answer (O.faults (sink output.old)) (O.faults (sink output.new))) }
+    ensures unread { MatchOption result (I.faults input.new ≡ I.faults input.old)
+        (λ answer. ReadCause answer (I.faults input.old) (I.faults input.new)) }
+    ensures unwritten { MatchOption result (O.faults (sink output.new) ≡ O.faults (sink output.old))
+        (λ answer. WriteCause answer (O.faults (sink output.old)) (O.faults (sink output.new))) }
     ensures reads_counted { I.faults input.old ≤ I.faults input.new }
     ensures writes_counted { O.faults (sink output.old) ≤ O.faults (sink output.new) }
     ensures onward { Onward (way O.held output.old) (way O.held output.new) }
@@ -76,9 +83,12 @@ fn obey_next<I: Source, O: Sink>(
 
 /// Carries out a line.
 fn obey<O: Sink>(line: &Line<'_>, draft: &mut Draft, output: &mut O) -> Option<Status>
-    ensures encodes { (facts : List Fact) → DraftOf draft.old facts → EncodesLine facts (encode_placed_line facts (encode_line line.now.text)) line.now.number (O.held output.old) (O.held output.new) draft.new result }
+    ensures encodes { (facts : List Fact) → DraftOf draft.old facts →
+        EncodesLine facts (encode_placed_line facts (encode_line line.now.text)) line.now.number
+        (O.held output.old) (O.held output.new) draft.new result }
     ensures answer { IsOfLine result }
-    ensures unwritten { MatchOption result (O.faults output.new ≡ O.faults output.old) (λ answer. WriteCause answer (O.faults output.old) (O.faults output.new)) }
+    ensures unwritten { MatchOption result (O.faults output.new ≡ O.faults output.old)
+        (λ answer. WriteCause answer (O.faults output.old) (O.faults output.new)) }
     ensures counted { O.faults output.old ≤ O.faults output.new }
     ensures onward { Onward (O.way output.old) (O.way output.new) }
 {
@@ -98,9 +108,12 @@ fn take_fact<O: Sink>(
     draft: &mut Draft,
     output: &mut O,
 ) -> Option<Status>
-    ensures encodes { (facts : List Fact) → DraftOf draft.old facts → EncodesLine facts (encode_placed facts (says.Fact fact)) line (O.held output.old) (O.held output.new) draft.new result }
+    ensures encodes { (facts : List Fact) → DraftOf draft.old facts →
+        EncodesLine facts (encode_placed facts (says.Fact fact)) line
+        (O.held output.old) (O.held output.new) draft.new result }
     ensures answer { IsOfLine result }
-    ensures unwritten { MatchOption result (O.faults output.new ≡ O.faults output.old) (λ answer. WriteCause answer (O.faults output.old) (O.faults output.new)) }
+    ensures unwritten { MatchOption result (O.faults output.new ≡ O.faults output.old)
+        (λ answer. WriteCause answer (O.faults output.old) (O.faults output.new)) }
     ensures counted { O.faults output.old ≤ O.faults output.new }
     ensures onward { Onward (O.way output.old) (O.way output.new) }
 {
@@ -119,9 +132,12 @@ fn write_asked<O: Sink>(
     draft: &Draft,
     output: &mut O,
 ) -> Option<Status>
-    ensures encodes { (facts : List Fact) → DraftOf draft.now facts → EncodesLine facts (encode_placed facts (says.Write cause number)) line (O.held output.old) (O.held output.new) draft.now result }
+    ensures encodes { (facts : List Fact) → DraftOf draft.now facts →
+        EncodesLine facts (encode_placed facts (says.Write cause number)) line
+        (O.held output.old) (O.held output.new) draft.now result }
     ensures answer { IsOfLine result }
-    ensures unwritten { MatchOption result (O.faults output.new ≡ O.faults output.old) (λ answer. WriteCause answer (O.faults output.old) (O.faults output.new)) }
+    ensures unwritten { MatchOption result (O.faults output.new ≡ O.faults output.old)
+        (λ answer. WriteCause answer (O.faults output.old) (O.faults output.new)) }
     ensures counted { O.faults output.old ≤ O.faults output.new }
     ensures onward { Onward (O.way output.old) (O.way output.new) }
 {
@@ -141,8 +157,10 @@ fn write_set<O: Sink>(
     number: u8,
     output: &mut O,
 ) -> Result<(), Failed>
-    ensures whole { OnOk result (Grew (O.held output.old) (O.held output.new) (octets_line (fits own.now cause number))) }
-    ensures partly { OnErr result (GrewPartly (O.held output.old) (O.held output.new) (octets_line (fits own.now cause number))) }
+    ensures whole { OnOk result
+        (Grew (O.held output.old) (O.held output.new) (octets_line (fits own.now cause number))) }
+    ensures partly { OnErr result
+        (GrewPartly (O.held output.old) (O.held output.new) (octets_line (fits own.now cause number))) }
     ensures cause { OnErr result (Rose (O.faults output.old) (O.faults output.new)) }
     ensures stood { OnOk result (O.faults output.new ≡ O.faults output.old) }
     ensures counted { O.faults output.old ≤ O.faults output.new }

@@ -11,5 +11,6 @@ pub fn reply_laws()
     // Each input has a reply.
     ensures replied { (asked : Option Command) (input : List ℕ) → (reply : Reply) × Replies asked input reply }
     // It has no other.
-    ensures one { (asked : Option Command) (input : List ℕ) (r s : Reply) → Replies asked input r → Replies asked input s → r ≡ s }
+    ensures one { (asked : Option Command) (input : List ℕ) (r s : Reply) →
+        Replies asked input r → Replies asked input s → r ≡ s }
 {}

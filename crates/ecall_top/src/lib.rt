@@ -5,12 +5,12 @@ ghost use Rattle.std.specs.Prelude.{◌≡◌, ◌≤◌, ◌⊎◌, [], List, �
 ghost use Rattle.std.specs.String.{string_bytes};
 ghost use Rattle.call_io.specs.Blocks.{held, pending, sink, sink_name, way};
 ghost use Rattle.call_io.specs.Ways.{Onward};
-ghost use Rattle.trace_text.specs.Safety.{Agreed};
+ghost use Rattle.trace_text.specs.Safety.{Agreed, Bounded, Finished, Opened};
 ghost use Rattle.trace_text.specs.Script.{script_of};
 ghost use Rattle.ecall_top.specs.Commands.{command_of};
 ghost use Rattle.ecall_top.specs.Outcome.{Outcome, ReadCause, WriteCause, streams_of};
 ghost use Rattle.ecall_top.specs.Replies.{usage_line};
-ghost use Rattle.ecall_top.specs.Run.{script_trace};
+ghost use Rattle.ecall_top.specs.Run.{script_tick, script_trace};
 ghost use Rattle.ecall_top.specs.inner.Ends.{EndsWithText, HandsOver};
 
 #[cfg(test)]
@@ -32,14 +32,18 @@ mod stage;
 mod status;
 #[cfg(test)]
 mod tests;
+#[cfg(test)]
+mod time_tests;
 
 use crate::command::read_command;
 use call_io::{Block, Sink, Source, write_all};
 pub use command::Command;
 pub use laws::reply_laws;
+use link_frames::Steps;
 pub use refusal::Refused;
 pub use status::Status;
 use std::alloc::Global;
+use std::sync::ledger::Ledger;
 
 /// What the program says to words that are no form of words. It names the commands that are planned, too.
 const USAGE: &[u8] =
@@ -53,21 +57,33 @@ const USAGE: &[u8] =
 /// twenty lines. `encode` reads facts of a vehicle, and lines that ask for a set; it writes the octets of the set that
 /// fits the facts so far in hexadecimal, one a line. Other words write the usage line.
 ///
-/// What is written is handed to `output` in blocks: where one is full, before each read of `input`, and at the end. After
-/// a failed read or write nothing more is read or written.
-pub fn ecall<I: Source, O: Sink>(
+/// What is written is handed to `output` in blocks: where one is full, before each read of `input`, and at the end.
+/// After a failed read or write nothing more is read or written. `moments` counts how often `run` passes an end of a
+/// call.
+pub fn ecall<I: Source, O: Sink, L: Ledger>(
     alloc: Global,
     words: &[String],
     input: &mut I,
     output: &mut O,
+    moments: &mut Steps<L>,
 ) -> Status
-    // What was taken, what was written, and that it is the reply to the words and the input.
-    ensures outcome { Outcome (command_of (map string_bytes words.now)) (streams_of I.left O.held input.old output.old) (streams_of I.left O.held input.new output.new) result }
-    // Every acknowledged set was shown earlier by the point for that call, octet for octet: in the trace of every script.
+    // What was taken, what was written, and that it is the reply to the words and the input; and that ends were passed
+    // no more often than the input gives reason for.
+    ensures outcome { Outcome (command_of (map string_bytes words.now))
+        (streams_of I.left O.held input.old output.old moments.old)
+        (streams_of I.left O.held input.new output.new moments.new) result }
+    // In the trace of every script, every acknowledged set was shown earlier by the point for that call, octet for octet.
     ensures agreed { (script : List ℕ) → Agreed (script_trace (script_of script)) }
-
+    // Where a wait for data ends, or a fault comes, a muted voice opens at once, also behind the last line.
+    ensures opened { (script : List ℕ) → Opened (script_trace (script_of script)) }
+    ensures finished { (script : List ℕ) → Finished (script_trace (script_of script)) }
+    // No end's voice is muted for longer than its limit, up to the tick at which the script ends.
+    ensures bounded { (script : List ℕ) → Bounded (script_trace (script_of script)) (script_tick (script_of script)) }
     // Words that name no command get the usage line unless writing fails.
-    ensures usage { command_of (map string_bytes words.now) ≡ None → (result ≡ Status.Usage) ⊎ (result ≡ Status.WriteFault) }
+    ensures usage { command_of (map string_bytes words.now) ≡ None →
+        (result ≡ Status.Usage) ⊎ (result ≡ Status.WriteFault) }
+    // Ends are passed by `run` alone.
+    ensures uncounted { (command_of (map string_bytes words.now) ≡ Some Command.Run) ⊎ (moments.new ≡ moments.old) }
     // Memory is wanted by `run` alone: decoding, encoding and the usage line take none.
     ensures in_place { result ≡ Status.Memory → command_of (map string_bytes words.now) ≡ Some Command.Run }
     // A read failed where the answer says so, and else none did; the same of writes.
@@ -77,19 +93,24 @@ pub fn ecall<I: Source, O: Sink>(
     ensures writes_counted { O.faults output.old ≤ O.faults output.new }
 {
     let mut block = Block::over(output);
-    carry_out(alloc, words, input, &mut block)
+    carry_out(alloc, words, input, &mut block, moments)
 }
 
 /// Carries out the command over a block with nothing pending, and hands the sink all that it wrote.
-fn carry_out<I: Source, O: Sink>(
+fn carry_out<I: Source, O: Sink, L: Ledger>(
     alloc: Global,
     words: &[String],
     input: &mut I,
     output: &mut Block<'_, O>,
+    moments: &mut Steps<L>,
 ) -> Status
     requires { pending output.old ≡ [] }
-    ensures outcome { Outcome (command_of (map string_bytes words.now)) (streams_of I.left (λ block. O.held (sink block)) input.old output.old) (streams_of I.left (λ block. O.held (sink block)) input.new output.new) result }
-    ensures usage { command_of (map string_bytes words.now) ≡ None → (result ≡ Status.Usage) ⊎ (result ≡ Status.WriteFault) }
+    ensures outcome { Outcome (command_of (map string_bytes words.now))
+        (streams_of I.left (λ block. O.held (sink block)) input.old output.old moments.old)
+        (streams_of I.left (λ block. O.held (sink block)) input.new output.new moments.new) result }
+    ensures usage { command_of (map string_bytes words.now) ≡ None →
+        (result ≡ Status.Usage) ⊎ (result ≡ Status.WriteFault) }
+    ensures uncounted { (command_of (map string_bytes words.now) ≡ Some Command.Run) ⊎ (moments.new ≡ moments.old) }
     ensures in_place { result ≡ Status.Memory → command_of (map string_bytes words.now) ≡ Some Command.Run }
     ensures unread { ReadCause result (I.faults input.old) (I.faults input.new) }
     ensures unwritten { WriteCause result (O.faults (sink output.old)) (O.faults (sink output.new)) }
@@ -97,19 +118,24 @@ fn carry_out<I: Source, O: Sink>(
     ensures writes_counted { O.faults (sink output.old) ≤ O.faults (sink output.new) }
     ensures same_sink { sink_name output.new ≡ sink_name output.old }
 {
-    let status = reply(alloc, words, input, output);
+    let status = reply(alloc, words, input, output, moments);
     hand_over(status, output)
 }
 
 /// Carries out the command over a block, which may keep some of what was written pending.
-fn reply<I: Source, O: Sink>(
+fn reply<I: Source, O: Sink, L: Ledger>(
     alloc: Global,
     words: &[String],
     input: &mut I,
     output: &mut Block<'_, O>,
+    moments: &mut Steps<L>,
 ) -> Status
-    ensures outcome { Outcome (command_of (map string_bytes words.now)) (streams_of I.left (held O.held) input.old output.old) (streams_of I.left (held O.held) input.new output.new) result }
-    ensures usage { command_of (map string_bytes words.now) ≡ None → (result ≡ Status.Usage) ⊎ (result ≡ Status.WriteFault) }
+    ensures outcome { Outcome (command_of (map string_bytes words.now))
+        (streams_of I.left (held O.held) input.old output.old moments.old)
+        (streams_of I.left (held O.held) input.new output.new moments.new) result }
+    ensures usage { command_of (map string_bytes words.now) ≡ None →
+        (result ≡ Status.Usage) ⊎ (result ≡ Status.WriteFault) }
+    ensures uncounted { (command_of (map string_bytes words.now) ≡ Some Command.Run) ⊎ (moments.new ≡ moments.old) }
     ensures in_place { result ≡ Status.Memory → command_of (map string_bytes words.now) ≡ Some Command.Run }
     ensures unread { ReadCause result (I.faults input.old) (I.faults input.new) }
     ensures unwritten { WriteCause result (O.faults (sink output.old)) (O.faults (sink output.new)) }
@@ -118,7 +144,7 @@ fn reply<I: Source, O: Sink>(
     ensures onward { Onward (way O.held output.old) (way O.held output.new) }
 {
     match read_command(words) {
-        Some(Command::Run) => run::run(alloc, input, output),
+        Some(Command::Run) => run::run(alloc, input, output, moments),
         Some(Command::Decode) => decode::decode_sets(input, output),
         Some(Command::Encode) => encode::encode_sets(input, output),
         None => usage(output),
@@ -142,7 +168,8 @@ fn usage<O: Sink>(output: &mut O) -> Status
 fn hand_over<O: Sink>(status: Status, output: &mut Block<'_, O>) -> Status
     ensures over { HandsOver status (pending output.new) result }
     ensures kept { held O.held output.new ≡ held O.held output.old }
-    ensures unwritten { (before : ℕ) → WriteCause status before (O.faults (sink output.old)) → WriteCause result before (O.faults (sink output.new)) }
+    ensures unwritten { (before : ℕ) → WriteCause status before (O.faults (sink output.old)) →
+        WriteCause result before (O.faults (sink output.new)) }
     ensures counted { O.faults (sink output.old) ≤ O.faults (sink output.new) }
     ensures onward { Onward (way O.held output.old) (way O.held output.new) }
 {

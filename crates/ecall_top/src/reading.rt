@@ -21,9 +21,12 @@ pub(crate) fn read_line<I: Source, O: Sink>(
     output: &mut Block<'_, O>,
 ) -> Result<bool, Status>
     requires { lines.old.failed ≡ false }
-    ensures reads { ReadsOn lines.old lines.new (I.left input.old) (I.left input.new) (held O.held output.old) (held O.held output.new) result }
-    ensures unread { MatchResult result (λ _. I.faults input.new ≡ I.faults input.old) (λ answer. ReadCause answer (I.faults input.old) (I.faults input.new)) }
-    ensures unwritten { MatchResult result (λ _. O.faults (sink output.new) ≡ O.faults (sink output.old)) (λ answer. WriteCause answer (O.faults (sink output.old)) (O.faults (sink output.new))) }
+    ensures reads { ReadsOn lines.old lines.new (I.left input.old) (I.left input.new)
+        (held O.held output.old) (held O.held output.new) result }
+    ensures unread { MatchResult result (λ _. I.faults input.new ≡ I.faults input.old)
+        (λ answer. ReadCause answer (I.faults input.old) (I.faults input.new)) }
+    ensures unwritten { MatchResult result (λ _. O.faults (sink output.new) ≡ O.faults (sink output.old))
+        (λ answer. WriteCause answer (O.faults (sink output.old)) (O.faults (sink output.new))) }
     ensures reads_counted { I.faults input.old ≤ I.faults input.new }
     ensures writes_counted { O.faults (sink output.old) ≤ O.faults (sink output.new) }
     ensures onward { Onward (way O.held output.old) (way O.held output.new) }

@@ -81,7 +81,8 @@ pub(crate) fn refuse<O: Sink>(why: Refused, output: &mut O) -> Status
 
 /// Refuses the line of this number, and ends the command with that.
 pub(crate) fn refuse_line<O: Sink>(line: u32, reason: Reason, output: &mut O) -> Status
-    ensures ends { let why = refused.Line (record { line = line; reason = reason }) in EndsWithText (O.held output.old) (O.held output.new) (refusal_line why) (Status.Refused why) result }
+    ensures ends { let why = refused.Line (record { line = line; reason = reason }) in
+        EndsWithText (O.held output.old) (O.held output.new) (refusal_line why) (Status.Refused why) result }
     ensures unwritten { WriteCause result (O.faults output.old) (O.faults output.new) }
     ensures counted { O.faults output.old ≤ O.faults output.new }
     ensures onward { Onward (O.way output.old) (O.way output.new) }

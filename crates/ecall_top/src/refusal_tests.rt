@@ -104,12 +104,7 @@ fn refuses_each_event_without_its_facts(rt: HostRuntime) -> Result<(), Fail> {
         let status = bad(3, Reason::Missing);
         expect_run(&rt, alloc, facts, "answer", status, "refused 3 7\n")?;
     }
-    let events = [
-        "trigger auto",
-        "answer",
-        "deliver up 1 1",
-        "deliver down 1 1",
-    ];
+    let events = ["trigger auto", "answer", "deliver up 1 1", "tick 1"];
     for event in &events {
         let status = bad(1, Reason::Missing);
         expect_run(&rt, alloc, "", event, status, "refused 1 7\n")?;

@@ -1,21 +1,26 @@
 //! What a script that is being played has come to.
 
-ghost use Rattle.std.specs.Prelude.{◌+◌, ◌<◌, ◌≤◌, List};
+ghost use Rattle.std.specs.Prelude.{◌≡◌, ℕ, ◌+◌, ◌^◌, ◌<◌, ◌≤◌, List, []};
 ghost use Rattle.trace_text.specs.declared.event.Event.{Event};
-ghost use Rattle.trace_text.specs.Script.{Said};
+ghost use Rattle.trace_text.specs.Script.{Said, nothing_said};
+ghost use Rattle.channel_sim.specs.Lines as lines;
 ghost use Rattle.channel_sim.specs.World as model;
-ghost use Rattle.channel_sim.specs.WorldStands.{WorldStandsFor, calls_drawn};
-ghost use Rattle.ecall_top.specs.inner.Stage.{HaltWriteCause, StageStandsFor, Obeys, PlaysEvent, Learns, calls_in};
+ghost use Rattle.channel_sim.specs.WorldStands.{WorldStandsFor, calls_drawn, ticks_reached};
+ghost use Rattle.trace_text.specs.declared.script.ScriptLine.TheVariants as line;
+ghost use Rattle.ecall_top.specs.inner.Stage.{HaltWriteCause, Learns, Obeys, PlaysEvent};
+ghost use Rattle.ecall_top.specs.inner.Stage.{StageStandsFor, calls_in, ticks_in};
 
 use channel_sim::{SimFault, World};
+use link_frames::Steps;
 use std::alloc::Global;
+use std::sync::ledger::Ledger;
 use trace_text::{Draft, Event, FactLine, Listener, Reason, ScriptLine};
 
 /// What the lines so far have come to: facts, and from the first event line on a world.
 #[derive(Drop)]
-pub(crate) enum Stage {
-    Facts(Draft),
-    Playing(World),
+pub(crate) struct Stage {
+    draft: Draft,
+    world: Option<World>,
 }
 
 /// Why a line isn't played to its end.
@@ -25,84 +30,114 @@ pub(crate) enum Halt {
     Sim(SimFault),
 }
 
-/// Plays one event in a world.
-fn play<H: Listener>(world: World, alloc: Global, event: &Event, to: &mut H) -> Result<Stage, Halt>
-    requires { calls_drawn world < 4294967295 }
-    ensures played { (w : model.World) → WorldStandsFor world w → PlaysEvent (H.grew to.old to.new) (H.partly to.old to.new) world (model.step w event.now) result }
-    ensures unwritten { HaltWriteCause result (H.faults to.old) (H.faults to.new) }
-    ensures counted { H.faults to.old ≤ H.faults to.new }
-{
-    match world.step(alloc, event, to) {
-        Ok(next) => Ok(Stage::Playing(next)),
-        Err(fault) => Err(Halt::Sim(fault)),
-    }
-}
-
 /// Adds a fact line in front of the first event line.
-fn learn(mut draft: Draft, fact: &FactLine) -> Result<Stage, Halt>
-    ensures { Learns draft fact.now result }
+fn learn(draft: &mut Draft, fact: &FactLine) -> Result<(), Halt>
+    ensures { Learns draft.old draft.new fact.now result }
 {
     if draft.add(*fact) {
-        Ok(Stage::Facts(draft))
+        Ok(())
     } else {
         Err(Halt::Refused(Reason::Many))
     }
 }
 
-/// Plays a line behind these facts.
-fn begin<H: Listener>(
-    draft: Draft,
-    alloc: Global,
-    says: &ScriptLine,
-    to: &mut H,
-) -> Result<Stage, Halt>
-    ensures obeys { (said : Said) (events : List Event) → StageStandsFor (Stage.Facts draft) said events → Obeys (H.grew to.old to.new) (H.partly to.old to.new) (Stage.Facts draft) said events says.now result }
-    ensures unwritten { HaltWriteCause result (H.faults to.old) (H.faults to.new) }
-    ensures counted { H.faults to.old ≤ H.faults to.new }
+/// A line lets fewer than 2^32 ticks pass. This does nothing: its contract is that law.
+fn ticks_are_few(event: &Event)
+    ensures { (n : ℕ) → event.now ≡ Event.Tick n → n < 2 ^ 32 }
 {
-    match says {
-        ScriptLine::Fact(fact) => learn(draft, fact),
-        ScriptLine::Event(event) => match draft.facts() {
-            None => Err(Halt::Refused(Reason::Missing)),
-            Some(facts) => play(World::new(alloc, facts), alloc, event, to),
-        },
-    }
-}
-
-/// Plays a line in a world.
-fn go_on<H: Listener>(
-    world: World,
-    alloc: Global,
-    says: &ScriptLine,
-    to: &mut H,
-) -> Result<Stage, Halt>
-    requires { calls_drawn world < 4294967295 }
-    ensures obeys { (said : Said) (events : List Event) → StageStandsFor (Stage.Playing world) said events → Obeys (H.grew to.old to.new) (H.partly to.old to.new) (Stage.Playing world) said events says.now result }
-    ensures unwritten { HaltWriteCause result (H.faults to.old) (H.faults to.new) }
-    ensures counted { H.faults to.old ≤ H.faults to.new }
-{
-    match says {
-        ScriptLine::Fact(_) => Err(Halt::Refused(Reason::Late)),
-        ScriptLine::Event(event) => play(world, alloc, event, to),
+    if let Event::Tick(n) = event {
+        n.number();
     }
 }
 
 impl Stage {
-    /// Plays one line: a fact in front of the first event, or an event.
-    pub(crate) fn obey<H: Listener>(
-        self,
+    /// Before any line.
+    pub(crate) fn new() -> Stage
+        ensures stands { StageStandsFor result nothing_said [] }
+        ensures calls { calls_in result ≡ 0 }
+        ensures ticks { ticks_in result ≡ 0 }
+    {
+        Stage {
+            draft: Draft::new(),
+            world: None,
+        }
+    }
+
+    /// Plays one line: a fact in front of the first event, or an event. Where a fault of the simulation is answered,
+    /// the stage is spent.
+    pub(crate) fn obey<H: Listener, L: Ledger>(
+        &mut self,
         alloc: Global,
         says: &ScriptLine,
         to: &mut H,
-    ) -> Result<Stage, Halt>
-        requires { calls_in self < 4294967295 }
-        ensures obeys { (said : Said) (events : List Event) → StageStandsFor self said events → Obeys (H.grew to.old to.new) (H.partly to.old to.new) self said events says.now result }
+        moments: &mut Steps<L>,
+    ) -> Result<(), Halt>
+        requires few { calls_in self.old < 4294967295 }
+        requires soon { ticks_in self.old + 4294967295 < 2 ^ 64 }
+        ensures obeys { (said : Said) (events : List Event) → StageStandsFor self.old said events →
+            Obeys (H.grew to.old to.new) (H.partly to.old to.new) (λ n. moments.new ≤ moments.old + n)
+            self.old self.new said events says.now result }
         ensures unwritten { HaltWriteCause result (H.faults to.old) (H.faults to.new) }
         ensures counted { H.faults to.old ≤ H.faults to.new }
     {
-        match self {
-            Stage::Facts(draft) => begin(draft, alloc, says, to),
-            Stage::Playing(world) => go_on(world, alloc, says, to),
+        match says {
+            ScriptLine::Fact(fact) => match self.world {
+                Some(_) => Err(Halt::Refused(Reason::Late)),
+                None => learn(&mut self.draft, fact),
+            },
+            ScriptLine::Event(event) => self.go_on(alloc, event, to, moments),
+        }
+    }
+
+    /// Plays an event: in the world, or in the first one, which knows the facts so far.
+    fn go_on<H: Listener, L: Ledger>(
+        &mut self,
+        alloc: Global,
+        event: &Event,
+        to: &mut H,
+        moments: &mut Steps<L>,
+    ) -> Result<(), Halt>
+        requires few { calls_in self.old < 4294967295 }
+        requires soon { ticks_in self.old + 4294967295 < 2 ^ 64 }
+        ensures obeys { (said : Said) (events : List Event) → StageStandsFor self.old said events →
+            Obeys (H.grew to.old to.new) (H.partly to.old to.new) (λ n. moments.new ≤ moments.old + n)
+            self.old self.new said events (line.Event event.now) result }
+        ensures unwritten { HaltWriteCause result (H.faults to.old) (H.faults to.new) }
+        ensures counted { H.faults to.old ≤ H.faults to.new }
+    {
+        match self.world.take() {
+            Some(world) => self.play(world, alloc, event, to, moments),
+            None => match self.draft.facts() {
+                None => Err(Halt::Refused(Reason::Missing)),
+                Some(facts) => self.play(World::new(alloc, facts), alloc, event, to, moments),
+            },
+        }
+    }
+
+    /// Plays an event in this world, which is the stage's from then on.
+    fn play<H: Listener, L: Ledger>(
+        &mut self,
+        world: World,
+        alloc: Global,
+        event: &Event,
+        to: &mut H,
+        moments: &mut Steps<L>,
+    ) -> Result<(), Halt>
+        requires few { calls_drawn world < 4294967295 }
+        requires soon { ticks_reached world + 4294967295 < 2 ^ 64 }
+        ensures played { (w : model.World) → WorldStandsFor world w →
+            PlaysEvent (H.grew to.old to.new) (H.partly to.old to.new) (λ n. moments.new ≤ moments.old + n)
+            world self.new (lines.step w event.now) (lines.passes_within w event.now) result }
+        ensures unwritten { HaltWriteCause result (H.faults to.old) (H.faults to.new) }
+        ensures counted { H.faults to.old ≤ H.faults to.new }
+    {
+        ticks_are_few(event);
+        match world.step(alloc, event, to, moments) {
+            Ok(next) => {
+                self.world = Some(next);
+                Ok(())
+            }
+            Err(fault) => Err(Halt::Sim(fault)),
         }
     }
 }

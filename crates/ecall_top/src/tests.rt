@@ -1,23 +1,28 @@
 //! What no clause says: that the words of the definitions mean what the protocol's description says, on traces worked
 //! out by hand, and that a run does not give up while memory is at hand.
 
-ghost use Rattle.std.specs.Prelude.{◌<◌, ◌^◌};
+ghost use Rattle.std.specs.Prelude.{◌≡◌, ◌<◌, ◌^◌};
 
 use crate::{Refused, Status, ecall};
 use call_io::{MemSink, MemSource, Sink, Source};
+use link_frames::Steps;
 use std::alloc::{AllocError, Global};
+use std::marker::Brand;
 use std::process::Abort;
+use std::sync::ledger::{Blank, Ledger};
 use std::test::Fail;
 use trace_text::{BadLine, Reason};
 
-/// A set of data; the digits of its 140 octets, for which `H` stands in the expected lines; and its summary, for which `S`
-/// stands there.
+/// A set of data; the digits of its 140 octets, for which `H` stands in the expected lines; and its summary, for which
+/// `S` stands there.
 const SET: &str = "set 02000681d54970d65c3597ca0420c414640af05f080452e9960413e2550168\n";
 
 const DIGITS: &str = "02000681d54970d65c3597ca0420c414640af05f080452e9960413e2550168";
 
 const ZEROS: &str =
-    "00000000000000000000000000000000000000000000000000000000000000000000000000000000000000000000000000000000000000000000000000000000000000000000000000000000000000000000000000000000000000000000000000000000000000000000000000";
+    "000000000000000000000000000000000000000000000000000000000000000000000000000000000000000000\
+    000000000000000000000000000000000000000000000000000000000000000000000000000000000000000000\
+    00000000000000000000000000000000000000";
 
 const SUMMARY: &str = "ok 1 WM9VDSVDSYA123456 1577836800 173880000 41700000";
 
@@ -29,15 +34,32 @@ pub(crate) const FACTS: &str =
 const CALL: &str =
     "trigger auto\nanswer\ndeliver up 1 1\ndeliver down 1 1\ndeliver up 1 2\ndeliver down 1 2\ndeliver down 1 3\n";
 
-const CALL_TRACE: &str =
-    "0 dial 1\n0 up vehicle 1\n0 voice vehicle 1 muted muted\n0 send vehicle 1 init\n0 up point 1\n0 voice point 1 muted muted\n0 send point 1 start 1\n0 send vehicle 1 data 1 0 H\n0 shown 1 1 H S\n0 send point 1 ack 1\n0 send point 1 app 1 positive\n0 acked 1 1 H\n0 voice vehicle 1 open open\n";
+const CALL_TRACE: &str = "0 dial 1
+0 up vehicle 1
+0 voice vehicle 1 muted muted
+0 send vehicle 1 init
+0 up point 1
+0 voice point 1 muted muted
+0 send point 1 start 1
+0 send vehicle 1 data 1 0 H
+0 shown 1 1 H S
+0 send point 1 ack 1
+0 send point 1 app 1 positive
+0 acked 1 1 H
+0 voice vehicle 1 open open
+";
 
 /// What the trace has when the call is up.
-const UP: &str =
-    "0 dial 1\n0 up vehicle 1\n0 voice vehicle 1 muted muted\n0 send vehicle 1 init\n0 up point 1\n0 voice point 1 muted muted\n";
+pub(crate) const UP: &str = "0 dial 1
+0 up vehicle 1
+0 voice vehicle 1 muted muted
+0 send vehicle 1 init
+0 up point 1
+0 voice point 1 muted muted
+";
 
 /// Text with the digits of the set in place of each `H`, and its summary in place of each `S`.
-fn expand(alloc: Global, text: &str) -> Result<String, AllocError> {
+pub(crate) fn expand(alloc: Global, text: &str) -> Result<String, AllocError> {
     let mut all = String::new(alloc);
     for c in text.chars() {
         if c == 'H' {
@@ -68,6 +90,22 @@ pub(crate) fn source(
     Ok(MemSource::new(bytes, most, fails))
 }
 
+/// Carries out these words with a count of its own.
+fn carry_out<I: Source, O: Sink, L: Ledger>(
+    alloc: Global,
+    words: &[String],
+    input: &mut I,
+    output: &mut O,
+    blank: Blank,
+) -> Status
+    requires name { blank.name ≡ L.name }
+    requires parts { blank.parts ≡ L.parts }
+    requires some { 0 < blank.parts }
+{
+    let mut moments = Steps::<L>::start(blank);
+    ecall(alloc, words, input, output, &mut moments)
+}
+
 /// Carries out these words, one by one behind single spaces.
 pub(crate) fn call<I: Source, O: Sink>(
     alloc: Global,
@@ -79,7 +117,7 @@ pub(crate) fn call<I: Source, O: Sink>(
     for word in words.split(' ') {
         list.push(String::from_str(alloc, word)?)?;
     }
-    Ok(ecall(alloc, &list, input, output))
+    Ok(carry_out::<I, O, Brand>(alloc, &list, input, output, Blank::new(1)))
 }
 
 /// The status of a refused line.
@@ -100,17 +138,54 @@ fn plays_scripts(rt: HostRuntime) -> Result<(), Fail> {
         (CALL, Status::Done, CALL_TRACE, ""),
         // Frames before any call, to a call that doesn't exist, and that were never sent.
         (
-            "deliver up 1 1\nanswer\ntrigger auto\ntrigger auto\nanswer\ndeliver down 2 1\ndeliver down 1 1\ndeliver up 2 1\ndeliver up 1 2\n",
+            "deliver up 1 1
+answer
+trigger auto
+trigger auto
+answer
+deliver down 2 1
+deliver down 1 1
+deliver up 2 1
+deliver up 1 2
+",
             Status::Done,
-            "0 nothing\n0 nothing\n0 dial 1\n0 nothing\n0 up vehicle 1\n0 voice vehicle 1 muted muted\n0 send vehicle 1 init\n0 up point 1\n0 voice point 1 muted muted\n",
+            "0 nothing
+0 nothing
+0 dial 1
+0 nothing
+0 up vehicle 1
+0 voice vehicle 1 muted muted
+0 send vehicle 1 init
+0 up point 1
+0 voice point 1 muted muted
+",
             "0 nothing\n0 nothing\n0 nothing\n0 nothing\n",
         ),
         // Frames twice, late, and out of order: the application acknowledgement overtakes the other.
         (
-            "trigger auto\nanswer\ndeliver up 1 1\ndeliver up 1 1\ndeliver down 1 1\ndeliver down 1 1\ndeliver up 1 2\ndeliver up 1 2\ndeliver down 1 3\ndeliver down 1 2\ndeliver down 1 4\n",
+            "trigger auto
+answer
+deliver up 1 1
+deliver up 1 1
+deliver down 1 1
+deliver down 1 1
+deliver up 1 2
+deliver up 1 2
+deliver down 1 3
+deliver down 1 2
+deliver down 1 4
+",
             Status::Done,
             UP,
-            "0 send point 1 start 1\n0 send vehicle 1 data 1 0 H\n0 shown 1 1 H S\n0 send point 1 ack 1\n0 send point 1 app 1 positive\n0 send point 1 ack 1\n0 acked 1 1 H\n0 voice vehicle 1 open open\n",
+            "0 send point 1 start 1
+0 send vehicle 1 data 1 0 H
+0 shown 1 1 H S
+0 send point 1 ack 1
+0 send point 1 app 1 positive
+0 send point 1 ack 1
+0 acked 1 1 H
+0 voice vehicle 1 open open
+",
         ),
         // A fact line behind an event line, and an unknown word, behind comments and empty lines.
         (
@@ -182,28 +257,6 @@ fn refuses_and_ends(rt: HostRuntime) -> Result<(), Fail> {
 }
 
 #[test]
-fn reads_a_byte_at_a_time(rt: HostRuntime) -> Result<(), Fail> {
-    let alloc = rt.alloc();
-    let want = expand(alloc, CALL_TRACE)?;
-    let mut input = source(alloc, &[SET, CALL], 1, Vec::new(alloc))?;
-    let mut output = sink(alloc, Vec::new(alloc))?;
-    assert_eq!(rt; call(alloc, "run", &mut input, &mut output)?, Status::Done);
-    assert_eq!(rt; output.bytes(), want.as_bytes());
-    Ok(())
-}
-
-#[test]
-fn makes_its_set_of_facts(rt: HostRuntime) -> Result<(), Fail> {
-    let alloc = rt.alloc();
-    let want = expand(alloc, CALL_TRACE)?;
-    let mut input = source(alloc, &[FACTS, CALL], 4096, Vec::new(alloc))?;
-    let mut output = sink(alloc, Vec::new(alloc))?;
-    assert_eq!(rt; call(alloc, "run", &mut input, &mut output)?, Status::Done);
-    assert_eq!(rt; output.bytes(), want.as_bytes());
-    Ok(())
-}
-
-#[test]
 fn shows_octets_that_are_no_set(rt: HostRuntime) -> Result<(), Fail> {
     let alloc = rt.alloc();
     let script = "set 03\ntrigger auto\nanswer\ndeliver up 1 1\ndeliver down 1 1\ndeliver up 1 2\n";
@@ -214,14 +267,17 @@ fn shows_octets_that_are_no_set(rt: HostRuntime) -> Result<(), Fail> {
     let mut want = String::from_str(alloc, " 03")?;
     want.push_str(ZEROS)?;
     want.push_str(
-        "000000000000000000000000000000000000000000000000000000000000 refused 0 8 3\n0 send point 1 ack 1\n0 send point 1 app 1 positive\n",
+        "000000000000000000000000000000000000000000000000000000000000 refused 0 8 3
+0 send point 1 ack 1
+0 send point 1 app 1 positive
+",
     )?;
     assert!(rt; output.bytes().ends_with(want.as_bytes()));
     Ok(())
 }
 
-/// Checks that a write that fails ends the first call behind so many lines, where the source gives a byte at a time: those
-/// that one line of the script adds are one write.
+/// Checks that a write that fails ends the first call behind so many lines, where the source gives a byte at a time:
+/// those that one line of the script adds are one write.
 fn expect_cut(rt: &impl Abort, alloc: Global, write: u64, lines: usize) -> Result<(), Fail> {
     let want = expand(alloc, CALL_TRACE)?;
     let mut fails = Vec::new(alloc);

@@ -2,7 +2,10 @@ pub mod BlockLemmas
 pub mod DraftLemmas
 pub mod FactLemmas
 pub mod FeedLemmas
+pub mod Folds
+pub mod Fronts
 pub mod GatherLemmas
+mod HandTraces
 pub mod LinesLemmas
 pub mod NumberLemmas
 pub mod OctetsLemmas

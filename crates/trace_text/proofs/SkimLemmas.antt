@@ -24,7 +24,7 @@ use Rattle.trace_text.proofs.LinesLemmas.{lines_of-line, lines_of-last, lines_of
 -- A front of the bytes is one line, whatever may follow.
 pub record Cuts (old new : Feed) (bytes text : List ℕ) : Type 0 where
   pub piece : List ℕ
-  pub whole : bytes ≡ piece ++ new.pending
+  pub split : bytes ≡ piece ++ new.pending
   pub given : new.given ≡ old.given + length piece
   pub some : 0 < length piece
   pub lines : (more : List ℕ) → MayFollow new more → lines_of (piece ++ more) ≡ text ∷ lines_of more
@@ -32,7 +32,7 @@ pub record Cuts (old new : Feed) (bytes text : List ℕ) : Type 0 where
 -- A front of the bytes begins a line that is refused, whatever may follow.
 pub record CutsBad (old new : Feed) (bytes : List ℕ) (why : Reason) : Type 0 where
   pub piece : List ℕ
-  pub whole : bytes ≡ piece ++ new.pending
+  pub split : bytes ≡ piece ++ new.pending
   pub given : new.given ≡ old.given + length piece
   pub some : 0 < length piece
   pub lines : (more : List ℕ) → MayFollow new more →
@@ -46,7 +46,7 @@ pub Cuts-newline : (old new : Feed) (left left' : Option (List ℕ)) (text : Lis
     → (line : GathersLine old new left left' text (Ok ending.Newline)) → Cuts old new (old.pending ++ line.taken) text
 Cuts-newline old new left left' text line = record {
   piece = text ++ 10 ∷ [];
-  whole = line.gathers.0 ∙ sym (append_assoc text (10 ∷ []) new.pending);
+  split = line.gathers.0 ∙ sym (append_assoc text (10 ∷ []) new.pending);
   given = omega (arith, line.gathers.1, length-push text 10);
   some = omega (arith, length-push text 10);
   lines = λ more _. ap lines_of (append_assoc text (10 ∷ []) more) ∙ lines_of-line text more line.inner;
@@ -57,7 +57,7 @@ pub Cuts-end : (old new : Feed) (left left' : Option (List ℕ)) (text : List �
     → (line : GathersLine old new left left' text (Ok ending.InputEnd)) → 0 < length text → Cuts old new (old.pending ++ line.taken) text
 Cuts-end old new left left' text line some = record {
   piece = text;
-  whole = line.gathers.0 ∙ sym (append-nil text) ∙ ap (λ (r : List ℕ). text ++ r) (sym (line.done line.gathers.1));
+  split = line.gathers.0 ∙ sym (append-nil text) ∙ ap (λ (r : List ℕ). text ++ r) (sym (line.done line.gathers.1));
   given = line.gathers.2;
   some = some;
   lines = λ more follows. let none : more ≡ [] = follows line.gathers.1 in
@@ -65,11 +65,11 @@ Cuts-end old new left left' text line some = record {
       ∙ ap (λ (r : List (List ℕ)). text ∷ r) (sym lines_of-nil) ∙ ap (λ (r : List ℕ). text ∷ lines_of r) (sym none);
 }
 
--- a whole line that is refused
+-- a split line that is refused
 pub CutsBad-line : (old new : Feed) (bytes text : List ℕ) (why : Reason) → Cuts old new bytes text → line_fault text ≡ Some why → CutsBad old new bytes why
 CutsBad-line old new bytes text why cut bad = record {
   piece = cut.piece;
-  whole = cut.whole;
+  split = cut.split;
   given = cut.given;
   some = cut.some;
   lines = λ more follows. (text, lines_of more, cut.lines more follows, bad);
@@ -83,7 +83,7 @@ CutsBad-full old new left left' text line =
     let len : length (text ++ b ∷ []) ≡ 513 = omega (arith, length-push text b, line.gathers.2) in
     record {
       piece = text ++ b ∷ [];
-      whole = line.gathers.3 ∙ sym (append_assoc text (b ∷ []) new.pending);
+      split = line.gathers.3 ∙ sym (append_assoc text (b ∷ []) new.pending);
       given = omega (arith, line.gathers.4, length-push text b);
       some = omega arith;
       lines = λ more _. let long = lines_of-long (text ++ b ∷ []) more (AllByRecursion-push text b line.inner line.gathers.1) (omega arith) in
@@ -97,7 +97,7 @@ pub record Skimmed (old now : Reading) (left left' : Option (List ℕ)) : Type 0
   pub draws : Draws old.feed now.feed left left' taken
   pub front : List ℕ
   pub passed : List (List ℕ)
-  pub whole : old.feed.pending ++ taken ≡ front ++ now.feed.pending
+  pub split : old.feed.pending ++ taken ≡ front ++ now.feed.pending
   pub given : now.feed.given ≡ old.feed.given + length front
   pub each : AllByRecursion IsPassedOver passed
   pub counted : now.lines ≡ old.lines + length passed
@@ -112,7 +112,7 @@ Skimmed-none feed lines text left done few = record {
   draws = Draws-nothing feed left;
   front = [];
   passed = [];
-  whole = append-nil feed.pending;
+  split = append-nil feed.pending;
   given = omega arith;
   each = tt;
   counted = omega arith;
@@ -124,7 +124,7 @@ Skimmed-none feed lines text left done few = record {
 skim_more : (old now : Reading) (left between : Option (List ℕ)) → (so : Skimmed old now left between) → (more piece rest : List ℕ)
     → now.feed.pending ++ more ≡ piece ++ rest → old.feed.pending ++ (so.taken ++ more) ≡ (so.front ++ piece) ++ rest
 skim_more old now left between so more piece rest cut =
-    sym (append_assoc old.feed.pending so.taken more) ∙ ap (λ (r : List ℕ). r ++ more) so.whole ∙ append_assoc so.front now.feed.pending more
+    sym (append_assoc old.feed.pending so.taken more) ∙ ap (λ (r : List ℕ). r ++ more) so.split ∙ append_assoc so.front now.feed.pending more
     ∙ ap (λ (r : List ℕ). so.front ++ r) cut ∙ sym (append_assoc so.front piece rest)
 
 -- nothing is cut behind the end of the input
@@ -146,7 +146,7 @@ lines_behind : (old now : Reading) (new : Feed) (left between left' : Option (Li
 lines_behind old now new left between left' taken text so draws cut more follows =
     let some : 0 < length (cut.piece ++ new.pending) = omega (arith, length-append cut.piece new.pending, cut.some) in
     ap lines_of (append_assoc so.front cut.piece more)
-    ∙ so.lines (cut.piece ++ more) (before_end now.feed new between left' taken cut.piece new.pending so.done draws cut.whole some (cut.piece ++ more))
+    ∙ so.lines (cut.piece ++ more) (before_end now.feed new between left' taken cut.piece new.pending so.done draws cut.split some (cut.piece ++ more))
     ∙ ap (λ (r : List (List ℕ)). so.passed ++ r) (cut.lines more follows)
 
 -- one line more that is passed over
@@ -159,7 +159,7 @@ Skimmed-more old now new left between left' taken text so draws done cut passed 
   draws = Draws-append old.feed now.feed new left between left' so.taken taken so.draws draws;
   front = so.front ++ cut.piece;
   passed = so.passed ++ text ∷ [];
-  whole = skim_more old now left between so taken cut.piece new.pending cut.whole;
+  split = skim_more old now left between so taken cut.piece new.pending cut.split;
   given = omega (arith, so.given, cut.given, length-append so.front cut.piece);
   each = AllByRecursion-one so.passed text so.each passed;
   counted = omega (arith, so.counted, length-append so.passed (text ∷ []));
@@ -181,7 +181,7 @@ ReadsLine-found old now new left between left' taken text so draws done limit cu
     record {
       front = so.front ++ cut.piece;
       passed = so.passed;
-      whole = skim_more old now left between so taken cut.piece new.pending cut.whole;
+      split = skim_more old now left between so taken cut.piece new.pending cut.split;
       given = omega (arith, so.given, cut.given, length-append so.front cut.piece);
       each = so.each;
       last = omega (arith, so.counted);
@@ -207,7 +207,7 @@ ReadsLine-bad old now new left between left' taken text why so draws done limit 
       finds = record {
         front = so.front ++ cut.piece;
         passed = so.passed;
-        whole = skim_more old now left between so taken cut.piece new.pending cut.whole;
+        split = skim_more old now left between so taken cut.piece new.pending cut.split;
         given = omega (arith, so.given, cut.given, length-append so.front cut.piece);
         each = so.each;
         number = omega (arith, so.counted);
@@ -215,7 +215,7 @@ ReadsLine-bad old now new left between left' taken text why so draws done limit 
           bad.0,
           bad.1,
           ap lines_of (append_assoc so.front cut.piece more)
-              ∙ so.lines (cut.piece ++ more) (before_end now.feed new between left' taken cut.piece new.pending so.done draws cut.whole some (cut.piece ++ more))
+              ∙ so.lines (cut.piece ++ more) (before_end now.feed new between left' taken cut.piece new.pending so.done draws cut.split some (cut.piece ++ more))
               ∙ ap (λ (r : List (List ℕ)). so.passed ++ r) bad.2,
           bad.3,
         );
@@ -272,7 +272,7 @@ ReadsLine-fault old now new left between left' text e so line limit = record {
       passed = so.passed;
       «open» = text;
       rest = gathers.0;
-      whole = skim_more old now left between so line.taken text gathers.0 gathers.1 ∙ append_assoc so.front text gathers.0;
+      split = skim_more old now left between so line.taken text gathers.0 gathers.1 ∙ append_assoc so.front text gathers.0;
       full = omega (arith, so.given, gathers.3);
       beyond = beyond;
       each = so.each;
@@ -281,7 +281,7 @@ ReadsLine-fault old now new left between left' text e so line limit = record {
       lines = λ more. so.lines more (before_end now.feed new between left' line.taken text gathers.0 so.done line.draws gathers.1 (omega (arith, length-append text gathers.0)) more);
     }
 
--- what a whole line is
+-- what a split line is
 from_says : (fault : Option Reason) (comment : Bool) → kind_from fault comment ≡ kind.Says → (fault ≡ None) × (comment ≡ false)
 from_says (Some why) comment e = let no : ⊥ = cc in absurd no
 from_says None true e = let no : ⊥ = cc in absurd no

@@ -8,6 +8,7 @@ pub mod FactLines
 pub mod Facts
 pub mod Feed
 pub mod Hexadecimal
+pub mod History
 pub mod Lines
 pub mod Listener
 pub mod Numbers

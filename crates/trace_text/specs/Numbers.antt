@@ -24,7 +24,8 @@ is_plain_number text = list_all is_digit text && nat_lt digit_zero (slice_index 
 
 -- a number from 1 on, below a limit
 abbrev pub positive_below : ℕ → List ℕ → Option ℕ
-positive_below limit text = if is_plain_number text && nat_lt (number_of text) limit then Some (number_of text) else None
+positive_below limit text =
+    if is_plain_number text && nat_lt (number_of text) limit then Some (number_of text) else None
 
 -- a number from 1 to 4294967295
 abbrev pub positive : List ℕ → Option ℕ
@@ -37,6 +38,14 @@ is_natural text = is_plain_number text || bytes_eq text (codes "0")
 -- a number from 0 on, below a limit
 abbrev pub natural_below : ℕ → List ℕ → Option ℕ
 natural_below limit text = if is_natural text && nat_lt (number_of text) limit then Some (number_of text) else None
+
+-- the longest delay of a flow, in ticks
+abbrev pub longest_delay : ℕ
+longest_delay = 1000
+
+-- the delay of a flow
+abbrev pub delay : List ℕ → Option ℕ
+delay text = natural_below (longest_delay + 1) text
 
 -- the negative of a number from 1 to most
 abbrev pub negative_from : ℕ → List ℕ → Option ℤ

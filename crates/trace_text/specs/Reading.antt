@@ -51,7 +51,7 @@ begins_with_line bytes = list_any is_newline bytes && begins_line bytes
 pub record FindsLine (old new : Reading) (bytes : List ℕ) : Type 0 where
   pub front : List ℕ
   pub passed : List (List ℕ)
-  pub whole : bytes ≡ front ++ new.feed.pending
+  pub split : bytes ≡ front ++ new.feed.pending
   pub given : new.feed.given ≡ old.feed.given + length front
   pub each : AllByRecursion IsPassedOver passed
   pub last : new.lines ≡ old.lines + length passed + 1
@@ -71,7 +71,7 @@ pub record FindsEnd (old new : Reading) (bytes : List ℕ) : Type 0 where
 pub record FindsBad (old new : Reading) (bytes : List ℕ) (bad : BadLine) : Type 0 where
   pub front : List ℕ
   pub passed : List (List ℕ)
-  pub whole : bytes ≡ front ++ new.feed.pending
+  pub split : bytes ≡ front ++ new.feed.pending
   pub given : new.feed.given ≡ old.feed.given + length front
   pub each : AllByRecursion IsPassedOver passed
   pub number : bad.line ≡ old.lines + length passed + 1
@@ -86,7 +86,7 @@ pub record FindsTooMany (old : Reading) (bytes : List ℕ) : Type 0 where
   pub passed : List (List ℕ)
   pub «open» : List ℕ
   pub rest : List ℕ
-  pub whole : bytes ≡ front ++ («open» ++ rest)
+  pub split : bytes ≡ front ++ («open» ++ rest)
   pub full : old.feed.given + length front + length «open» ≡ 16777216
   pub beyond : 0 < length rest
   pub each : AllByRecursion IsPassedOver passed

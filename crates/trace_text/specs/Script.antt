@@ -98,7 +98,8 @@ script_from said number [] = record { facts = facts_in said.facts; events = []; 
 script_from said number (text ∷ texts) = elim (judged said text) [
   | Ok None ↦ script_from said (number + 1) texts
   | Ok (Some says) ↦ in_front says (script_from (said_after said says) (number + 1) texts)
-  | Err why ↦ record { facts = facts_in said.facts; events = []; refused = Some (record { line = number; reason = why }) }
+  | Err why ↦
+      record { facts = facts_in said.facts; events = []; refused = Some (record { line = number; reason = why }) }
 ]
 
 -- the script of a text

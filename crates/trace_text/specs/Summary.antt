@@ -47,7 +47,9 @@ structure_in value = component 0 (component 1 value)
 
 -- the parts of an identification number, one behind the other
 abbrev pub joined : Tree → List ℕ
-joined vin = text_in (component 0 vin) ++ (text_in (component 1 vin) ++ (text_in (component 2 vin) ++ text_in (component 3 vin)))
+joined vin =
+    text_in (component 0 vin)
+    ++ (text_in (component 1 vin) ++ (text_in (component 2 vin) ++ text_in (component 3 vin)))
 
 -- the summary of a structure: its message, identification number, timestamp, latitude and longitude
 abbrev pub structure_words : Tree → List (List ℕ)

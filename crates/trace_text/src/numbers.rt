@@ -3,9 +3,9 @@
 ghost use Rattle.std.specs.Prelude.{◌≡◌, ◌<◌, ◌≤◌, ◌^◌, pos, neg_ℤ, ◌≤ℤ◌, ◌<ℤ◌, length, IsTrue, IfSome};
 ghost use Rattle.std.specs.Option.{SomeIff};
 ghost use Rattle.std.specs.List.{list_all};
-ghost use Rattle.trace_text.specs.Numbers.{is_digit, is_plain_number, is_natural as is_natural_number, number_of, positive, positive_below, natural_below, negative_from, signed_natural, signed_within};
+ghost use Rattle.trace_text.specs.Numbers.{delay, is_digit, is_plain_number, is_natural as is_natural_number, number_of, positive, positive_below, natural_below, negative_from, signed_natural, signed_within};
 
-use crate::event::Positive;
+use crate::event::{Delay, Positive};
 use crate::words::is_word;
 
 /// A number from 1 to 4294967295.
@@ -55,6 +55,13 @@ pub fn read_u32(text: &[u8]) -> Option<u32>
     } else {
         None
     }
+}
+
+/// The delay of a flow, 0 to 1000 ticks.
+pub fn read_delay(text: &[u8]) -> Option<Delay>
+    ensures { result ≡ delay text.now }
+{
+    Delay::new(read_u32(text)?)
 }
 
 /// A number from the negative of a limit on, below that limit, which is at most 2147483648.

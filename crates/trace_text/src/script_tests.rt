@@ -35,7 +35,7 @@ pub fn first_encodes(
 }
 
 /// Asserts that a line of a script is this event.
-fn expect_event(
+pub fn expect_event(
     rt: &impl Abort,
     alloc: Global,
     text: &str,
@@ -79,24 +79,6 @@ fn expect_fact(
 ) -> Result<(), AllocError> {
     expect_told(rt, alloc, text, fact)?;
     expect_encoded(rt, alloc, text, fact)
-}
-
-/// The event of a `deliver` line.
-fn deliver(rt: &impl Abort, up: bool, call: u32, k: u32) -> Event {
-    let call = Positive::new(call).expect(rt, "a call's number");
-    let k = Positive::new(k).expect(rt, "a frame's number");
-    Event::Deliver { up, call, k }
-}
-
-#[test]
-fn events(rt: HostRuntime) -> Result<(), Fail> {
-    let alloc = rt.alloc();
-    expect_event(&rt, alloc, "trigger auto", Event::Trigger(Cause::Auto))?;
-    expect_event(&rt, alloc, "answer", Event::Answer)?;
-    expect_event(&rt, alloc, "deliver up 1 2", deliver(&rt, true, 1, 2))?;
-    let last = deliver(&rt, false, 4_294_967_295, 10);
-    expect_event(&rt, alloc, "deliver down 4294967295 10", last)?;
-    Ok(())
 }
 
 /// No energy but these two.

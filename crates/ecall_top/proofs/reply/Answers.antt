@@ -9,20 +9,24 @@ use Rattle.ecall_top.proofs.reply.Goals as goal
 
 pub returns-in-Some-Run-clause-outcome : goal.returns-in-Some-Run-clause-outcome
 returns-in-Some-Run-clause-outcome g c =
-    named (command_of (map string_bytes c.args.words.now)) (Some command.Run) (g.I.Source.left c.args.input.now) (g.I.Source.left c.run.new.input) (held g.O.Sink.held c.args.output.now) (held g.O.Sink.held c.run.new.output) c.run.result
+    named (command_of (map string_bytes c.args.words.now)) (Some command.Run) _ _ c.run.result
     (sym c.read_command.ensures ∙ (c.in-Some-Run.is ∙ ap Some c.in-Some-Run.field-0-is)) c.run.ensures.outcome
 
 pub returns-in-Some-Decode-clause-outcome : goal.returns-in-Some-Decode-clause-outcome
 returns-in-Some-Decode-clause-outcome g c =
-    named (command_of (map string_bytes c.args.words.now)) (Some command.Decode) (g.I.Source.left c.args.input.now) (g.I.Source.left c.decode_sets.new.input) (held g.O.Sink.held c.args.output.now) (held g.O.Sink.held c.decode_sets.new.output) c.decode_sets.result
-    (sym c.read_command.ensures ∙ (c.in-Some-Decode.is ∙ ap Some c.in-Some-Decode.field-0-is)) c.decode_sets.ensures.outcome
+    named (command_of (map string_bytes c.args.words.now)) (Some command.Decode) _ _ c.decode_sets.result
+    (sym c.read_command.ensures ∙ (c.in-Some-Decode.is ∙ ap Some c.in-Some-Decode.field-0-is))
+    (c.decode_sets.ensures.outcome c.args.moments.now)
 
 pub returns-in-Some-Encode-clause-outcome : goal.returns-in-Some-Encode-clause-outcome
 returns-in-Some-Encode-clause-outcome g c =
-    named (command_of (map string_bytes c.args.words.now)) (Some command.Encode) (g.I.Source.left c.args.input.now) (g.I.Source.left c.encode_sets.new.input) (held g.O.Sink.held c.args.output.now) (held g.O.Sink.held c.encode_sets.new.output) c.encode_sets.result
-    (sym c.read_command.ensures ∙ (c.in-Some-Encode.is ∙ ap Some c.in-Some-Encode.field-0-is)) c.encode_sets.ensures.outcome
+    named (command_of (map string_bytes c.args.words.now)) (Some command.Encode) _ _ c.encode_sets.result
+    (sym c.read_command.ensures ∙ (c.in-Some-Encode.is ∙ ap Some c.in-Some-Encode.field-0-is))
+    (c.encode_sets.ensures.outcome c.args.moments.now)
 
 pub returns-in-None-clause-outcome : goal.returns-in-None-clause-outcome
 returns-in-None-clause-outcome g c =
-    named (command_of (map string_bytes c.args.words.now)) None (g.I.Source.left c.args.input.now) (g.I.Source.left c.args.input.now) (held g.O.Sink.held c.args.output.now) (held g.O.Sink.held c.usage.new.output) c.usage.result
-    (sym c.in-None.ensures) (used (g.I.Source.left c.args.input.now) (held g.O.Sink.held c.args.output.now) (held g.O.Sink.held c.usage.new.output) c.usage.result c.usage.ensures.ends)
+    named (command_of (map string_bytes c.args.words.now)) None _ _ c.usage.result (sym c.in-None.ensures)
+    (used (g.I.Source.left c.args.input.now) (held g.O.Sink.held c.args.output.now)
+    (held g.O.Sink.held c.usage.new.output)
+    c.args.moments.now c.usage.result c.usage.ensures.ends)

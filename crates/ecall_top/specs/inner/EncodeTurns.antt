@@ -1,5 +1,5 @@
--- Where the command `encode` stands between two lines, and what one more line comes to. This project's profile. Cited by
--- the contracts of the functions that carry out its lines.
+-- Where the command `encode` stands between two lines, and what one more line comes to. This project's profile. Cited
+-- by the contracts of the functions that carry out its lines.
 use Rattle.std.specs.Prelude.{◌≡◌, ℕ, ◌<◌, ◌≤◌, List, Option, Some, None, Result, Ok, Err}
 use Rattle.call_io.specs.Bytes.{Grew, GrewPartly}
 use Rattle.msd_fit.specs.declared.cause.Cause.{Cause}

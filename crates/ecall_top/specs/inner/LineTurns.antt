@@ -44,6 +44,7 @@ pub record LinesStanding (asked : Option Command) (Rest : ℕ → List (List ℕ
   pub text : List ℕ
   pub read : RepliedSoFar asked Rest front reading text
   pub wrote : Grew start.held now.held text
+  pub still : now.passes ≡ start.passes
 
 -- A line gives this text, and the reply goes on as Next says.
 abbrev pub GoesOn : (Rest Next : ℕ → List (List ℕ) → Reply → Type 0) → ℕ → (line text : List ℕ) → Type 0

@@ -10,7 +10,8 @@ use Rattle.trace_text.specs.Lines.{lines_of}
 use Rattle.trace_text.specs.Reading.{Reading, MayFollow}
 use Rattle.trace_text.specs.Facts.{facts_in}
 use Rattle.trace_text.specs.Script.{Said, Script, script_of, script_from}
-use Rattle.channel_sim.specs.World.{World, first_world, world_after, step}
+use Rattle.channel_sim.specs.Lines.{passes_within, step, world_after}
+use Rattle.channel_sim.specs.World.{World, first_world}
 
 -- these events in front of a script's
 abbrev pub events_before : List Event → Script → Script
@@ -40,3 +41,13 @@ entries_in (Some w) (line.Event e) = (step w e).entries
 -- what a line gives in the world that these events leave
 abbrev pub entries_of : Said → List Event → ScriptLine → List Entry
 entries_of said events says = entries_in (world_left (facts_in said.facts) events) says
+
+-- how often the ends are passed at most by a line in a world
+abbrev pub passes_in : Option World → ScriptLine → ℕ
+passes_in None says = 0
+passes_in (Some w) (line.Fact f) = 0
+passes_in (Some w) (line.Event e) = passes_within w e
+
+-- how often they are passed at most by a line in the world that these events leave
+abbrev pub passes_by : Said → List Event → ScriptLine → ℕ
+passes_by said events says = passes_in (world_left (facts_in said.facts) events) says

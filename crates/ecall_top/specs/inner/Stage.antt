@@ -1,6 +1,6 @@
 -- What a script that is being played has come to, and what one more line makes of it. This project's profile. Cited by
 -- the contracts of `Stage` and of the functions that play a script.
-use Rattle.std.specs.Prelude.{◌≡◌, ℕ, ◌+◌, ◌≤◌, true, false, List, [], ◌∷◌, ◌++◌, Some, Result, Ok, Err}
+use Rattle.std.specs.Prelude.{◌≡◌, ℕ, ◌+◌, ◌*◌, ◌≤◌, true, false, List, [], ◌∷◌, ◌++◌, Option, Some, None, Result, Ok, Err}
 use Rattle.msd_fit.specs.declared.facts.Facts.{Facts}
 use Rattle.trace_text.specs.declared.entry.Entry.{Entry}
 use Rattle.trace_text.specs.declared.event.Event.{Event}
@@ -13,56 +13,89 @@ use Rattle.trace_text.specs.declared.reason.Reason.TheVariants as reason
 use Rattle.trace_text.specs.Script.{Said, placed, said_after}
 use Rattle.channel_sim.specs.declared.world.World.{World}
 use Rattle.channel_sim.specs.SimFault.{SimFaultCause}
-use Rattle.channel_sim.specs.World.{Step, first_world, world_after}
-use Rattle.channel_sim.specs.WorldStands.{WorldStandsFor, calls_drawn}
+use Rattle.channel_sim.specs.Lines.{world_after}
+use Rattle.channel_sim.specs.World as model
+use Rattle.channel_sim.specs.World.{first_world}
+use Rattle.channel_sim.specs.WorldStands.{WorldStandsFor, calls_drawn, ticks_reached}
 use Rattle.ecall_top.specs.declared.stage.Stage.{Stage}
-use Rattle.ecall_top.specs.declared.stage.Stage.TheVariants as stage
 use Rattle.ecall_top.specs.declared.stage.Halt.{Halt}
 use Rattle.ecall_top.specs.declared.stage.Halt.TheVariants as halt
-use Rattle.ecall_top.specs.inner.Progress.{event_of, entries_of}
+use Rattle.ecall_top.specs.inner.Progress.{event_of, entries_of, passes_by}
 
--- the stage stands for what the lines said and the events that they brought
-abbrev pub StageStandsFor : Stage → Said → List Event → Type 0
-StageStandsFor (stage.Facts draft) said events = DraftOf draft said.facts × (said.eventful ≡ false) × (events ≡ [])
-StageStandsFor (stage.Playing world) said events =
+-- the facts, or the world that they led to, stand for what the lines said and the events that they brought
+abbrev pub StandsBy : Draft → Option World → Said → List Event → Type 0
+StandsBy draft None said events = DraftOf draft said.facts × (said.eventful ≡ false) × (events ≡ [])
+StandsBy draft (Some world) said events =
     (known : Facts) × (facts_in said.facts ≡ Some known) × (said.eventful ≡ true)
     × WorldStandsFor world (world_after (first_world known) events)
 
--- how many calls were drawn
-abbrev pub calls_in : Stage → ℕ
-calls_in (stage.Facts draft) = 0
-calls_in (stage.Playing world) = calls_drawn world
+abbrev pub StageStandsFor : Stage → Said → List Event → Type 0
+StageStandsFor s said events = StandsBy s.draft s.world said events
 
--- what the answer to a line says: of its place, of its entries, and of the stage that it leaves
-abbrev pub Obeys : (Grew Partly : List Entry → Type 0) → (old : Stage) → Said → List Event → ScriptLine
-    → Result Stage Halt → Type 0
-Obeys Grew Partly old said events says (Ok new) =
+-- how many calls were drawn
+abbrev pub calls_by : Option World → ℕ
+calls_by None = 0
+calls_by (Some world) = calls_drawn world
+
+abbrev pub calls_in : Stage → ℕ
+calls_in s = calls_by s.world
+
+-- how many ticks were reached
+abbrev pub ticks_by : Option World → ℕ
+ticks_by None = 0
+ticks_by (Some world) = ticks_reached world
+
+abbrev pub ticks_in : Stage → ℕ
+ticks_in s = ticks_by s.world
+
+-- No more calls were drawn, and no more ticks reached, than so many lines can.
+pub record IsEarly (s : Stage) (lines : ℕ) : Type 0 where
+  pub calls : calls_in s ≤ lines
+  pub ticks : ticks_in s ≤ lines * 4294967295
+
+-- One line draws one call more at most, and reaches at most so many ticks more.
+pub record IsNext (old new : Stage) : Type 0 where
+  pub calls : calls_in new ≤ calls_in old + 1
+  pub ticks : ticks_in new ≤ ticks_in old + 4294967295
+
+-- what the answer to a line says: of its place, of its entries, of the stage that it leaves, and of how often ends were
+-- passed
+abbrev pub Obeys : {A : Type 0} → (Grew Partly : List Entry → Type 0) → (Counted : ℕ → Type 0) → (old new : Stage)
+    → Said → List Event → ScriptLine → Result A Halt → Type 0
+Obeys Grew Partly Counted old new said events says (Ok done) =
     (placed said says ≡ Ok (Some says)) × Grew (entries_of said events says)
-    × StageStandsFor new (said_after said says) (events ++ event_of says) × (calls_in new ≤ calls_in old + 1)
-Obeys Grew Partly old said events says (Err (halt.Refused why)) = (placed said says ≡ Err why) × Grew []
-Obeys Grew Partly old said events says (Err (halt.Sim fault)) =
+    × StageStandsFor new (said_after said says) (events ++ event_of says) × IsNext old new
+    × Counted (passes_by said events says)
+Obeys Grew Partly Counted old new said events says (Err (halt.Refused why)) =
+    (placed said says ≡ Err why) × Grew [] × Counted 0
+Obeys Grew Partly Counted old new said events says (Err (halt.Sim fault)) =
     (placed said says ≡ Ok (Some says)) × Partly (entries_of said events says)
 
 -- what the answer to a fact line says, in front of the first event line
-abbrev pub Learns : Draft → FactLine → Result Stage Halt → Type 0
-Learns draft fact (Ok (stage.Facts next)) =
-    (lines : List FactLine) → DraftOf draft lines
-    → (is_one_too_many lines fact ≡ false) × DraftOf next (lines ++ fact ∷ [])
-Learns draft fact (Ok (stage.Playing world)) = ⊥
-Learns draft fact (Err (halt.Refused why)) =
-    (why ≡ reason.Many) × ((lines : List FactLine) → DraftOf draft lines → is_one_too_many lines fact ≡ true)
-Learns draft fact (Err (halt.Sim fault)) = ⊥
+abbrev pub Learns : {A : Type 0} → (old new : Draft) → FactLine → Result A Halt → Type 0
+Learns old new fact (Ok done) =
+    (lines : List FactLine) → DraftOf old lines
+    → (is_one_too_many lines fact ≡ false) × DraftOf new (lines ++ fact ∷ [])
+Learns old new fact (Err (halt.Refused why)) =
+    (why ≡ reason.Many) × ((lines : List FactLine) → DraftOf old lines → is_one_too_many lines fact ≡ true)
+Learns old new fact (Err (halt.Sim fault)) = ⊥
+
+-- there is a world, and it stands for this one
+abbrev pub StandsIn : Option World → model.World → Type 0
+StandsIn None w = ⊥
+StandsIn (Some world) w = WorldStandsFor world w
 
 -- what the answer to an event says, where a world stood for the model's
-abbrev pub PlaysEvent : (Grew Partly : List Entry → Type 0) → (old : World) → Step → Result Stage Halt → Type 0
-PlaysEvent Grew Partly old step (Ok (stage.Facts draft)) = ⊥
-PlaysEvent Grew Partly old step (Ok (stage.Playing new)) =
-    Grew step.entries × WorldStandsFor new step.world × (calls_drawn new ≤ calls_drawn old + 1)
-PlaysEvent Grew Partly old step (Err (halt.Refused why)) = ⊥
-PlaysEvent Grew Partly old step (Err (halt.Sim fault)) = Partly step.entries
+abbrev pub PlaysEvent : {A : Type 0} → (Grew Partly : List Entry → Type 0) → (Counted : ℕ → Type 0) → (old : World)
+    → (new : Stage) → model.Step → (passes : ℕ) → Result A Halt → Type 0
+PlaysEvent Grew Partly Counted old new step passes (Ok done) =
+    Grew step.entries × StandsIn new.world step.world × (calls_in new ≤ calls_drawn old + 1)
+    × (ticks_in new ≤ ticks_reached old + 4294967295) × Counted passes
+PlaysEvent Grew Partly Counted old new step passes (Err (halt.Refused why)) = ⊥
+PlaysEvent Grew Partly Counted old new step passes (Err (halt.Sim fault)) = Partly step.entries
 
 -- what the answer to a line says of the count of faults of what is told: a write failed, or else none did
-abbrev pub HaltWriteCause : Result Stage Halt → (old new : ℕ) → Type 0
-HaltWriteCause (Ok stage') old new = new ≡ old
+abbrev pub HaltWriteCause : {A : Type 0} → Result A Halt → (old new : ℕ) → Type 0
+HaltWriteCause (Ok done) old new = new ≡ old
 HaltWriteCause (Err (halt.Refused why)) old new = new ≡ old
 HaltWriteCause (Err (halt.Sim fault)) old new = SimFaultCause fault old new

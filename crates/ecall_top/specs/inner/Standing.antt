@@ -1,6 +1,7 @@
--- Where a run stands between two lines of its script: what it took and wrote since it began, what the lines said, and
--- what stands for that. This project's profile. Cited by the contracts of the functions that play a script.
-use Rattle.std.specs.Prelude.{◌≡◌, ℕ, ◌⊎◌, true, List, []}
+-- Where a run stands between two lines of its script: what it took and wrote since it began, how often it passed the
+-- ends, what the lines said, and what stands for that. This project's profile. Cited by the contracts of the functions
+-- that play a script.
+use Rattle.std.specs.Prelude.{◌≡◌, ℕ, ◌+◌, ◌≤◌, ◌⊎◌, true, List, []}
 use Rattle.call_io.specs.Bytes.{Grew}
 use Rattle.trace_text.specs.declared.event.Event.{Event}
 use Rattle.trace_text.specs.EntryLine.{text_of}
@@ -9,7 +10,7 @@ use Rattle.trace_text.specs.Facts.{facts_in}
 use Rattle.trace_text.specs.Script.{Said}
 use Rattle.ecall_top.specs.Outcome.{Streams}
 use Rattle.ecall_top.specs.inner.Progress.{ReadSoFar}
-use Rattle.ecall_top.specs.Run.{played}
+use Rattle.ecall_top.specs.Run.{most_passes, played}
 use Rattle.ecall_top.specs.inner.Taken.{TakenSoFar}
 
 -- events come behind the first event line alone
@@ -23,5 +24,6 @@ pub record Standing (start now : Streams) (reading : Reading) (Stands : Said →
   pub events : List Event
   pub read : ReadSoFar front reading said events
   pub wrote : Grew start.held now.held (text_of (played (facts_in said.facts) events))
+  pub counted : now.passes ≤ start.passes + most_passes (facts_in said.facts) events
   pub stands : Stands said events
   pub tidy : IsTidy said events

@@ -7,10 +7,13 @@ use Rattle.ecall_top.proofs.decode.decode_word.Goals as goal
 
 pub returns-in-Err-clause-decodes : goal.returns-in-Err-clause-decodes
 returns-in-Err-clause-decodes g c =
-    refuses (some_octets (octets_in (decode_of c.args.word.now))) c.args.number reason.Hex (g.O.Sink.held c.args.output.now) (g.O.Sink.held c.refuse_line.new.output)
-    (no_hex c.args.word.now _ c.in-Err.field-0 _ (search rules) c.in-Err.ensures.value) c.refuse_line.result c.refuse_line.ensures.ends
+    refuses (some_octets (octets_in (decode_of c.args.word.now))) c.args.number reason.Hex
+    (g.O.Sink.held c.args.output.now) (g.O.Sink.held c.refuse_line.new.output)
+    (no_hex c.args.word.now _ c.in-Err.field-0 _ (search rules) c.in-Err.ensures.value) c.refuse_line.result
+    c.refuse_line.ensures.ends
 
 pub returns-in-Ok-clause-decodes : goal.returns-in-Ok-clause-decodes
 returns-in-Ok-clause-decodes g c =
-    let read : decode_of c.args.word.now ≡ Ok c.decode_to_slice.new.out = hex_read c.args.word.now _ c.decode_to_slice.new.out c.in-Ok.field-0 (search rules) c.in-Ok.ensures.value in
+    let read : decode_of c.args.word.now ≡ Ok c.decode_to_slice.new.out =
+    hex_read c.args.word.now _ c.decode_to_slice.new.out c.in-Ok.field-0 (search rules) c.in-Ok.ensures.value in
     rw read (search rules)

@@ -1,13 +1,17 @@
-use Rattle.std.proofs.Common.{◌≡◌, ◌-◌, ◌≤◌}
+use Rattle.std.proofs.Common.{◌≡◌, ℕ, ◌-◌, ◌≤◌}
 use Rattle.call_io.specs.Blocks.{held, sink, way}
 use Rattle.call_io.specs.Ways.{Onward}
+use Rattle.ecall_top.specs.Outcome.{streams_of}
 use Rattle.ecall_top.specs.inner.EncodeTurns.{EncodeStanding}
 use Rattle.ecall_top.proofs.encode.encode_sets.Given as goal
 
 -- the command stands behind the lines so far, and no count of faults rose
 abbrev pub invariant-loop-status : goal.invariant-loop-status
 invariant-loop-status g l = record {
-  stands : EncodeStanding (record { left = g.I.Source.left l.initial.input; held = held g.O.Sink.held l.initial.output }) (record { left = g.I.Source.left l.input; held = held g.O.Sink.held l.output }) l.lines l.draft;
+  stands :
+      (passes : ℕ)
+      → EncodeStanding (streams_of g.I.Source.left (held g.O.Sink.held) l.initial.input l.initial.output passes)
+      (streams_of g.I.Source.left (held g.O.Sink.held) l.input l.output passes) l.lines l.draft;
   bound : l.lines.lines ≤ 16777216;
   reads : g.I.Source.faults l.input ≡ g.I.Source.faults l.initial.input;
   writes : g.O.Sink.faults (sink l.output) ≡ g.O.Sink.faults (sink l.initial.output);

@@ -4,12 +4,18 @@ use Rattle.ecall_top.proofs.encode.obey.Goals as goal
 
 pub returns-in-Ok-Fact-clause-encodes : goal.returns-in-Ok-Fact-clause-encodes
 returns-in-Ok-Fact-clause-encodes g c = λ facts drafted.
-    said c.args.line.now (line.Fact c.in-Ok-Fact.fact) c.number.result facts (g.O.Sink.held c.args.output.now) (g.O.Sink.held c.take_fact.new.output) c.take_fact.new.draft c.take_fact.result (rw c.in-Ok-Fact.field-0-is at c.in-Ok-Fact.ensures) c.number.ensures (c.take_fact.ensures.encodes facts drafted)
+    said c.args.line.now (line.Fact c.in-Ok-Fact.fact) c.number.result facts (g.O.Sink.held c.args.output.now)
+    (g.O.Sink.held c.take_fact.new.output) c.take_fact.new.draft c.take_fact.result
+    (rw c.in-Ok-Fact.field-0-is at c.in-Ok-Fact.ensures) c.number.ensures (c.take_fact.ensures.encodes facts drafted)
 
 pub returns-in-Ok-Write-clause-encodes : goal.returns-in-Ok-Write-clause-encodes
 returns-in-Ok-Write-clause-encodes g c = λ facts drafted.
-    said c.args.line.now (line.Write c.in-Ok-Write.cause c.in-Ok-Write.number) c.number-in-Ok-Write.result facts (g.O.Sink.held c.args.output.now) (g.O.Sink.held c.write_asked.new.output) c.args.draft.now c.write_asked.result (rw c.in-Ok-Write.field-0-is at c.in-Ok-Write.ensures) c.number-in-Ok-Write.ensures (c.write_asked.ensures.encodes facts drafted)
+    said c.args.line.now (line.Write c.in-Ok-Write.cause c.in-Ok-Write.number) c.number-in-Ok-Write.result facts
+    (g.O.Sink.held c.args.output.now) (g.O.Sink.held c.write_asked.new.output) c.args.draft.now c.write_asked.result
+    (rw c.in-Ok-Write.field-0-is at c.in-Ok-Write.ensures) c.number-in-Ok-Write.ensures
+    (c.write_asked.ensures.encodes facts drafted)
 
 pub returns-in-Err-clause-encodes : goal.returns-in-Err-clause-encodes
 returns-in-Err-clause-encodes g c = λ facts drafted.
-    unsaid c.args.line.now c.in-Err.bad facts (g.O.Sink.held c.args.output.now) (g.O.Sink.held c.refuse.new.output) c.args.draft.now c.refuse.result c.in-Err.ensures c.refuse.ensures.ends
+    unsaid c.args.line.now c.in-Err.bad facts (g.O.Sink.held c.args.output.now)
+    (g.O.Sink.held c.refuse.new.output) c.args.draft.now c.refuse.result c.in-Err.ensures c.refuse.ensures.ends

@@ -6,9 +6,13 @@ use Rattle.ecall_top.proofs.encode.write_asked.Goals as goal
 
 pub returns-in-Err-clause-encodes : goal.returns-in-Err-clause-encodes
 returns-in-Err-clause-encodes g c = λ facts drafted.
-    set_cut facts c.args.cause c.args.number c.args.line (g.O.Sink.held c.args.output.now) (g.O.Sink.held c.write_set.new.output) c.args.draft.now c.in-Some.own.now (c.in-Some.ensures facts drafted) c.in-Err.ensures.partly
+    set_cut facts c.args.cause c.args.number c.args.line (g.O.Sink.held c.args.output.now)
+    (g.O.Sink.held c.write_set.new.output) c.args.draft.now c.in-Some.own.now
+    (c.in-Some.ensures facts drafted) c.in-Err.ensures.partly
 
 pub returns-in-None-clause-encodes : goal.returns-in-None-clause-encodes
 returns-in-None-clause-encodes g c = λ facts drafted.
-    refuses facts (encode_placed facts (line.Write c.args.cause c.args.number)) c.args.line reason.Missing (g.O.Sink.held c.args.output.now) (g.O.Sink.held c.refuse_line.new.output) c.args.draft.now
-    (missing facts c.args.cause c.args.number (c.in-None.ensures facts drafted)) c.refuse_line.result c.refuse_line.ensures.ends
+    refuses facts (encode_placed facts (line.Write c.args.cause c.args.number)) c.args.line reason.Missing
+    (g.O.Sink.held c.args.output.now) (g.O.Sink.held c.refuse_line.new.output) c.args.draft.now
+    (missing facts c.args.cause c.args.number (c.in-None.ensures facts drafted)) c.refuse_line.result
+    c.refuse_line.ensures.ends

@@ -1,9 +1,13 @@
-use Rattle.std.proofs.Common.{◌+◌}
-use Rattle.ecall_top.specs.inner.Stage.{StageStandsFor, calls_in}
+use Rattle.std.proofs.Common.{◌+◌, ◌≤◌}
+use Rattle.ecall_top.specs.inner.Stage.{StageStandsFor}
 use Rattle.ecall_top.proofs.Turned.{plays_out_of_place}
 use Rattle.ecall_top.proofs.run.obey.Goals as goal
 
 pub returns-in-Err-Refused-clause-plays : goal.returns-in-Err-Refused-clause-plays
 returns-in-Err-Refused-clause-plays g c =
-    plays_out_of_place c.args.number c.args.says.now c.in-Err-Refused.reason (StageStandsFor c.args.stage) (calls_in c.args.stage + 1) (g.O.Sink.held c.args.output.now) (g.O.Sink.held c.tell.new.output) (g.O.Sink.held c.refuse_line.new.output) c.refuse_line.result
+    plays_out_of_place c.args.number c.args.says.now c.in-Err-Refused.reason
+    (StageStandsFor c.args.stage.now) c.args.stage.now
+    c.tell.new.stage (g.O.Sink.held c.args.output.now) (g.O.Sink.held c.tell.new.output)
+    (g.O.Sink.held c.refuse_line.new.output)
+    (λ n. c.tell.new.moments ≤ c.args.moments.now + n) c.refuse_line.result
     (rw c.in-Err-Refused.field-0-is at c.in-Err-Refused.ensures.obeys) c.refuse_line.ensures.ends

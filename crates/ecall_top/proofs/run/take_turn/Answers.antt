@@ -5,13 +5,19 @@ use Rattle.ecall_top.proofs.run.take_turn.Goals as goal
 pub returns-then-found-clause-turns : goal.returns-then-found-clause-turns
 returns-then-found-clause-turns g c = λ start s.
     let reads = rw c.if-found.true at c.in-Ok.ensures.reads in
-    turns_found start _ c.args.lines.now c.read_line.new.lines c.args.stage c.line.result (g.I.Source.left c.read_line.new.input) (held g.O.Sink.held c.read_line.new.output) (held g.O.Sink.held c.play_line.new.output) reads.1 c.line.ensures reads.0 c.requires.few c.play_line.result c.play_line.ensures.plays s
+    turns_found start _ c.args.lines.now c.read_line.new.lines c.args.stage.now c.play_line.new.stage c.line.result
+    (g.I.Source.left c.read_line.new.input) (held g.O.Sink.held c.read_line.new.output)
+    (held g.O.Sink.held c.play_line.new.output) c.play_line.new.moments reads.1 c.line.ensures reads.0
+    c.requires.early c.play_line.result c.play_line.ensures.plays s
 
 pub returns-else-found-clause-turns : goal.returns-else-found-clause-turns
 returns-else-found-clause-turns g c = λ start s.
     let reads = rw c.if-found.false at c.in-Ok.ensures.reads in
-    turns_ended start _ c.args.lines.now c.read_line.new.lines c.args.stage (g.I.Source.left c.read_line.new.input) (held g.O.Sink.held c.read_line.new.output) reads.1 s reads.0
+    turns_ended start _ c.args.lines.now c.read_line.new.lines c.args.stage.now
+    (g.I.Source.left c.read_line.new.input) (held g.O.Sink.held c.read_line.new.output) reads.1 s reads.0
 
 pub returns-in-Err-clause-turns : goal.returns-in-Err-clause-turns
 returns-in-Err-clause-turns g c = λ start s.
-    turns_unread start _ c.args.lines.now c.read_line.new.lines c.args.stage (g.I.Source.left c.read_line.new.input) (held g.O.Sink.held c.read_line.new.output) c.in-Err.status c.in-Err.ensures.reads s
+    turns_unread start _ c.args.lines.now c.read_line.new.lines c.args.stage.now
+    (g.I.Source.left c.read_line.new.input)
+    (held g.O.Sink.held c.read_line.new.output) c.in-Err.status c.in-Err.ensures.reads s

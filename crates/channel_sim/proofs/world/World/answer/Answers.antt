@@ -1,43 +1,39 @@
-use Rattle.std.proofs.Common.{◌+◌, [], if◌then◌else◌, subst}
-use Rattle.std.proofs.lemmas.Result.{err_from_is_err_and}
+use Rattle.std.proofs.Common.{◌≡◌, ◌+◌, true, false, refl, ap, sym, ◌∙◌, subst}
+use Rattle.ivs_machine.specs.Vehicle.{is_dialling}
 use Rattle.ivs_machine.specs.VehicleRows as vehicle
-use Rattle.channel_sim.specs.World as model
-use Rattle.channel_sim.specs.WorldStands.{WorldStandsFor, CameTo}
-use Rattle.channel_sim.proofs.StepLemmas.{came_after}
+use Rattle.psap_machine.specs.PointRows as point
+use Rattle.psap_machine.specs.SessionStands.{SessionStandsFor}
+use Rattle.channel_sim.specs.Lines as lines
+use Rattle.channel_sim.specs.inner.Lag.{CameNow}
+use Rattle.channel_sim.proofs.LineLemmas.{one_deed, caught_now, nothing_came, is_out_dialling}
+use Rattle.channel_sim.proofs.VehicleLemmas.{vehicle_is}
 use Rattle.channel_sim.proofs.world.World.answer.Goals as goal
 
-pub returns-in_err-drawn-clause-step : goal.returns-in_err-drawn-clause-step
-returns-in_err-drawn-clause-step g c =
-    λ w stands.
-    let failed = err_from_is_err_and c.from_residual.result c.from_residual.ensures.1 in
-    let law = g.met.H.Listener in
-    rw failed.1 (law.longer _ _ [] _ (law.whole _ _ _ (law.unchanged _)))
-
-pub returns-in_err-answered-clause-step : goal.returns-in_err-answered-clause-step
-returns-in_err-answered-clause-step g c =
-    λ w stands.
-    let failed = err_from_is_err_and c.from_residual-in_err-answered.result c.from_residual-in_err-answered.ensures.1 in
-    let drew = c.in_ok-drawn.ensures.drawn w stands in
-    let Partly = g.H.Listener.partly c.args.to.now c.answered.new.to in
-    let part = subst (λ n. Partly (model.vehicle_hears (model.drawn w) (vehicle.Answered n)).entries) drew.calls (c.in_err-answered.ensures.step (model.drawn w) drew) in
-    rw failed.1
-    (subst (λ b. Partly (if b then model.answer w else model.nothing_step w).entries) (c.if-not-dialling.ensures w.vehicle stands.vehicle)
-    (g.met.H.Listener.longer _ _ _ _ part))
+pub returns-then-not-dialling-clause-step : goal.returns-then-not-dialling-clause-step
+returns-then-not-dialling-clause-step g c =
+    λ w s.
+    let kept = c.args.self.now in
+    let Grew = g.H.Listener.grew c.args.to.now c.tell_nothing.new.to in
+    let Partly = g.H.Listener.partly c.args.to.now c.tell_nothing.new.to in
+    let is = vehicle_is kept.tick kept.tick (λ d. kept.tick) kept w s (caught_now kept w s) in
+    let no_way : is_dialling w.vehicle ≡ false = sym (c.if-not-dialling.ensures w.vehicle is) in
+    subst (λ b. CameNow Grew Partly c.tell_nothing.result kept (lines.or_nothing (lines.when b lines.Answers) w)) (sym no_way)
+    (nothing_came Grew Partly c.tell_nothing.result kept w s c.tell_nothing.ensures.ok c.tell_nothing.ensures.err)
 
 pub returns-clause-step : goal.returns-clause-step
 returns-clause-step g c =
-    λ w stands.
-    let law = g.met.H.Listener in
-    let drew = c.in_ok-drawn.ensures.drawn w stands in
-    let first = model.vehicle_hears (model.drawn w) (vehicle.Answered (w.calls + 1)) in
-    let Grew = g.H.Listener.grew c.args.to.now c.answered.new.to in
-    let did =
-    subst (λ n. Grew (model.vehicle_hears (model.drawn w) (vehicle.Answered n)).entries × WorldStandsFor c.in_ok-answered.answered (model.vehicle_hears (model.drawn w) (vehicle.Answered n)).world)
-    drew.calls (c.in_ok-answered.ensures.step (model.drawn w) drew) in
-    let arrived =
-    subst (λ n. CameTo (g.H.Listener.grew c.answered.new.to c.session_arrives.new.to) (g.H.Listener.partly c.answered.new.to c.session_arrives.new.to) c.session_arrives.result (model.session_arrives n first.world))
-    drew.calls (c.session_arrives.ensures.step first.world did.1) in
-    subst (λ b. CameTo (g.H.Listener.grew c.args.to.now c.session_arrives.new.to) (g.H.Listener.partly c.args.to.now c.session_arrives.new.to) c.session_arrives.result (if b then model.answer w else model.nothing_step w))
-    (c.if-not-dialling.ensures w.vehicle stands.vehicle)
-    (came_after g.H.Listener.grew g.H.Listener.partly law.twice law.then_partly c.args.to.now c.answered.new.to c.session_arrives.new.to c.session_arrives.result first
-    (model.session_arrives (w.calls + 1)) did.0 arrived)
+    λ w s.
+    let kept = c.args.self.now in
+    let Grew = g.H.Listener.grew c.args.to.now c.comes_up.new.to in
+    let Partly = g.H.Listener.partly c.args.to.now c.comes_up.new.to in
+    let is = vehicle_is kept.tick kept.tick (λ d. kept.tick) kept w s (caught_now kept w s) in
+    let way : is_dialling w.vehicle ≡ true = sym (c.if-not-dialling.ensures w.vehicle is) in
+    let number : kept.drawn + 1 ≡ w.drawn + 1 = ap (λ n. n + 1) (sym s.drawn) in
+    subst (λ b. CameNow Grew Partly c.comes_up.result c.comes_up.new.self (lines.or_nothing (lines.when b lines.Answers) w)) (sym way)
+    (subst (CameNow Grew Partly c.comes_up.result c.comes_up.new.self) (sym (one_deed lines.Answers w))
+    (c.comes_up.ensures.step w vehicle.Answered point.arriving s (is_out_dialling w.vehicle way) (ap vehicle.Answered number)
+    (record {
+      stands = subst (λ n. SessionStandsFor c.arriving-session.result.0 (point.arriving n).new) number c.arriving-session.ensures.stands;
+      live = refl;
+      items = c.as_slice.ensures.value ∙ c.arriving-session.ensures.items ∙ ap (λ n. (point.arriving n).items) number;
+    })))

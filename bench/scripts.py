@@ -1,0 +1,80 @@
+#!/usr/bin/env python3
+"""scripts.py KIND COUNT: writes a script of one kind, always the same for the same words.
+
+    mixed     COUNT calls with changing flows, each asked for a second set, cleared down and hung up
+    calls     COUNT short calls: a trigger, an answer, and both legs lost
+    flows     COUNT calls with flows of 1000 ticks both ways, under long ticks
+    one       one call in which COUNT frames are handed over
+    legs      COUNT calls whose point legs stay up, then long ticks
+    callbacks COUNT calls placed by the point, hung up at once, with almost a whole standby between them"""
+import sys
+
+FACTS = """vin WM9VDSVDSYA123456
+kind 1
+fuel 1000000
+time 1577836800
+place 173880000 41700000
+heading 45
+trusted yes
+"""
+
+
+def draws(x=0):
+    """A generator of numbers from 0 to 65535, as simple as can be."""
+    while True:
+        x = (x * 1664525 + 1013904223) % 2**32
+        yield x >> 16
+
+
+def mixed(count):
+    drawn = draws()
+    for k in range(1, count + 1):
+        up, down, first, second = (next(drawn) for _ in range(4))
+        yield f"flow up {up % 40}\nflow down {down % 40}\ntrigger auto\nanswer\ntick {20 + first % 400}\nrequest {k}\n"
+        yield f"tick {20 + second % 400}\nclear {k}\ntick 40\nhangup {k}\n"
+
+
+def calls(count):
+    yield "trigger auto\n"
+    for k in range(1, count + 1):
+        yield f"answer\ndeliver up {k} 1\ndeliver down {k} 1\ndrop both {k}\n"
+
+
+def flows(count):
+    yield "flow up 1000\nflow down 1000\ntrigger auto\n"
+    for k in range(1, count + 1):
+        yield f"answer\ntick 30\ndeliver up {k} 1\ntick 3000\nrequest {k}\ntick 3000\ndrop both {k}\n"
+
+
+def one(count):
+    yield "trigger auto\nanswer\ndeliver up 1 1\ndeliver down 1 1\n"
+    for _ in range(count // 2):
+        yield "deliver up 1 2\ndeliver down 1 2\n"
+
+
+def legs(count):
+    yield "trigger auto\n"
+    for _ in range(count):
+        yield "answer\ntick 60\ndrop vehicle\n"
+    for _ in range(100):
+        yield "tick 4000000\ntrigger auto\n"
+
+
+def callbacks(count):
+    yield "trigger auto\nanswer\ntick 70\nhangup 1\n"
+    for k in range(2, count + 2):
+        yield f"callback\nhangup {k}\ntick 431999\n"
+
+
+KINDS = {kind.__name__: kind for kind in (mixed, calls, flows, one, legs, callbacks)}
+
+
+def main(kind, count):
+    sys.stdout.write(FACTS)
+    sys.stdout.writelines(KINDS[kind](int(count)))
+
+
+if __name__ == "__main__":
+    if len(sys.argv) != 3 or sys.argv[1] not in KINDS:
+        sys.exit(__doc__)
+    main(*sys.argv[1:])

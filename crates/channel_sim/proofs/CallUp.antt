@@ -1,0 +1,279 @@
+-- A call that comes up at both ends keeps a world that fits.
+use Rattle.std.specs.Prelude.{◌≡◌, ◌<◌, ◌+◌, ℕ, Bool, true, false, List, [], ◌∷◌, ◌++◌, Option, Some, None, IfSome, unwrap_or, ◌&&◌}
+use Rattle.std.specs.List.{AllByRecursion}
+use Rattle.std.specs.Option.{is_some}
+use Rattle.std.proofs.Common.{refl, sym, ap, subst, ◌∙◌, arith, append_assoc}
+use Rattle.std.proofs.lemmas.Bool.{false≢true}
+use Rattle.link_frames.specs.declared.frame.End.{End}
+use Rattle.link_frames.specs.declared.frame.End.TheVariants as «end»
+use Rattle.link_frames.specs.declared.frame.Frame.{Frame}
+use Rattle.link_frames.specs.declared.note.Note.{Note}
+use Rattle.link_frames.specs.Legs.{owner}
+use Rattle.link_frames.specs.Owes.{Seat, Along, MayGive, OwesArrival, fresh_seat, seat_moved}
+use Rattle.link_frames.specs.Row.{Row}
+use Rattle.ivs_machine.specs.Vehicle.{Vehicle, Phase, Idle, Standby, Arming, Dialling, Pausing, Seeking, InCall, vehicle_call, is_dialling, is_dialling_in, is_reachable, is_standby}
+use Rattle.ivs_machine.specs.VehicleKept as vehicle_kept
+use Rattle.ivs_machine.specs.VehicleOwes.{ArrivalOwes, EventOwes, StaysIn, seat_in, seat_of, comes_up_in, comes_up as comes_up_of}
+use Rattle.ivs_machine.specs.VehicleRows.{Heard, Answered, Incoming, named, unnamed, vehicle_row}
+use Rattle.ivs_machine.proofs.VehicleOwed as vehicle_owed
+use Rattle.psap_machine.specs.Point.{Point}
+use Rattle.psap_machine.specs.PointOwes as point_owes
+use Rattle.trace_text.specs.declared.entry.Entry.{Entry}
+use Rattle.trace_text.specs.History.{told, sent_by, sets_step, sets_of}
+use Rattle.trace_text.specs.Safety.{first_leg, leg_step, leg_at}
+use Rattle.trace_text.proofs.Folds.{AllOf, sends_none}
+use Rattle.channel_sim.specs.World.{Call, World, and_then, call_of, left_by, seated, vehicle_did, session_did}
+use Rattle.channel_sim.specs.Lines.{with_call}
+use Rattle.channel_sim.specs.Fit.{IsDrawn, point_seat, seats_of, FramesFit, IsCall, AreInOrder}
+use Rattle.channel_sim.specs.inner.FitAt.{FitAt, FitsAt, Goes, all_at}
+use Rattle.channel_sim.proofs.Lists.{all_append, all_into}
+use Rattle.channel_sim.proofs.RowKept.{over}
+use Rattle.channel_sim.proofs.RowOwes.{arrival_kept}
+use Rattle.channel_sim.proofs.CallsKept.{more_session, more_listed, more_order, seated_here}
+use Rattle.channel_sim.proofs.Seats.{seat_as, stays_call, left_seat, left_session, undrawn, untold, arrived}
+use Rattle.channel_sim.proofs.Acts.{reseat, did_goes, seated_goes, vehicle_others, session_others}
+
+along_own : (e : End) (c : ℕ) (came : Option Frame) (s : Option Seat) (ns : List Note) →
+    Along (MayGive e c came) e s ns → AllOf e c ns
+along_own e c came s [] a = tt
+along_own e c came s (n ∷ ns) a = (a.0.0, along_own e c came (seat_moved e s n) ns a.1)
+
+arrival_own : (e : End) (c : ℕ) (ns : List Note) (new : Option Seat) → OwesArrival e c ns new → AllOf e c ns
+arrival_own e c ns new h =
+    subst (λ (z : List Note). AllOf e c z) (sym h.up)
+    ((refl, refl), along_own e c None (Some fresh_seat) h.rest h.owes.given)
+
+-- an end sent nothing in a call whose number wasn't drawn
+unsent : (e : End) (c last : ℕ) → last < c → (t : List Entry) → AllByRecursion (λ x. IsDrawn last (owner x.note)) t →
+    [] ≡ sent_by e c t
+unsent e c last above [] a = refl
+unsent e c last above (x ∷ t) a =
+    unsent e c last above t a.1
+    ∙ sym (sends_none e c x.tick x.note (sent_by e c t) (undrawn e c last above (owner x.note) a.0))
+
+drawn_more : (last : ℕ) → (o : Option (End × ℕ)) → IsDrawn last o → IsDrawn (last + 1) o
+drawn_more last None h = tt
+drawn_more last (Some o) h = omega (arith, h)
+
+-- the next call, before its legs are up
+abbrev next_call : World → Call
+next_call w = record { number = w.drawn + 1; session = None; up = []; down = [] }
+
+-- the next call's number is drawn, and none of its legs is up yet
+record DrawnFits (n : ℕ) (w : World) (t : List Entry) : Type 0 where
+  fit : FitAt (all_at n) (seats_of w.vehicle w.calls) n w.drawn t
+  calls : AllByRecursion (IsCall w.drawn) w.calls
+  frames : AllByRecursion (FramesFit t) w.calls
+  in_order : AreInOrder 0 w.calls
+
+drawn_fits : (n : ℕ) (w : World) (t : List Entry) → FitsAt (all_at n) n w.drawn w t → DrawnFits n (with_call w) t
+drawn_fits n w t f =
+    record {
+      fit =
+          reseat (all_at n) (seats_of w.vehicle w.calls) (seats_of w.vehicle (with_call w).calls) n (w.drawn + 1) t
+          (record {
+            seats = f.fit.seats;
+            in_time = f.fit.in_time;
+            near = f.fit.near;
+            links = f.fit.links;
+            drawn = all_into _ _ (λ x h. drawn_more w.drawn (owner x.note) h) t f.fit.drawn;
+            rises = f.fit.rises;
+            agreed = f.fit.agreed;
+            ordered = f.fit.ordered;
+            safe = f.fit.safe;
+          })
+          same;
+      calls =
+          all_append (IsCall (w.drawn + 1)) w.calls (next_call w ∷ [])
+          (all_into (IsCall w.drawn) (IsCall (w.drawn + 1)) (λ k h. record { number = omega (arith, h.number); session = h.session }) w.calls f.calls)
+          (record { number = omega arith; session = tt }, tt);
+      frames =
+          all_append (FramesFit t) w.calls (next_call w ∷ []) f.frames (
+            record {
+              up = unsent «end».Vehicle (w.drawn + 1) w.drawn above t f.fit.drawn;
+              down = unsent «end».Point (w.drawn + 1) w.drawn above t f.fit.drawn;
+            },
+            tt,
+          );
+      in_order = more_order 0 w.drawn (next_call w) refl (omega arith) w.calls f.calls f.in_order;
+    }
+  where
+    above : w.drawn < w.drawn + 1
+    above = omega arith
+
+    same : (e : End) (c : ℕ) → seats_of w.vehicle (with_call w).calls e c ≡ seats_of w.vehicle w.calls e c
+    same «end».Vehicle c = refl
+    same «end».Point c =
+        ap point_seat (more_session c (next_call w) refl w.calls)
+
+-- a vehicle in no call is in every call's number, in the sense of its own items
+out_stays_in : (c : ℕ) (v : Vehicle) (p : Phase) → seat_in v p ≡ None → StaysIn c v p
+out_stays_in c v (InCall stage) h = cc
+out_stays_in c v Idle h = tt
+out_stays_in c v Standby h = tt
+out_stays_in c v (Arming before) h = tt
+out_stays_in c v Dialling h = tt
+out_stays_in c v Pausing h = tt
+out_stays_in c v Seeking h = tt
+
+-- the call comes up at the vehicle
+vehicle_up : (n : ℕ) (w : World) (t : List Entry) (row : Row Vehicle)
+    → FitsAt (all_at n) n w.drawn w t
+    → seat_of w.vehicle ≡ None
+    → ArrivalOwes (w.drawn + 1) row
+    → Goes (all_at n) n (w.drawn + 1) (vehicle_did (with_call w) row) t
+vehicle_up n w t row f out owes =
+    let c : ℕ = w.drawn + 1 in
+    let d : DrawnFits n (with_call w) t = drawn_fits n w t f in
+    let above : w.drawn < w.drawn + 1 = omega arith in
+    let calls : List Call = (with_call w).calls in
+    did_goes (all_at n) n c (with_call w) t row.items row.new calls f.tick refl
+    (arrival_kept (all_at n) (seats_of w.vehicle calls) (seats_of row.new calls) n c t «end».Vehicle c row.items (seat_of row.new) d.fit (omega arith)
+    (untold leg_step first_leg «end».Vehicle c w.drawn above t f.fit.drawn)
+    (untold (sets_step «end».Vehicle) [] «end».Vehicle c w.drawn above t f.fit.drawn)
+    refl owes.owes
+    (record {
+      here = seat_as c row.new (arrived c row.new owes.call);
+      others =
+          vehicle_others w.vehicle row.new calls c (out_stays_in c w.vehicle w.vehicle.phase out) (arrived c row.new owes.call);
+      clocks = λ g e a. refl;
+    }))
+    owes.kept d.calls d.frames d.in_order
+    (listed (vehicle_call row.new) (stays_call c row.new (arrived c row.new owes.call)))
+  where
+    listed : (o : Option ℕ) → IfSome o (λ d. d ≡ w.drawn + 1) →
+        IfSome o (λ c. is_some (call_of c (with_call w).calls) ≡ true)
+    listed None h = tt
+    listed (Some d) h =
+        subst (λ (z : ℕ). is_some (call_of z (with_call w).calls) ≡ true) (sym h)
+        (more_listed (next_call w) w.calls)
+
+-- and then at the point
+session_up : (n c : ℕ) (x : World) (t : List Entry) (row : Row Point)
+    → FitsAt (all_at n) n c x t
+    → is_some (call_of c x.calls) ≡ true
+    → leg_at «end».Point c t ≡ first_leg
+    → sets_of «end».Point c t ≡ []
+    → point_owes.ArrivalOwes c row
+    → Goes (all_at n) n c (session_did c x row) t
+session_up n c x t row f found no_leg no_sets owes =
+    seated_goes (all_at n) (all_at n) n c x t c row f
+    (left_session c row.new owes.kept owes.call)
+    (arrival_kept (all_at n) (seats_of x.vehicle x.calls) (seats_of x.vehicle (seated c (left_by row.new) x.calls)) n c t «end».Point c row.items (point_owes.seat_of row.new) f.fit (omega arith)
+    no_leg no_sets refl owes.owes
+    (record {
+      here = ap point_seat (seated_here c (left_by row.new) x.calls found) ∙ left_seat row.new;
+      others = session_others x.vehicle x.calls c (left_by row.new);
+      clocks = λ g e a. refl;
+    }))
+
+pub comes_up_goes : (n : ℕ) (w : World) (t : List Entry) (row : Row Vehicle) (session : Row Point)
+    → FitsAt (all_at n) n w.drawn w t
+    → seat_of w.vehicle ≡ None
+    → ArrivalOwes (w.drawn + 1) row
+    → vehicle_call row.new ≡ Some (w.drawn + 1)
+    → point_owes.ArrivalOwes (w.drawn + 1) session
+    → Goes (all_at n) n (w.drawn + 1) (and_then (vehicle_did (with_call w) row) (λ u. session_did (w.drawn + 1) u session)) t
+comes_up_goes n w t row session f out owes in_call arrives =
+    let c : ℕ = w.drawn + 1 in
+    let above : w.drawn < w.drawn + 1 = omega arith in
+    let x : World = (vehicle_did (with_call w) row).world in
+    let g : FitsAt (all_at n) n (w.drawn + 1) x (t ++ told w.tick row.items) = vehicle_up n w t row f out owes in
+    let mine : AllOf «end».Vehicle c row.items = arrival_own «end».Vehicle c row.items (seat_of row.new) owes.owes in
+    subst (λ (u : List Entry). FitsAt (all_at n) n (w.drawn + 1) (session_did (w.drawn + 1) x session).world u)
+    (append_assoc t (told w.tick row.items) (session_did (w.drawn + 1) x session).entries)
+    (session_up n (w.drawn + 1) x (t ++ told w.tick row.items) session g
+    (subst (λ (z : Option ℕ). IfSome z (λ d. is_some (call_of d x.calls) ≡ true)) in_call g.listed)
+    (over leg_step first_leg «end».Vehicle «end».Point c c w.tick t row.items refl mine ∙ untold leg_step first_leg «end».Point c w.drawn above t f.fit.drawn)
+    (over (sets_step «end».Point) [] «end».Vehicle «end».Point c c w.tick t row.items refl mine ∙ untold (sets_step «end».Point) [] «end».Point c w.drawn above t f.fit.drawn)
+    arrives)
+
+-- The rows at which a call comes up.
+
+dialling_out : (v : Vehicle) (p : Phase) → is_dialling_in p ≡ true → seat_in v p ≡ None
+dialling_out v Dialling h = refl
+dialling_out v Idle h = absurd (false≢true h)
+dialling_out v Standby h = absurd (false≢true h)
+dialling_out v (Arming before) h = absurd (false≢true h)
+dialling_out v Pausing h = absurd (false≢true h)
+dialling_out v Seeking h = absurd (false≢true h)
+dialling_out v (InCall stage) h = absurd (false≢true h)
+
+dialling_comes : (c : ℕ) (network : Bool) (p : Phase) → is_dialling_in p ≡ true → comes_up_in (Answered c) network p ≡ Some c
+dialling_comes c network Dialling h = refl
+dialling_comes c network Idle h = absurd (false≢true h)
+dialling_comes c network Standby h = absurd (false≢true h)
+dialling_comes c network (Arming before) h = absurd (false≢true h)
+dialling_comes c network Pausing h = absurd (false≢true h)
+dialling_comes c network Seeking h = absurd (false≢true h)
+dialling_comes c network (InCall stage) h = absurd (false≢true h)
+
+answered_in : (c : ℕ) (v : Vehicle) (p : Phase) → is_dialling_in p ≡ true →
+    vehicle_call (unwrap_or (named (Answered c) v p) (unnamed (Answered c) v)).new ≡ Some c
+answered_in c v Dialling h = refl
+answered_in c v Idle h = absurd (false≢true h)
+answered_in c v Standby h = absurd (false≢true h)
+answered_in c v (Arming before) h = absurd (false≢true h)
+answered_in c v Pausing h = absurd (false≢true h)
+answered_in c v Seeking h = absurd (false≢true h)
+answered_in c v (InCall stage) h = absurd (false≢true h)
+
+reachable_out : (v : Vehicle) (p : Phase) → (is_standby p && v.network) ≡ true → seat_in v p ≡ None
+reachable_out v Standby h = refl
+reachable_out v Idle h = absurd (false≢true h)
+reachable_out v Dialling h = absurd (false≢true h)
+reachable_out v (Arming before) h = absurd (false≢true h)
+reachable_out v Pausing h = absurd (false≢true h)
+reachable_out v Seeking h = absurd (false≢true h)
+reachable_out v (InCall stage) h = absurd (false≢true h)
+
+reachable_comes : (c : ℕ) (network : Bool) (p : Phase) → (is_standby p && network) ≡ true →
+    comes_up_in (Incoming c) network p ≡ Some c
+reachable_comes c true Standby h = refl
+reachable_comes c false Standby h = absurd (false≢true h)
+reachable_comes c network Idle h = absurd (false≢true h)
+reachable_comes c network Dialling h = absurd (false≢true h)
+reachable_comes c network (Arming before) h = absurd (false≢true h)
+reachable_comes c network Pausing h = absurd (false≢true h)
+reachable_comes c network Seeking h = absurd (false≢true h)
+reachable_comes c network (InCall stage) h = absurd (false≢true h)
+
+called_in : (c : ℕ) (v : Vehicle) (p : Phase) → (is_standby p && v.network) ≡ true →
+    vehicle_call (unwrap_or (named (Incoming c) v p) (unnamed (Incoming c) v)).new ≡ Some c
+called_in c v Standby h = rw h refl
+called_in c v Idle h = absurd (false≢true h)
+called_in c v Dialling h = absurd (false≢true h)
+called_in c v (Arming before) h = absurd (false≢true h)
+called_in c v Pausing h = absurd (false≢true h)
+called_in c v Seeking h = absurd (false≢true h)
+called_in c v (InCall stage) h = absurd (false≢true h)
+
+-- what the row of such an event owes
+owes_arrival : (c : ℕ) (v : Vehicle) (e : Heard) → vehicle_kept.IsKept v → comes_up_of e v ≡ Some c →
+    ArrivalOwes c (vehicle_row v e)
+owes_arrival c v e kept comes =
+    subst (λ (z : Option ℕ). EventOwes z v e (vehicle_row v e)) comes (vehicle_owed.owes_event e v kept)
+
+-- the call that is dialled is answered
+pub answer_goes : (n : ℕ) (w : World) (t : List Entry) (session : Row Point)
+    → FitsAt (all_at n) n w.drawn w t
+    → is_dialling w.vehicle ≡ true
+    → point_owes.ArrivalOwes (w.drawn + 1) session
+    → Goes (all_at n) n (w.drawn + 1) (and_then (vehicle_did (with_call w) (vehicle_row w.vehicle (Answered (w.drawn + 1)))) (λ u. session_did (w.drawn + 1) u session)) t
+answer_goes n w t session f dials arrives =
+    comes_up_goes n w t (vehicle_row w.vehicle (Answered (w.drawn + 1))) session f
+    (dialling_out w.vehicle w.vehicle.phase dials)
+    (owes_arrival (w.drawn + 1) w.vehicle (Answered (w.drawn + 1)) f.vehicle (dialling_comes (w.drawn + 1) w.vehicle.network w.vehicle.phase dials))
+    (answered_in (w.drawn + 1) w.vehicle w.vehicle.phase dials) arrives
+
+-- the point calls the vehicle
+pub callback_goes : (n : ℕ) (w : World) (t : List Entry) (session : Row Point)
+    → FitsAt (all_at n) n w.drawn w t
+    → is_reachable w.vehicle ≡ true
+    → point_owes.ArrivalOwes (w.drawn + 1) session
+    → Goes (all_at n) n (w.drawn + 1) (and_then (vehicle_did (with_call w) (vehicle_row w.vehicle (Incoming (w.drawn + 1)))) (λ u. session_did (w.drawn + 1) u session)) t
+callback_goes n w t session f reach arrives =
+    comes_up_goes n w t (vehicle_row w.vehicle (Incoming (w.drawn + 1))) session f
+    (reachable_out w.vehicle w.vehicle.phase reach)
+    (owes_arrival (w.drawn + 1) w.vehicle (Incoming (w.drawn + 1)) f.vehicle (reachable_comes (w.drawn + 1) w.vehicle.network w.vehicle.phase reach))
+    (called_in (w.drawn + 1) w.vehicle w.vehicle.phase reach) arrives

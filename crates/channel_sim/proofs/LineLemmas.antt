@@ -1,0 +1,71 @@
+-- Event lines at one tick, at which no end lags.
+use Rattle.std.proofs.Common.{◌≡◌, ℕ, ◌≤◌, ◌&&◌, if◌then◌else◌, true, false, Option, Some, None, Result, Ok, Err, OnOk, OnErr, List, [], ◌∷◌, refl, ap, sym, ◌∙◌, subst, arith}
+use Rattle.std.specs.Option.{is_some}
+use Rattle.std.proofs.lemmas.Bool.{eq-eqb}
+use Rattle.link_frames.specs.declared.note.Note.TheVariants as note
+use Rattle.ivs_machine.specs.Vehicle.{Vehicle, Phase, Standby, Dialling, InCall, vehicle_call, call_in, is_dialling, is_dialling_in, is_reachable, is_standby}
+use Rattle.ivs_machine.specs.VehicleRows as vehicle
+use Rattle.trace_text.specs.declared.entry.Entry.{Entry}
+use Rattle.trace_text.specs.History.{told}
+use Rattle.channel_sim.specs.declared.calls.Call as kept_call
+use Rattle.channel_sim.specs.declared.world.World as kept_world
+use Rattle.channel_sim.specs.World.{Call, World, Step, Hears, InCall, is_number, quiet_step, performs, settled, vehicle_did}
+use Rattle.channel_sim.specs.Lines.{Deed, Does, deed, in_its_call, or_nothing, nothing_step}
+use Rattle.channel_sim.specs.inner.Acts.{IsCaught}
+use Rattle.channel_sim.specs.inner.Lag.{CallsLag, StandsAt, StandsNow, Came, CameNow}
+use Rattle.channel_sim.proofs.StepLemmas.{quiet_behind}
+
+pub one_deed : (d : Deed) (w : World) → or_nothing (d ∷ []) w ≡ deed d w
+one_deed d w = quiet_behind (deed d w)
+
+-- the tick stood
+pub came_now : {Fault : Type 0} (Grew Partly : List Entry → Type 0) (result : Result (Unit {0}) Fault) (tick : ℕ) (new : kept_world.World) (s : Step) → new.tick ≡ tick → Came Grew Partly result tick tick (λ c. tick) new s → CameNow Grew Partly result new s
+came_now Grew Partly (Ok u) tick new s same h = (h.0, subst (λ t. StandsAt t t (λ c. t) new s.world) (sym same) h.1)
+came_now Grew Partly (Err e) tick new s same h = h
+
+pub caught_now : (kept : kept_world.World) (w : World) → StandsNow kept w → kept.tick ≡ kept.passed
+caught_now kept w s =
+    let low : kept.tick ≤ kept.passed = s.from in
+    let high : kept.passed ≤ kept.tick = s.passed in
+    omega arith
+
+pub all_caught : (tick c : ℕ) (xs : List kept_call.Call) (ks : List Call) → CallsLag tick (λ d. tick) xs ks → IsCaught (λ d. tick) c xs
+all_caught tick c [] [] h = tt
+all_caught tick c [] (k ∷ ks) h = absurd h
+all_caught tick c (x ∷ xs) [] h = absurd h
+all_caught tick c (x ∷ xs) (k ∷ ks) h =
+    ((λ same. let low : tick ≤ x.passed = h.0.from in let high : x.passed ≤ tick = h.0.passed in omega arith), all_caught tick c xs ks h.1)
+
+-- a line that applies to nothing
+pub nothing_came : {Fault : Type 0} (Grew Partly : List Entry → Type 0) (result : Result (Unit {0}) Fault) (kept : kept_world.World) (w : World) → StandsNow kept w → OnOk result (Grew (told kept.tick (note.Nothing ∷ []))) → OnErr result (Partly (told kept.tick (note.Nothing ∷ []))) → CameNow Grew Partly result kept (nothing_step w)
+nothing_came Grew Partly (Ok u) kept w s ok err = (subst (λ t. Grew (told t (note.Nothing ∷ []))) (sym s.tick) ok, s)
+nothing_came Grew Partly (Err e) kept w s ok err = subst (λ t. Partly (told t (note.Nothing ∷ []))) (sym s.tick) err
+
+-- what the vehicle hears in its own call
+pub in_call_performs : (c : ℕ) (e : vehicle.Heard) (w : World) → is_number c (vehicle_call w.vehicle) ≡ true → performs (InCall c e) w ≡ performs (Hears e) w
+in_call_performs c e w inside = ap (λ b. settled (if b then vehicle_did w (vehicle.vehicle_row w.vehicle e) else quiet_step w)) inside
+
+pub its_call : (e : vehicle.Heard) (w : World) (call : Option ℕ) → call ≡ vehicle_call w.vehicle → is_some call ≡ true → or_nothing (in_its_call (vehicle_call w.vehicle) e) w ≡ performs (Hears e) w
+its_call e w None same there = cc
+its_call e w (Some c) same there =
+    ap (λ o. or_nothing (in_its_call o e) w) (sym same)
+    ∙ one_deed (Does (InCall c e)) w
+    ∙ in_call_performs c e w (ap (is_number c) (sym same) ∙ eq-eqb c c refl)
+
+pub no_call : (e : vehicle.Heard) (w : World) (call : Option ℕ) → call ≡ vehicle_call w.vehicle → is_some call ≡ false → or_nothing (in_its_call (vehicle_call w.vehicle) e) w ≡ nothing_step w
+no_call e w None same none = ap (λ o. or_nothing (in_its_call o e) w) (sym same)
+no_call e w (Some c) same none = cc
+
+out_in : (v : Vehicle) (p : Phase) → v.phase ≡ p → is_dialling_in p ≡ true → vehicle_call v ≡ None
+out_in v Dialling e h = ap (call_in v) e
+out_in v _ e h = cc
+
+pub is_out_dialling : (v : Vehicle) → is_dialling v ≡ true → vehicle_call v ≡ None
+is_out_dialling v h = out_in v v.phase refl h
+
+out_of : (v : Vehicle) (p : Phase) → v.phase ≡ p → (is_standby p && v.network) ≡ true → vehicle_call v ≡ None
+out_of v Standby e h = ap (call_in v) e
+out_of v _ e h = cc
+
+pub is_out_reachable : (v : Vehicle) → is_reachable v ≡ true → vehicle_call v ≡ None
+is_out_reachable v h = out_of v v.phase refl h

@@ -1,0 +1,92 @@
+-- The place of a call among calls whose numbers rise.
+use Rattle.std.proofs.Common.{◌≡◌, ℕ, zero, suc, ◌<◌, ◌≤◌, ◌==◌, if◌then◌else◌, true, false, Option, Some, None, List, [], ◌∷◌, length, get_or, take, drop, map, refl, ap, sym, ◌∙◌, arith}
+use Rattle.std.specs.List.{AllByRecursion}
+use Rattle.std.proofs.lemmas.Bool.{eq-eqb}
+use Rattle.std.proofs.lemmas.Bool.Decides.{nat_tests}
+use Rattle.channel_sim.specs.declared.calls.Call.{Call}
+use Rattle.channel_sim.specs.inner.Places.{AreAbove, next_place, place_of}
+
+abbrev pub numbers : List Call → List ℕ
+numbers xs = map (λ x. x.number) xs
+
+pub above_other : (a c : ℕ) → c < a → (a == c) ≡ false
+above_other a c h = grind (arith, nat_tests)
+
+pub below_other : (a c : ℕ) → a < c → (a == c) ≡ false
+below_other a c h = grind (arith, nat_tests)
+
+-- where the numbers are above one, it has no place
+pub above_nowhere : (n c : ℕ) (ns : List ℕ) → AreAbove n ns → c ≤ n → place_of c ns ≡ None
+above_nowhere n c [] h low = refl
+above_nowhere n c (x ∷ ns) h low =
+    let above : c < x = omega (arith, h.0) in
+    ap (λ b. if b then Some 0 else next_place (place_of c ns)) (above_other x c above)
+    ∙ ap next_place (above_nowhere x c ns h.1 (omega arith))
+
+pub above_less : (n m : ℕ) (ns : List ℕ) → AreAbove n ns → m ≤ n → AreAbove m ns
+above_less n m [] h low = tt
+above_less n m (x ∷ ns) h low = let least : n < x = h.0 in (omega arith, h.1)
+
+-- each is above what the first is above
+pub above_at : (n : ℕ) (xs : List Call) (i : ℕ) (d : Call) → AreAbove n (numbers xs) → i < length xs → n < (get_or xs i d).number
+above_at n [] i d h inside = absurd (omega arith)
+above_at n (x ∷ xs) zero d h inside = h.0
+above_at n (x ∷ xs) (suc i) d h inside =
+    let further : x.number < (get_or xs i d).number = above_at x.number xs i d h.1 (omega arith) in omega (arith, h.0)
+
+pub all_above : (n c : ℕ) (ns : List ℕ) → AreAbove n ns → c ≤ n → AllByRecursion (λ x. c < x) ns
+all_above n c [] h low = tt
+all_above n c (x ∷ ns) h low = let least : n < x = h.0 in (omega arith, all_above x c ns h.1 (omega arith))
+
+pub low_numbers : (n c : ℕ) (xs : List Call) (i : ℕ) (d : Call) → AreAbove n (numbers xs) → i < length xs → (get_or xs i d).number < c → AllByRecursion (λ x. x < c) (take (suc i) (numbers xs))
+low_numbers n c [] i d h inside low = absurd (omega arith)
+low_numbers n c (x ∷ xs) zero d h inside low = (low, tt)
+low_numbers n c (x ∷ xs) (suc i) d h inside low =
+    let least : x.number < (get_or xs i d).number = above_at x.number xs i d h.1 (omega arith) in
+    (omega arith, low_numbers x.number c xs i d h.1 (omega arith) low)
+
+pub high_numbers : (n c : ℕ) (xs : List Call) (i : ℕ) (d : Call) → AreAbove n (numbers xs) → i < length xs → c < (get_or xs i d).number → AllByRecursion (λ x. c < x) (drop i (numbers xs))
+high_numbers n c [] i d h inside high = absurd (omega arith)
+high_numbers n c (x ∷ xs) zero d h inside high = (high, all_above x.number c (numbers xs) h.1 (omega arith))
+high_numbers n c (x ∷ xs) (suc i) d h inside high = high_numbers x.number c xs i d h.1 (omega arith) high
+
+-- the call at i has this number
+pub found_place : (n c : ℕ) (xs : List Call) (i : ℕ) (d : Call) → AreAbove n (numbers xs) → i < length xs → (get_or xs i d).number ≡ c → place_of c (numbers xs) ≡ Some i
+found_place n c [] i d h inside here = absurd (omega arith)
+found_place n c (x ∷ xs) zero d h inside here =
+    ap (λ b. if b then Some 0 else next_place (place_of c (numbers xs))) (eq-eqb x.number c here)
+found_place n c (x ∷ xs) (suc i) d h inside here =
+    let least : x.number < (get_or xs i d).number = above_at x.number xs i d h.1 (omega arith) in
+    let below : x.number < c = omega arith in
+    ap (λ b. if b then Some 0 else next_place (place_of c (numbers xs))) (below_other x.number c below)
+    ∙ ap next_place (found_place x.number c xs i d h.1 (omega arith) here)
+
+pub none_place : (c m : ℕ) (ns : List ℕ) → AllByRecursion (λ x. x < c) (take m ns) → AllByRecursion (λ x. c < x) (drop m ns) → place_of c ns ≡ None
+none_place c m [] low high = refl
+none_place c zero (x ∷ ns) low high =
+    let above : c < x = high.0 in
+    ap (λ b. if b then Some 0 else next_place (place_of c ns)) (above_other x c above)
+    ∙ ap next_place (none_place c zero ns tt high.1)
+none_place c (suc m) (x ∷ ns) low high =
+    let below : x < c = low.0 in
+    ap (λ b. if b then Some 0 else next_place (place_of c ns)) (below_other x c below)
+    ∙ ap next_place (none_place c m ns low.1 high)
+
+pub drop_numbers : (xs : List Call) → drop (length xs) (numbers xs) ≡ []
+drop_numbers [] = refl
+drop_numbers (x ∷ xs) = drop_numbers xs
+
+-- the next place is one where there is a place
+pub next_place-some : (o : Option ℕ) (i : ℕ) → next_place o ≡ Some i → (j : ℕ) × (o ≡ Some j) × (i ≡ suc j)
+next_place-some None i e = cc
+next_place-some (Some j) i e = (j, refl, (let f : suc j ≡ i = cc in sym f))
+
+pub next_place-none : (o : Option ℕ) → next_place o ≡ None → o ≡ None
+next_place-none None e = refl
+next_place-none (Some j) e = cc
+
+pub place_first : (c n : ℕ) (ns : List ℕ) → (n == c) ≡ true → place_of c (n ∷ ns) ≡ Some 0
+place_first c n ns same = ap (λ b. if b then Some 0 else next_place (place_of c ns)) same
+
+pub place_behind : (c n : ℕ) (ns : List ℕ) → (n == c) ≡ false → place_of c (n ∷ ns) ≡ next_place (place_of c ns)
+place_behind c n ns other = ap (λ b. if b then Some 0 else next_place (place_of c ns)) other

@@ -1,0 +1,445 @@
+//! The calls with a leg up, by number.
+
+ghost use Rattle.std.specs.Prelude.{◌≡◌, ◌≤◌, ◌<◌, ◌++◌, ◌∷◌, ◌-◌, ◌+◌, ℕ, suc, List, [], Option, true, false, Some, None, OnOk, IfOk, IfSome, length, map, slice_get, if◌then◌else◌, ◌^◌};
+ghost use Rattle.std.specs.List.{AllByRecursion};
+ghost use Rattle.std.specs.Option.{is_some, option_map};
+ghost use Rattle.psap_machine.specs.Point.{Point};
+ghost use Rattle.psap_machine.specs.PointRows as point;
+ghost use Rattle.psap_machine.specs.SessionStands.{SessionStandsFor};
+ghost use Rattle.trace_text.specs.History.{told};
+ghost use Rattle.channel_sim.specs.Lines as lines;
+ghost use Rattle.channel_sim.specs.World as model;
+ghost use Rattle.channel_sim.specs.inner.Acts.{pushed, CallDid, SessionDid, IsCaught, AreSameBut, OtherHasLeg, due_by, due_of, sent_way, items_in};
+ghost use Rattle.channel_sim.specs.inner.Lag.{SessionLags, CallLags, CallsLag};
+ghost use Rattle.channel_sim.specs.inner.Places.{AreAbove, place_of};
+ghost use Rattle.channel_sim.specs.inner.Sends.{AreFrom, ticks_of};
+ghost use Rattle.channel_sim.specs.inner.Tidy.{CallInTime, numbers_of};
+ghost use Rattle.channel_sim.specs.inner.Passes.{once_if};
+
+use crate::sends::Sends;
+use link_frames::{End, Frame, Items, Note, Steps, Why};
+use psap_machine::{PointEvent, Session};
+use std::alloc::{AllocError, Global};
+use std::sync::ledger::Ledger;
+
+/// A call with a leg up: the point's session, where its leg is up, the tick up to which it was passed, and the frames
+/// sent: up by the vehicle, down by the point.
+#[derive(Drop)]
+pub(crate) struct Call {
+    pub(crate) number: u32,
+    pub(crate) session: Option<Session>,
+    pub(crate) passed: u64,
+    pub(crate) up: Sends,
+    pub(crate) down: Sends,
+}
+
+impl Call {
+    /// A call in which nothing was sent, and whose session is not there yet.
+    pub(crate) fn new(alloc: Global, number: u32, passed: u64) -> Call
+        ensures { result ≡ record { number = number; session = None; passed = passed; up = []; down = [] } }
+    {
+        Call {
+            number,
+            session: None,
+            passed,
+            up: Sends::new(alloc),
+            down: Sends::new(alloc),
+        }
+    }
+
+    /// This end sent a frame at a tick.
+    fn push(&mut self, end: End, tick: u64, frame: &Frame) -> Result<(), AllocError>
+        ensures { OnOk result (self.new ≡ pushed end (record { tick = tick; frame = frame.now }) self.old) }
+    {
+        match end {
+            End::Vehicle => self.up.push(tick, frame),
+            End::Point => self.down.push(tick, frame),
+        }
+    }
+
+    /// The frames sent up, or down.
+    fn sends(&self, up: bool) -> &Sends
+        ensures { result.now ≡ (if up then self.now.up else self.now.down) }
+    {
+        if up { &self.up } else { &self.down }
+    }
+
+    /// The frame sent up, or down, at this place, from 0.
+    fn frame(&self, up: bool, place: usize) -> Option<Frame>
+        ensures { result ≡ option_map (λ s. s.frame) (slice_get (if up then self.now.up else self.now.down) place) }
+    {
+        if up {
+            self.up.frame(place)
+        } else {
+            self.down.frame(place)
+        }
+    }
+}
+
+/// The index of the call of a number, if it is there.
+pub(crate) fn find(calls: &[Call], number: u32) -> Option<usize>
+    ensures within { IfSome result (λ i. i < length calls.now) }
+    ensures place { AreAbove 0 (map (λ k. k.number) calls.now) → result ≡ place_of number (map (λ k. k.number) calls.now) }
+{
+    let mut low = 0;
+    let mut high = calls.len();
+    while low < high {
+        let middle = low + (high - low) / 2;
+        let here = calls[middle].number;
+        if here == number {
+            return Some(middle);
+        }
+        if here < number {
+            low = middle + 1;
+        } else {
+            high = middle;
+        }
+    }
+    None
+}
+
+/// Posts what one item sends into its call.
+fn post_one(calls: &mut Vec<Call>, tick: u64, note: &Note) -> Result<(), AllocError>
+    ensures { (floor : ℕ) (clock : ℕ → ℕ) (ks : List model.Call) → CallsLag floor clock calls.old.items ks → AreAbove 0 (numbers_of ks) →
+        OnOk result (CallsLag floor clock calls.new.items (map (model.carries (told tick (note.now ∷ []))) ks)) }
+{
+    match note {
+        Note::Send { end, call, frame } => post_frame(calls, tick, *end, *call, frame),
+        _ => Ok(()),
+    }
+}
+
+/// Posts a frame that an end sent into its call.
+fn post_frame(
+    calls: &mut Vec<Call>,
+    tick: u64,
+    end: End,
+    number: u32,
+    frame: &Frame,
+) -> Result<(), AllocError>
+    ensures { (floor : ℕ) (clock : ℕ → ℕ) (ks : List model.Call) → CallsLag floor clock calls.old.items ks → AreAbove 0 (numbers_of ks) →
+        OnOk result (CallsLag floor clock calls.new.items (map (model.carries (told tick (Note.Send end number frame.now ∷ []))) ks)) }
+{
+    match find(calls, number) {
+        Some(i) => calls[i].push(end, tick, frame),
+        None => Ok(()),
+    }
+}
+
+/// Posts each frame that these items send into its call.
+pub(crate) fn post(calls: &mut Vec<Call>, tick: u64, items: &[Note]) -> Result<(), AllocError>
+    ensures { (floor : ℕ) (clock : ℕ → ℕ) (ks : List model.Call) → CallsLag floor clock calls.old.items ks → AreAbove 0 (numbers_of ks) →
+        OnOk result (CallsLag floor clock calls.new.items (map (model.carries (told tick items.now)) ks)) }
+{
+    for note in items {
+        post_one(calls, tick, note)?;
+    }
+    Ok(())
+}
+
+/// Drops the call of a number, in which the vehicle isn't, if its session isn't there.
+pub(crate) fn drop_without_session(calls: &mut Vec<Call>, number: u32)
+    ensures { (floor : ℕ) (clock : ℕ → ℕ) (in_call : Option ℕ) (ks : List model.Call) → CallsLag floor clock calls.old.items ks →
+        AreAbove 0 (numbers_of ks) → AllByRecursion (OtherHasLeg in_call (Some number)) ks →
+        model.is_number number in_call ≡ false → CallsLag floor clock calls.new.items (model.with_legs in_call ks) }
+{
+    if let Some(i) = find(calls, number) {
+        if calls[i].session.is_none() {
+            calls.remove(i);
+        }
+    }
+}
+
+/// Whether a call's session is there.
+pub(crate) fn has_session(calls: &[Call], number: u32) -> bool
+    ensures { (floor : ℕ) (clock : ℕ → ℕ) (ks : List model.Call) → CallsLag floor clock calls.now ks → AreAbove 0 (numbers_of ks) →
+        result ≡ is_some (model.session_of number ks) }
+{
+    match find(calls, number) {
+        Some(i) => calls[i].session.is_some(),
+        None => false,
+    }
+}
+
+/// The frame sent up, or down, in a call at this place, from 0.
+pub(crate) fn sent_frame(calls: &[Call], up: bool, number: u32, place: usize) -> Option<Frame>
+    ensures { (floor : ℕ) (clock : ℕ → ℕ) (ks : List model.Call) → CallsLag floor clock calls.now ks → AreAbove 0 (numbers_of ks) →
+        result ≡ option_map (λ s. s.frame) (slice_get (if up then lines.sent_up (model.call_of number ks)
+        else lines.sent_down (model.call_of number ks)) place) }
+{
+    match find(calls, number) {
+        Some(i) => calls[i].frame(up, place),
+        None => None,
+    }
+}
+
+/// Adds a call behind the others, in which nothing was sent, and whose session is not there yet.
+pub(crate) fn add_call(
+    calls: &mut Vec<Call>,
+    alloc: Global,
+    number: u32,
+    passed: u64,
+) -> Result<(), AllocError>
+    ensures { OnOk result (calls.new.items ≡ calls.old.items ++
+        record { number = number; session = None; passed = passed; up = []; down = [] } ∷ []) }
+{
+    calls.push(Call::new(alloc, number, passed))?;
+    Ok(())
+}
+
+/// A session comes up in the call of a number.
+pub(crate) fn admit(calls: &mut Vec<Call>, number: u32, session: Session)
+    ensures { (tick : ℕ) (s : Point) (ks : List model.Call) → CallsLag tick (λ c. tick) calls.old.items ks →
+        AreAbove 0 (numbers_of ks) → SessionStandsFor session s → model.left_by s ≡ Some s →
+        CallsLag tick (λ c. tick) calls.new.items (model.seated number (Some s) ks) }
+{
+    if let Some(i) = find(calls, number) {
+        calls[i].session = Some(session);
+    }
+}
+
+/// The session of a call hears this; one that is over is gone. `None` where there is none.
+pub(crate) fn hear_session(
+    calls: &mut Vec<Call>,
+    number: u32,
+    event: &PointEvent<'_>,
+) -> Option<Items>
+    ensures variant { (floor : ℕ) (clock : ℕ → ℕ) (ks : List model.Call) → CallsLag floor clock calls.old.items ks →
+        AreAbove 0 (numbers_of ks) → is_some result ≡ is_some (model.session_of number ks) }
+    ensures did { (floor : ℕ) (clock : ℕ → ℕ) (ks : List model.Call) → CallsLag floor clock calls.old.items ks →
+        AreAbove 0 (numbers_of ks) → IsCaught clock number calls.old.items →
+        SessionDid floor clock result calls.new.items number (λ s. point.point_row s (point.heard event.now)) ks }
+    ensures ended { (floor : ℕ) (clock : ℕ → ℕ) (ks : List model.Call) → CallsLag floor clock calls.old.items ks →
+        AreAbove 0 (numbers_of ks) → event.now ≡ PointEvent.Ended Why.Release →
+        SessionDid floor clock result calls.new.items number (λ s. point.point_row s (point.Ended Why.Release)) ks }
+{
+    let i = find(calls, number)?;
+    hear_call(&mut calls[i], event)
+}
+
+/// The session of this call hears this; one that is over is gone. `None` where there is none.
+fn hear_call(call: &mut Call, event: &PointEvent<'_>) -> Option<Items>
+    ensures same { call.new ≡ record call.old { session = call.new.session } }
+    ensures variant { is_some result ≡ is_some call.old.session }
+    ensures did { (floor : ℕ) (clock : ℕ) (k : model.Call) → CallLags floor clock call.old k → call.old.passed ≡ clock →
+        CallDid floor clock result call.new k (λ s. point.point_row s (point.heard event.now)) }
+    ensures ended { (floor : ℕ) (clock : ℕ) (k : model.Call) → CallLags floor clock call.old k → event.now ≡ PointEvent.Ended Why.Release →
+        CallDid floor clock result call.new k (λ s. point.point_row s (point.Ended Why.Release)) }
+{
+    match &mut call.session {
+        Some(session) => {
+            let items = session.hear(event);
+            if session.over() {
+                call.session = None;
+            }
+            Some(items)
+        }
+        None => None,
+    }
+}
+
+/// So many of the ticks left as one call passes, where this many are due.
+pub(crate) fn ticks_at_once(left: u64, due: Option<u32>) -> u32
+    ensures some { 0 < left → IfSome due (λ d. 0 < d) → 0 < result }
+    ensures left { result ≤ left }
+    ensures due { IfSome due (λ d. result ≤ d) }
+    ensures whole { left < 2 ^ 32 → IfSome due (λ d. left ≤ d) → result ≡ left }
+{
+    let most = due.unwrap_or(u32::MAX);
+    if left < u64::from(most) {
+        left as u32
+    } else {
+        most
+    }
+}
+
+/// Passes a session by ticks in which it does nothing.
+fn pass_quietly<L: Ledger>(session: &mut Session, lag: u64, moments: &mut Steps<L>)
+    ensures lags { (s : Point) → SessionLags lag session.old s → SessionLags 0 session.new s }
+    ensures passes { (s : Point) → SessionLags lag session.old s → lag < 2 ^ 32 → moments.new ≤ moments.old + 1 }
+    ensures still { lag ≡ 0 → moments.new ≡ moments.old }
+{
+    let mut left = lag;
+    while left > 0 {
+        let n = ticks_at_once(left, session.due());
+        if n == 0 {
+            return;
+        }
+        session.pass(n, moments);
+        left -= u64::from(n);
+    }
+}
+
+/// Passes a call's session up to a tick, up to which it does nothing.
+pub(crate) fn catch_up<L: Ledger>(call: &mut Call, tick: u64, moments: &mut Steps<L>)
+    ensures same { call.new ≡ record call.old { session = call.new.session; passed = tick } }
+    ensures caught { (floor : ℕ) (k : model.Call) → CallLags floor tick call.old k → CallLags floor tick call.new k }
+    ensures passes { (floor : ℕ) (k : model.Call) → CallLags floor tick call.old k → tick < floor + 2 ^ 32 →
+        moments.new ≤ moments.old + once_if k.session }
+{
+    if let Some(session) = &mut call.session {
+        pass_quietly(session, tick.saturating_sub(call.passed), moments);
+    }
+    call.passed = tick;
+}
+
+/// Passes a call's session up to this tick, if it does something at it; one that is over is gone. `None` where it
+/// does nothing at this tick.
+pub(crate) fn act_at<L: Ledger>(call: &mut Call, tick: u64, moments: &mut Steps<L>) -> Option<Items>
+    ensures did { (floor before : ℕ) (k : model.Call) → CallLags floor before call.old k → before + 1 ≡ tick →
+        CallDid floor tick result call.new k point.unit_row }
+    ensures same { call.new ≡ record call.old { session = call.new.session; passed = call.new.passed } }
+    ensures passes { (floor before : ℕ) (k : model.Call) → CallLags floor before call.old k →
+        moments.new ≤ moments.old + length (items_in result) }
+{
+    match &mut call.session {
+        Some(session) => match due_at(session, tick.saturating_sub(call.passed)) {
+            Some(due) => {
+                let items = session.pass(due, moments);
+                if session.over() {
+                    call.session = None;
+                }
+                call.passed = tick;
+                Some(items)
+            }
+            None => None,
+        },
+        None => None,
+    }
+}
+
+/// Passes the session of a call up to this tick, if it does something at it; one that is over is gone. `None` where it
+/// does nothing at this tick, or isn't there.
+pub(crate) fn act_session<L: Ledger>(
+    calls: &mut Vec<Call>,
+    number: u32,
+    tick: u64,
+    moments: &mut Steps<L>,
+) -> Option<Items>
+    ensures did { (floor : ℕ) (before after : ℕ → ℕ) (ks : List model.Call) → CallsLag floor before calls.old.items ks →
+        AreAbove 0 (numbers_of ks) → before number + 1 ≡ tick → after number ≡ tick → AreSameBut number before after →
+        SessionDid floor after result calls.new.items number point.unit_row ks }
+    ensures passes { (floor : ℕ) (before : ℕ → ℕ) (ks : List model.Call) → CallsLag floor before calls.old.items ks →
+        AreAbove 0 (numbers_of ks) → moments.new ≤ moments.old + length (items_in result) }
+{
+    let i = find(calls, number)?;
+    act_at(&mut calls[i], tick, moments)
+}
+
+/// Passes the session of a call up to this tick, up to which it does nothing.
+pub(crate) fn catch_session_up<L: Ledger>(
+    calls: &mut Vec<Call>,
+    number: u32,
+    tick: u64,
+    moments: &mut Steps<L>,
+)
+    ensures lags { (floor : ℕ) (ks : List model.Call) → CallsLag floor (λ c. tick) calls.old.items ks →
+        AreAbove 0 (numbers_of ks) → CallsLag floor (λ c. tick) calls.new.items ks }
+    ensures caught { (floor : ℕ) (ks : List model.Call) → CallsLag floor (λ c. tick) calls.old.items ks →
+        AreAbove 0 (numbers_of ks) → IsCaught (λ c. tick) number calls.new.items }
+    ensures passes { (floor : ℕ) (ks : List model.Call) → CallsLag floor (λ c. tick) calls.old.items ks →
+        AreAbove 0 (numbers_of ks) → tick < floor + 2 ^ 32 → moments.new ≤ moments.old + once_if (model.session_of number ks) }
+{
+    if let Some(i) = find(calls, number) {
+        catch_up(&mut calls[i], tick, moments);
+    }
+}
+
+/// Passes each session up to this tick, up to which it does nothing.
+pub(crate) fn catch_each_up<L: Ledger>(calls: &mut Vec<Call>, tick: u64, moments: &mut Steps<L>)
+    ensures lags { (floor : ℕ) (ks : List model.Call) → CallsLag floor (λ c. tick) calls.old.items ks → floor ≤ tick →
+        CallsLag tick (λ c. tick) calls.new.items ks }
+    ensures passes { (floor : ℕ) (ks : List model.Call) → CallsLag floor (λ c. tick) calls.old.items ks → floor ≤ tick →
+        tick < floor + 2 ^ 32 → moments.new ≤ moments.old + model.session_count ks }
+{
+    for call in calls.iter_mut() {
+        catch_up(call, tick, moments);
+    }
+}
+
+/// What is due at the session, if that is not later than so many ticks.
+fn due_at(session: &Session, lag: u64) -> Option<u32>
+    ensures some { IfSome result (λ due. (0 < due) × (due ≤ lag)) }
+    ensures due { (s : Point) → SessionStandsFor session.now s → IfSome result (λ due. point.due_of s ≡ Some due) }
+    ensures later { (s : Point) → SessionStandsFor session.now s → result ≡ None → IfSome (point.due_of s) (λ due. lag < due) }
+{
+    let due = session.due()?;
+    if due > 0 && u64::from(due) <= lag {
+        Some(due)
+    } else {
+        None
+    }
+}
+
+/// A frame that is due, with its call.
+#[derive(Drop)]
+pub(crate) struct Due {
+    pub(crate) call: u32,
+    pub(crate) frame: Frame,
+}
+
+/// Adds a frame of a call, if there is one.
+fn add_frame(due: &mut Vec<Due>, number: u32, frame: Option<Frame>) -> Result<(), AllocError>
+    ensures { OnOk result (map due_of due.new.items ≡ map due_of due.old.items ++ due_by number frame) }
+{
+    if let Some(frame) = frame {
+        due.push(Due {
+            call: number,
+            frame,
+        })?;
+    }
+    Ok(())
+}
+
+/// Adds the frames of a call that were sent at this tick.
+pub(crate) fn add_due(
+    due: &mut Vec<Due>,
+    number: u32,
+    sends: &Sends,
+    tick: u64,
+) -> Result<(), AllocError>
+    ensures { (delay : ℕ) → AreFrom 0 (ticks_of sends.now) → OnOk result
+        (map due_of due.new.items ≡ map due_of due.old.items ++ model.due_frames number delay (tick + delay) sends.now) }
+{
+    let first = sends.first_from(tick);
+    for k in first..sends.len() {
+        if sends.tick(k) != Some(tick) {
+            return Ok(());
+        }
+        add_frame(due, number, sends.frame(k))?;
+    }
+    Ok(())
+}
+
+/// Adds the frames of these calls that were sent up, or down, at this tick.
+fn add_all_due(due: &mut Vec<Due>, calls: &[Call], up: bool, tick: u64) -> Result<(), AllocError>
+    ensures { (d floor now : ℕ) (clock : ℕ → ℕ) (ks : List model.Call) → CallsLag floor clock calls.now ks →
+        AllByRecursion (CallInTime now) ks → OnOk result
+        (map due_of due.new.items ≡ map due_of due.old.items ++ model.due_in (sent_way up) (suc d) (tick + suc d) ks) }
+{
+    for call in calls {
+        add_due(due, call.number, call.sends(up), tick)?;
+    }
+    Ok(())
+}
+
+/// The frames of these calls that a flow up, or down, hands over now.
+pub(crate) fn all_due(
+    calls: &[Call],
+    alloc: Global,
+    up: bool,
+    flow: u32,
+    now: u64,
+) -> Result<Vec<Due>, AllocError>
+    ensures { (floor : ℕ) (clock : ℕ → ℕ) (ks : List model.Call) → CallsLag floor clock calls.now ks →
+        AllByRecursion (CallInTime now) ks →
+        IfOk result (λ due. map due_of due.items ≡ model.due_in (sent_way up) flow now ks) }
+{
+    let mut due = Vec::new(alloc);
+    let delay = u64::from(flow);
+    if flow == 0 || now < delay {
+        return Ok(due);
+    }
+    add_all_due(&mut due, calls, up, now - delay)?;
+    Ok(due)
+}
