@@ -27,7 +27,7 @@ BELOW |= {"msd_codec": "per_bits per_types msd_values arrayvec", "encoder": "per
 ENCODINGS = 50_000
 WRITES = 50_000
 # the kinds of scripts.py, each with how many it is measured with, and then with twice as many
-SCRIPTS = {"mixed": 2_000, "calls": 20_000, "flows": 1_000, "one": 200_000, "legs": 5_000, "callbacks": 150_000}
+SCRIPTS = {"mixed": 2_000, "calls": 20_000, "flows": 1_000, "one": 200_000, "legs": 1_000, "callbacks": 150_000}
 
 
 class Skipped(Exception):

@@ -41,9 +41,9 @@ def calls(count):
 
 
 def flows(count):
-    yield "flow up 1000\nflow down 1000\ntrigger auto\n"
+    yield "flow up 1000\nflow down 1000\n"
     for k in range(1, count + 1):
-        yield f"answer\ntick 30\ndeliver up {k} 1\ntick 3000\nrequest {k}\ntick 3000\ndrop both {k}\n"
+        yield f"trigger auto\nanswer\ntick 30\ndeliver up {k} 1\ntick 3000\nrequest {k}\ntick 3000\nhangup {k}\n"
 
 
 def one(count):
