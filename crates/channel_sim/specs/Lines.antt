@@ -115,8 +115,8 @@ step w (event.Flow false delay) = quiet_step (record w { down_flow = delay })
 step w (event.Tick n) = units n w
 step w e = or_nothing (deeds_of w e) w
 
--- How often the ends are passed in a step at most: for a line of elapsed ticks once for each entry, for each frame handed
--- over and for each end that there is before; for every other line never.
+-- How often the ends are passed in a step at most: for a line of elapsed ticks once for each entry, for each frame
+-- handed over and for each end that there is before; for every other line never.
 abbrev pub passes_within : World → Event → ℕ
 passes_within w (event.Tick n) = length (units n w).entries + (units n w).handed + ends w
 passes_within w _ = 0

@@ -17,8 +17,8 @@ use Rattle.psap_machine.specs.PointRows as point
 use Rattle.trace_text.specs.declared.entry.Entry.{Entry}
 use Rattle.trace_text.specs.History.{Sent, sent_by, told}
 
--- A call with a leg up: its number, the point's session, where that leg is up, and the frames sent in it, in order: up by
--- the vehicle, down by the point.
+-- A call with a leg up: its number, the point's session, where that leg is up, and the frames sent in it, in order: up
+-- by the vehicle, down by the point.
 pub record Call : Type 0 where
   pub number : ℕ
   pub session : Option Point
@@ -151,8 +151,8 @@ abbrev pub does_each : List Act → World → Step
 does_each [] w = quiet_step w
 does_each (a ∷ acts) w = and_then (does a w) (does_each acts)
 
--- Consequences: what an item of one end has the other end hear. The vehicle lets the session go; a session that hung up,
--- or that let the vehicle go, has the vehicle hear a hang-up.
+-- Consequences: what an item of one end has the other end hear. The vehicle lets the session go; a session that hung
+-- up, or that let the vehicle go, has the vehicle hear a hang-up.
 abbrev pub consequence : Note → List Act
 consequence (note.Down «end».Vehicle c why.Release) = Session c (point.Ended why.Release) ∷ []
 consequence (note.Down «end».Point c why.Release) = InCall c vehicle.Hangup ∷ []

@@ -1,6 +1,6 @@
--- Which worlds of the definitions a `World` stands for: where they agree in the tick, the last call number and the flows,
--- where its vehicle stands for that world's vehicle, and its calls, in order, for that world's calls, with all that was
--- sent in them. This project's profile. Cited by the contracts of `World`, and by what stands on it.
+-- Which worlds of the definitions a `World` stands for: where they agree in the tick, the last call number and the
+-- flows, where its vehicle stands for that world's vehicle, and its calls, in order, for that world's calls, with all
+-- that was sent in them. This project's profile. Cited by the contracts of `World`, and by what stands on it.
 use Rattle.std.specs.Prelude.{◌≡◌, ℕ, List, [], ◌∷◌, Option, Some, None, Result, MatchResult}
 use Rattle.trace_text.specs.declared.entry.Entry.{Entry}
 use Rattle.trace_text.specs.declared.event.Event.{Event}

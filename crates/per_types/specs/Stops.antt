@@ -14,10 +14,6 @@ use Rattle.per_types.specs.Types.{Ty, boolean, integer, characters, octet_string
 abbrev pub Read : Type 0 → Type 0
 Read X = Result (X × Part) (Refusal × Part)
 
--- fewer bits than wanted are left
-abbrev pub IsShort : Part → ℕ → Refusal → Type 0
-IsShort p wanted e = (length p.bits < wanted) × (e ≡ record { place = p.start; reason = Short; value = wanted })
-
 -- the element's n bits, or its fault
 abbrev pub judged : Part → ℕ → Option Fault → Read (List Bool)
 judged p n None = Ok (take n p.bits, behind p n)

@@ -46,14 +46,19 @@ seat_after row None = None
 seat_after row (Some s) = left_by (row s).new
 
 -- the session of this call, if it is there, did this
-pub record CallDid (floor clock : ℕ) (result : Option (ArrayVec Note)) (new : kept_call.Call) (k : Call) (row : Point → Row Point) : Type 0 where
+pub record CallDid
+    (floor clock : ℕ) (result : Option (ArrayVec Note)) (new : kept_call.Call) (k : Call) (row : Point → Row Point)
+    : Type 0 where
   pub items : items_in result ≡ seat_items row k.session
   pub acts : is_some result ≡ true → is_some k.session ≡ true
   pub rests : result ≡ None → is_some (seat_after row k.session) ≡ is_some k.session
   pub stands : CallLags floor clock new (record k { session = seat_after row k.session })
 
 -- the session of the call of this number, if it is there, did this
-pub record SessionDid (floor : ℕ) (clock : ℕ → ℕ) (result : Option (ArrayVec Note)) (new : List kept_call.Call) (c : ℕ) (row : Point → Row Point) (ks : List Call) : Type 0 where
+pub record SessionDid
+    (floor : ℕ) (clock : ℕ → ℕ) (result : Option (ArrayVec Note)) (new : List kept_call.Call) (c : ℕ)
+    (row : Point → Row Point) (ks : List Call)
+    : Type 0 where
   pub items : items_in result ≡ seat_items row (session_of c ks)
   pub acts : is_some result ≡ true → is_some (session_of c ks) ≡ true
   pub rests : result ≡ None → is_some (seat_after row (session_of c ks)) ≡ is_some (session_of c ks)
@@ -69,7 +74,10 @@ OtherHasLeg in_call concerned k = is_number k.number concerned ≡ false → Has
 
 -- An end did something: what is kept stands for this world with this vehicle and these calls, before it is told and
 -- posted. Only the call that is concerned may have lost a leg.
-pub record IsReady (ahead floor : ℕ) (clock : ℕ → ℕ) (kept : kept_world.World) (w : World) (v : Vehicle) (ks : List Call) (concerned : Option ℕ) : Type 0 where
+pub record IsReady
+    (ahead floor : ℕ) (clock : ℕ → ℕ) (kept : kept_world.World) (w : World) (v : Vehicle) (ks : List Call)
+    (concerned : Option ℕ)
+    : Type 0 where
   pub tick : w.tick ≡ kept.tick
   pub drawn : w.drawn ≡ kept.drawn
   pub up_flow : w.up_flow ≡ kept.up_flow

@@ -1,7 +1,7 @@
 -- A `World` in the midst of elapsed time. An end that is kept may lag: it stands for the state that the model's end had
--- some ticks ago, and since then that end did nothing. How far the model's ends were passed is a floor clock for the vehicle
--- and one for each call's session, and none
--- was passed less far than up to the tick at which the line began, the floor. Cited by the private functions of `World` alone.
+-- some ticks ago, and since then that end did nothing. How far the model's ends were passed is a clock for the vehicle
+-- and one for each call's session, and none was passed less far than up to the tick at which the line began, the floor.
+-- Cited by the private functions of `World` alone.
 use Rattle.std.specs.Prelude.{◌≡◌, ℕ, ◌≤◌, ◌<◌, ◌-◌, List, [], ◌∷◌, Option, Some, None, IfSome, Result, MatchResult}
 use Rattle.trace_text.specs.declared.entry.Entry.{Entry}
 use Rattle.ivs_machine.specs.declared.vehicle.Ivs.{Ivs}

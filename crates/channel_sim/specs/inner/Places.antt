@@ -1,5 +1,5 @@
--- The place of a number among others, and a list with one element changed. Cited by the private functions on the calls of
--- a `World` alone.
+-- The place of a number among others, and a list with one element changed. Cited by the private functions on the calls
+-- of a `World` alone.
 use Rattle.std.specs.Prelude.{ℕ, zero, suc, ◌<◌, ◌==◌, List, [], ◌∷◌, Option, Some, None, if◌then◌else◌}
 
 -- each is above the one before it

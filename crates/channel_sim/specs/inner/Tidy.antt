@@ -1,5 +1,6 @@
 -- What every world of the definitions keeps: the calls stand by number, each has a leg up, and the frames of each stand
--- in the order of their ticks. Cited by the relation of a `World` to the world, and by the private functions of `World`.
+-- in the order of their ticks. Cited by the relation of a `World` to the world, and by the private functions of
+-- `World`.
 use Rattle.std.specs.Prelude.{◌≡◌, ℕ, ◌≤◌, true, List, ◌||◌, map, Option}
 use Rattle.std.specs.Option.{is_some}
 use Rattle.std.specs.List.{AllByRecursion}

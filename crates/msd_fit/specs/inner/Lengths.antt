@@ -22,7 +22,8 @@ marks_len fuel =
 -- the set without additional data
 abbrev pub facts_len : OwnFacts → ℕ
 facts_len facts =
-    244 + marks_len facts.fuel + option_len 20 facts.before1 + option_len 20 facts.before2 + option_len 8 facts.passengers
+    244 + marks_len facts.fuel + option_len 20 facts.before1 + option_len 20 facts.before2
+    + option_len 8 facts.passengers
 
 -- additional data: two lengths and the octets
 abbrev pub extra_len : AdditionalData → ℕ

@@ -22,8 +22,14 @@ pub record StoresData (octets : List ℕ) (oid content : ℕ) : Type 0 where
 -- so these two give the octets back
 pub given_back :
     (octets : List ℕ) (oid content : ℕ) → StoresData octets oid content
-    → stored (take oid octets) (take content (drop oid octets)) (length (take oid octets) + length (take content (drop oid octets))) ≡ octets
+    → stored
+    (take oid octets)
+    (take content (drop oid octets))
+    (length (take oid octets) + length (take content (drop oid octets)))
+    ≡ octets
 given_back octets oid content h =
-    ap (λ n. stored (take oid octets) (take content (drop oid octets)) (n + length (take content (drop oid octets)))) h.oid_len
+    ap
+    (λ n. stored (take oid octets) (take content (drop oid octets)) (n + length (take content (drop oid octets))))
+    h.oid_len
     ∙ ap (λ n. stored (take oid octets) (take content (drop oid octets)) (oid + n)) h.content_len
     ∙ h.zeros
