@@ -1,2 +1,6 @@
+pub mod ComingLemmas
+pub mod FeedLemmas
+pub mod FrameLemmas
 pub mod RanksLemmas
 pub mod RequestsLemmas
+pub mod StreamLemmas

@@ -1,7 +1,12 @@
 pub mod Does
 pub mod Frame
+pub mod FrameOctets
 pub mod Legs
 pub mod Owes
 pub mod Ranks
+pub mod Reading
 pub mod Requests
 pub mod Row
+pub mod Stages
+pub mod Streams
+pub mod inner

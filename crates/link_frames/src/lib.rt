@@ -2,18 +2,27 @@
 //! of both of them sees.
 #![tactic(auto)]
 
+mod fault;
 mod frame;
 mod laws;
 mod note;
 mod number;
+mod reader;
+#[cfg(test)]
+mod reader_tests;
 mod requests;
+mod stage;
 mod steps;
 #[cfg(test)]
 mod tests;
+mod writing;
 
+pub use fault::{Fault, FrameFault};
 pub use frame::{Answer, End, Frame, FrameRef, OCTETS};
-pub use laws::limits;
+pub use laws::{frame_laws, limits};
 pub use note::{Items, MOST_ITEMS, Note, Timer, Why, items_of};
 pub use number::{DialAttempt, Request};
+pub use reader::Reader;
 pub use requests::Requests;
 pub use steps::Steps;
+pub use writing::write;
