@@ -138,23 +138,33 @@ impl Ivs {
     }
 
     /// What the vehicle does at an event. Items are in order.
-    #[tactic(auto, using(crate::proofs::Hears::row_stands))]
     pub fn hear(&mut self, event: &VehicleEvent<'_>) -> Items
         ensures { Does IvsStandsFor IvsStandsFor self.old self.new result.items (λ v. vehicle_row v (heard event.now)) }
     {
+        let mut items = Items::new();
+        self.hear_into(event, &mut items);
+        items
+    }
+
+    /// As `hear`; the items stand in `items`, in place of what stood there, and nothing else is copied.
+    #[tactic(auto, using(crate::proofs::Hears::row_stands))]
+    pub fn hear_into(&mut self, event: &VehicleEvent<'_>, items: &mut Items)
+        ensures { Does IvsStandsFor IvsStandsFor self.old self.new items.new.items
+            (λ v. vehicle_row v (heard event.now)) }
+    {
         match event {
-            VehicleEvent::Trigger(cause) => self.trigger(*cause),
-            VehicleEvent::Cancel => self.cancel(),
-            VehicleEvent::Net(true) => self.net_up(),
-            VehicleEvent::Net(false) => self.net_down(),
-            VehicleEvent::Answered(call) => self.answered(*call),
-            VehicleEvent::Failed => self.failed(),
-            VehicleEvent::Incoming(call) => self.incoming(*call),
-            VehicleEvent::Sleep => self.sleep(),
-            VehicleEvent::Fault => self.fault(),
-            VehicleEvent::Hangup => self.hung_up(),
-            VehicleEvent::Lost => self.lost(),
-            VehicleEvent::Frame(frame) => self.frame(frame),
+            VehicleEvent::Trigger(cause) => self.trigger(*cause, items),
+            VehicleEvent::Cancel => self.cancel(items),
+            VehicleEvent::Net(true) => self.net_up(items),
+            VehicleEvent::Net(false) => self.net_down(items),
+            VehicleEvent::Answered(call) => self.answered(*call, items),
+            VehicleEvent::Failed => self.failed(items),
+            VehicleEvent::Incoming(call) => self.incoming(*call, items),
+            VehicleEvent::Sleep => self.sleep(items),
+            VehicleEvent::Fault => self.fault(items),
+            VehicleEvent::Hangup => self.hung_up(items),
+            VehicleEvent::Lost => self.lost(items),
+            VehicleEvent::Frame(frame) => self.frame(frame, items),
         }
     }
 
@@ -173,9 +183,21 @@ impl Ivs {
         ensures ticks { Does IvsStandsFor IvsStandsFor self.old self.new result.items (units n) }
         ensures moments { moments.new ≡ moments.old + 1 }
     {
+        let mut items = Items::new();
+        self.pass_into(n, moments, &mut items);
+        items
+    }
+
+    /// As `pass`; the items stand in `items`, in place of what stood there, and nothing else is copied.
+    pub fn pass_into<L: Ledger>(&mut self, n: u32, moments: &mut Steps<L>, items: &mut Items)
+        requires least { 1 ≤ n }
+        requires due { (v : Vehicle) → IvsStandsFor self.old v → IfSome (due_of v) (λ due. n ≤ due) }
+        ensures ticks { Does IvsStandsFor IvsStandsFor self.old self.new items.new.items (units n) }
+        ensures moments { moments.new ≡ moments.old + 1 }
+    {
         moments.tick();
         self.age(n);
-        self.acts()
+        self.acts(items)
     }
 
     /// The number of the call that the vehicle is in; `None` exactly where it is in none.

@@ -20,7 +20,7 @@ mod writing;
 pub use fault::{Fault, FrameFault};
 pub use frame::{Answer, End, Frame, FrameRef, OCTETS};
 pub use laws::{frame_laws, limits};
-pub use note::{Items, MOST_ITEMS, Note, Timer, Why, items_of};
+pub use note::{Items, MOST_ITEMS, Note, Timer, Why, fill, items_of};
 pub use number::{DialAttempt, Request};
 pub use reader::Reader;
 pub use requests::Requests;

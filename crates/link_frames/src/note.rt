@@ -113,3 +113,12 @@ pub fn items_of(notes: &[Note]) -> Items
 {
     Items::try_from(notes).unwrap()
 }
+
+/// Makes `items` these, in place of what stood there.
+pub fn fill(items: &mut Items, notes: &[Note])
+    requires { length notes.now ≤ MOST_ITEMS }
+    ensures { items.new.items ≡ notes.now }
+{
+    items.clear();
+    items.try_extend_from_slice(notes).unwrap()
+}

@@ -4,8 +4,7 @@ ghost use Rattle.std.specs.Prelude.{◌≡◌, ◌↔◌, ◌≤◌, IsTrue, IfS
 use crate::event::PointEvent;
 use audio_switch::{Switch, Voice};
 use link_frames::{
-    Answer, End, Frame, FrameRef, Items, Note, OCTETS, Request, Requests, Steps, Timer, Why,
-    items_of,
+    Answer, End, Frame, FrameRef, Items, Note, OCTETS, Request, Requests, Steps, Timer, Why, fill,
 };
 use std::sync::ledger::Ledger;
 
@@ -77,6 +76,16 @@ impl Session {
         ensures items { result.1.items ≡ (arriving call).items }
         ensures stands { SessionStandsFor result.0 (arriving call).new }
     {
+        let mut items = Items::new();
+        let session = Session::arriving_into(call, &mut items);
+        (session, items)
+    }
+
+    /// As `arriving`; the items stand in `items`, in place of what stood there.
+    pub fn arriving_into(call: u32, items: &mut Items) -> Session
+        ensures items { items.new.items ≡ (arriving call).items }
+        ensures stands { SessionStandsFor result (arriving call).new }
+    {
         let session = Session {
             call,
             phase: Phase::Listening,
@@ -86,14 +95,24 @@ impl Session {
             in_phase: 0,
             voice: Switch::muted(MOST_MUTED),
         };
-        let items = session.comes_up();
-        (session, items)
+        session.comes_up(items);
+        session
     }
 
     /// The point places a call of this number: its session, and what the point does. Items are in order.
     pub fn called(call: u32) -> (Session, Items)
         ensures items { result.1.items ≡ (called call).items }
         ensures stands { SessionStandsFor result.0 (called call).new }
+    {
+        let mut items = Items::new();
+        let session = Session::called_into(call, &mut items);
+        (session, items)
+    }
+
+    /// As `called`; the items stand in `items`, in place of what stood there.
+    pub fn called_into(call: u32, items: &mut Items) -> Session
+        ensures items { items.new.items ≡ (called call).items }
+        ensures stands { SessionStandsFor result (called call).new }
     {
         let session = Session {
             call,
@@ -104,36 +123,47 @@ impl Session {
             in_phase: 0,
             voice: Switch::opened(MOST_MUTED),
         };
-        let items = session.comes_up();
-        (session, items)
+        session.comes_up(items);
+        session
     }
 
     /// The items of a leg that comes up.
-    fn comes_up(&self) -> Items
+    fn comes_up(&self, items: &mut Items)
         ensures { let opened = is_open self.now.voice.stretch in
-            result.items ≡ note.Up «end».Point self.now.call ∷ note.Voice «end».Point self.now.call opened opened ∷ [] }
+            items.new.items ≡ note.Up «end».Point self.now.call
+            ∷ note.Voice «end».Point self.now.call opened opened ∷ [] }
     {
         let up = Note::Up {
             end: End::Point,
             call: self.call,
         };
-        items_of(&[up, self.voices()])
+        fill(items, &[up, self.voices()])
     }
 
     /// What the point does at an event. Items are in order.
-    #[tactic(auto, using(crate::proofs::Hears::row_stands))]
     pub fn hear(&mut self, event: &PointEvent<'_>) -> Items
         ensures { Does SessionStandsFor SessionStandsFor self.old self.new result.items
             (λ s. point_row s (heard event.now)) }
     {
+        let mut items = Items::new();
+        self.hear_into(event, &mut items);
+        items
+    }
+
+    /// As `hear`; the items stand in `items`, in place of what stood there, and nothing else is copied.
+    #[tactic(auto, using(crate::proofs::Hears::row_stands))]
+    pub fn hear_into(&mut self, event: &PointEvent<'_>, items: &mut Items)
+        ensures { Does SessionStandsFor SessionStandsFor self.old self.new items.new.items
+            (λ s. point_row s (heard event.now)) }
+    {
         match event {
-            PointEvent::Frame(frame) => self.frame(frame),
-            PointEvent::Damaged => self.damaged(),
-            PointEvent::Request => self.request(),
-            PointEvent::Clear => self.clear(),
-            PointEvent::Fault => self.fault(),
-            PointEvent::Hangup => self.ends(Why::Hangup),
-            PointEvent::Ended(why) => self.ends(*why),
+            PointEvent::Frame(frame) => self.frame(frame, items),
+            PointEvent::Damaged => self.damaged(items),
+            PointEvent::Request => self.request(items),
+            PointEvent::Clear => self.clear(items),
+            PointEvent::Fault => self.fault(items),
+            PointEvent::Hangup => self.ends(Why::Hangup, items),
+            PointEvent::Ended(why) => self.ends(*why, items),
         }
     }
 
@@ -166,9 +196,21 @@ impl Session {
         ensures ticks { Does SessionStandsFor SessionStandsFor self.old self.new result.items (units n) }
         ensures moments { moments.new ≡ moments.old + 1 }
     {
+        let mut items = Items::new();
+        self.pass_into(n, moments, &mut items);
+        items
+    }
+
+    /// As `pass`; the items stand in `items`, in place of what stood there, and nothing else is copied.
+    pub fn pass_into<L: Ledger>(&mut self, n: u32, moments: &mut Steps<L>, items: &mut Items)
+        requires least { 1 ≤ n }
+        requires due { (s : Point) → SessionStandsFor self.old s → IfSome (due_of s) (λ due. n ≤ due) }
+        ensures ticks { Does SessionStandsFor SessionStandsFor self.old self.new items.new.items (units n) }
+        ensures moments { moments.new ≡ moments.old + 1 }
+    {
         moments.tick();
         self.age(n);
-        self.acts()
+        self.acts(items)
     }
 
     /// Each sum that runs, `n` ticks later; a voice is muted for at most its limit.
@@ -183,46 +225,52 @@ impl Session {
     }
 
     /// What the timers and repeats do that have no ticks left.
-    fn acts(&mut self) -> Items
-        ensures { Does SessionIsDue SessionIs self.old self.new result.items acts }
+    fn acts(&mut self, items: &mut Items)
+        ensures { Does SessionIsDue SessionIs self.old self.new items.new.items acts }
     {
         let phase = self.phase;
         match phase {
-            Phase::Listening if self.in_phase < LONGEST_LISTENING => Items::new(),
-            Phase::Listening => self.times_out(Timer::T4),
+            Phase::Listening if self.in_phase < LONGEST_LISTENING => items.clear(),
+            Phase::Listening => self.times_out(Timer::T4, items),
             Phase::Asking(request) if self.in_phase < LONGEST_ASKING => {
-                self.repeats(Frame::Start(request))
+                self.repeats(Frame::Start(request), items)
             }
-            Phase::Asking(_) => self.times_out(Timer::T8),
-            Phase::Telling(request) if self.in_phase < TELLING => self.repeats(Frame::App {
-                request,
-                answer: Answer::Positive,
-            }),
-            Phase::Telling(_) => items_of(&[self.opens()]),
-            Phase::Clearing(request) if self.in_phase < TELLING => self.repeats(Frame::App {
-                request,
-                answer: Answer::Clear,
-            }),
-            Phase::Clearing(_) => self.goes_down(Why::Release),
-            Phase::Talking | Phase::Over => Items::new(),
+            Phase::Asking(_) => self.times_out(Timer::T8, items),
+            Phase::Telling(request) if self.in_phase < TELLING => self.repeats(
+                Frame::App {
+                    request,
+                    answer: Answer::Positive,
+                },
+                items,
+            ),
+            Phase::Telling(_) => fill(items, &[self.opens()]),
+            Phase::Clearing(request) if self.in_phase < TELLING => self.repeats(
+                Frame::App {
+                    request,
+                    answer: Answer::Clear,
+                },
+                items,
+            ),
+            Phase::Clearing(_) => self.goes_down(Why::Release, items),
+            Phase::Talking | Phase::Over => items.clear(),
         }
     }
 
     /// Sends a frame again, where it is time for it.
-    fn repeats(&self, frame: Frame) -> Items
-        ensures { result.items ≡ (if to_next 5 self.now.in_phase == 0
+    fn repeats(&self, frame: Frame, items: &mut Items)
+        ensures { items.new.items ≡ (if to_next 5 self.now.in_phase == 0
             then note.Send «end».Point self.now.call frame ∷ [] else []) }
     {
         if self.in_phase.is_multiple_of(REPEATS_EVERY) {
-            items_of(&[self.sends(frame)])
+            fill(items, &[self.sends(frame)])
         } else {
-            Items::new()
+            items.clear()
         }
     }
 
     /// A wait for data ends, and the voice opens.
-    fn times_out(&mut self, timer: Timer) -> Items
-        ensures items { result.items ≡ note.Ended «end».Point self.old.call timer
+    fn times_out(&mut self, timer: Timer, items: &mut Items)
+        ensures items { items.new.items ≡ note.Ended «end».Point self.old.call timer
             ∷ note.Voice «end».Point self.old.call true true ∷ [] }
         ensures new { self.new ≡ record self.old { phase = Phase.Talking; in_phase = 0; voice = self.new.voice } }
         ensures voice { self.new.voice ≡ record self.old.voice { stretch = unmuted self.old.voice.stretch } }
@@ -233,20 +281,23 @@ impl Session {
             timer,
         };
         let opening = self.opens();
-        items_of(&[ended, opening])
+        fill(items, &[ended, opening])
     }
 
     /// The leg goes down, and the session is over.
-    fn goes_down(&mut self, why: Why) -> Items
-        ensures items { result.items ≡ note.Down «end».Point self.old.call why ∷ [] }
+    fn goes_down(&mut self, why: Why, items: &mut Items)
+        ensures items { items.new.items ≡ note.Down «end».Point self.old.call why ∷ [] }
         ensures new { self.new ≡ record self.old { phase = Phase.Over } }
     {
         self.phase = Phase::Over;
-        items_of(&[Note::Down {
-            end: End::Point,
-            call: self.call,
-            why,
-        }])
+        fill(
+            items,
+            &[Note::Down {
+                end: End::Point,
+                call: self.call,
+                why,
+            }],
+        )
     }
 
     /// The number of the call.
@@ -270,57 +321,57 @@ impl Session {
     }
 
     /// A frame that the link of the call handed up.
-    fn frame(&mut self, frame: &FrameRef<'_>) -> Items
-        ensures { Does SessionStandsFor SessionIs self.old self.new result.items
+    fn frame(&mut self, frame: &FrameRef<'_>, items: &mut Items)
+        ensures { Does SessionStandsFor SessionIs self.old self.new items.new.items
             (λ s. point_row s (rows.Arrives (lent frame.now))) }
     {
         match frame {
-            FrameRef::Init => self.initiated(),
+            FrameRef::Init => self.initiated(items),
             FrameRef::Content {
                 request,
                 attempt: _,
                 octets,
-            } => self.content(*request, octets),
+            } => self.content(*request, octets, items),
             FrameRef::Start(_) | FrameRef::Nack(_) | FrameRef::Ack(_) | FrameRef::App { .. } =>
-                Items::new(),
+                items.clear(),
         }
     }
 
     /// The vehicle is there: a point that listens asks for the first set.
-    fn initiated(&mut self) -> Items
-        ensures { Does SessionStandsFor SessionIs self.old self.new result.items
+    fn initiated(&mut self, items: &mut Items)
+        ensures { Does SessionStandsFor SessionIs self.old self.new items.new.items
             (λ s. point_row s (rows.Arrives frame.Init)) }
     {
         match self.phase {
             Phase::Listening => {
                 let start = self.asks(Request::first());
-                items_of(&[start])
+                fill(items, &[start])
             }
-            _ => Items::new(),
+            _ => items.clear(),
         }
     }
 
     /// A set came: it is shown where it was asked for and not shown before, and then acknowledged. A repeat is
     /// acknowledged again.
-    fn content(&mut self, request: Request, octets: &[u8; OCTETS]) -> Items
-        ensures { (attempt : ℕ) → Does SessionStandsFor SessionIs self.old self.new result.items
+    fn content(&mut self, request: Request, octets: &[u8; OCTETS], items: &mut Items)
+        ensures { (attempt : ℕ) → Does SessionStandsFor SessionIs self.old self.new items.new.items
             (λ s. point_row s (rows.Arrives (frame.Content request attempt octets.now))) }
     {
         if self.is_over() {
-            Items::new()
+            items.clear()
         } else if self.shown.has(request) {
-            items_of(&[self.sends(Frame::Ack(request))])
+            fill(items, &[self.sends(Frame::Ack(request))])
         } else if request.number() <= self.asked {
-            self.shows(request, octets)
+            self.shows(request, octets, items)
         } else {
-            Items::new()
+            items.clear()
         }
     }
 
     /// Shows a set that was asked for and not shown before, and acknowledges it. Where it is the one that the point
     /// asks for, the application acknowledges it too.
-    fn shows(&mut self, request: Request, octets: &[u8; OCTETS]) -> Items
-        ensures { Does SessionStandsFor SessionIs self.old self.new result.items (λ s.
+    fn shows(&mut self, request: Request, octets: &[u8; OCTETS], items: &mut Items)
+        ensures { Does SessionStandsFor SessionIs self.old self.new items.new.items (λ s.
             behind (rows.shows request octets.now s)
             (rows.shown_row request (rows.with_shown request octets.now s) s.phase)) }
     {
@@ -335,13 +386,16 @@ impl Session {
         if self.asks_for(request) {
             self.enters(Phase::Telling(request));
             let answer = Answer::Positive;
-            items_of(&[
-                shown,
-                acknowledgement,
-                self.sends(Frame::App { request, answer }),
-            ])
+            fill(
+                items,
+                &[
+                    shown,
+                    acknowledgement,
+                    self.sends(Frame::App { request, answer }),
+                ],
+            )
         } else {
-            items_of(&[shown, acknowledgement])
+            fill(items, &[shown, acknowledgement])
         }
     }
 
@@ -353,35 +407,35 @@ impl Session {
     }
 
     /// Something came that the link could not read: a point that asks for a set says so.
-    fn damaged(&mut self) -> Items
-        ensures { Does SessionStandsFor SessionIs self.old self.new result.items (λ s. point_row s rows.Damaged) }
+    fn damaged(&mut self, items: &mut Items)
+        ensures { Does SessionStandsFor SessionIs self.old self.new items.new.items (λ s. point_row s rows.Damaged) }
     {
         let phase = self.phase;
         match phase {
-            Phase::Asking(request) => items_of(&[self.sends(Frame::Nack(request))]),
-            _ => items_of(&[Note::Nothing]),
+            Phase::Asking(request) => fill(items, &[self.sends(Frame::Nack(request))]),
+            _ => fill(items, &[Note::Nothing]),
         }
     }
 
     /// The desk asks for another set.
-    fn request(&mut self) -> Items
-        ensures { Does SessionStandsFor SessionIs self.old self.new result.items (λ s. point_row s rows.Request) }
+    fn request(&mut self, items: &mut Items)
+        ensures { Does SessionStandsFor SessionIs self.old self.new items.new.items (λ s. point_row s rows.Request) }
     {
         match self.phase {
-            Phase::Over => items_of(&[Note::Nothing]),
-            Phase::Talking if self.is_long_open() => self.asks_again(),
-            _ => items_of(&[Note::Busy(self.call)]),
+            Phase::Over => fill(items, &[Note::Nothing]),
+            Phase::Talking if self.is_long_open() => self.asks_again(items),
+            _ => fill(items, &[Note::Busy(self.call)]),
         }
     }
 
     /// The desk lets the vehicle go.
-    fn clear(&mut self) -> Items
-        ensures { Does SessionStandsFor SessionIs self.old self.new result.items (λ s. point_row s rows.Clear) }
+    fn clear(&mut self, items: &mut Items)
+        ensures { Does SessionStandsFor SessionIs self.old self.new items.new.items (λ s. point_row s rows.Clear) }
     {
         match self.phase {
-            Phase::Over => items_of(&[Note::Nothing]),
-            Phase::Talking if self.is_long_open() => self.lets_go(),
-            _ => items_of(&[Note::Busy(self.call)]),
+            Phase::Over => fill(items, &[Note::Nothing]),
+            Phase::Talking if self.is_long_open() => self.lets_go(items),
+            _ => fill(items, &[Note::Busy(self.call)]),
         }
     }
 
@@ -394,65 +448,69 @@ impl Session {
     }
 
     /// Mutes an open voice, and asks for the next set; the numbers of requests may be spent.
-    fn asks_again(&mut self) -> Items
+    fn asks_again(&mut self, items: &mut Items)
         requires { IsTrue (is_open self.old.voice.stretch) }
         ensures { self.old.phase ≡ Phase.Talking → 20 ≤ open_ticks self.old.voice.stretch →
-            Does SessionStandsFor SessionIs self.old self.new result.items (λ s. point_row s rows.Request) }
+            Does SessionStandsFor SessionIs self.old self.new items.new.items (λ s. point_row s rows.Request) }
     {
         match self.asked.checked_add(1).and_then(Request::new) {
             Some(request) => {
                 self.voice.mute();
                 let muting = self.voices();
                 let start = self.asks(request);
-                items_of(&[muting, start])
+                fill(items, &[muting, start])
             }
-            None => items_of(&[Note::Spent(self.call)]),
+            None => fill(items, &[Note::Spent(self.call)]),
         }
     }
 
     /// Mutes an open voice, and tells the vehicle of the set shown last that it may go.
-    fn lets_go(&mut self) -> Items
+    fn lets_go(&mut self, items: &mut Items)
         requires { IsTrue (is_open self.old.voice.stretch) }
         ensures { self.old.phase ≡ Phase.Talking → 20 ≤ open_ticks self.old.voice.stretch →
-            Does SessionStandsFor SessionIs self.old self.new result.items (λ s. point_row s rows.Clear) }
+            Does SessionStandsFor SessionIs self.old self.new items.new.items (λ s. point_row s rows.Clear) }
     {
         match self.last {
             Some(request) => {
                 self.voice.mute();
                 self.enters(Phase::Clearing(request));
                 let answer = Answer::Clear;
-                items_of(&[self.voices(), self.sends(Frame::App { request, answer })])
+                fill(
+                    items,
+                    &[self.voices(), self.sends(Frame::App { request, answer })],
+                )
             }
-            None => items_of(&[Note::Unshown(self.call)]),
+            None => fill(items, &[Note::Unshown(self.call)]),
         }
     }
 
     /// A fault of the audio or the modem: a muted voice opens.
-    fn fault(&mut self) -> Items
-        ensures { Does SessionStandsFor SessionIs self.old self.new result.items (λ s. point_row s rows.Fault) }
+    fn fault(&mut self, items: &mut Items)
+        ensures { Does SessionStandsFor SessionIs self.old self.new items.new.items (λ s. point_row s rows.Fault) }
     {
         let fault = Note::Fault {
             end: End::Point,
             call: self.call,
         };
         match self.phase {
-            Phase::Over => items_of(&[Note::Nothing]),
-            Phase::Talking => items_of(&[fault]),
+            Phase::Over => fill(items, &[Note::Nothing]),
+            Phase::Talking => fill(items, &[fault]),
             Phase::Listening | Phase::Asking(_) | Phase::Telling(_) | Phase::Clearing(_) => {
                 let opening = self.opens();
-                items_of(&[fault, opening])
+                fill(items, &[fault, opening])
             }
         }
     }
 
     /// The call ends.
-    fn ends(&mut self, why: Why) -> Items
-        ensures { Does SessionStandsFor SessionIs self.old self.new result.items (λ s. point_row s (rows.Ended why)) }
+    fn ends(&mut self, why: Why, items: &mut Items)
+        ensures { Does SessionStandsFor SessionIs self.old self.new items.new.items
+            (λ s. point_row s (rows.Ended why)) }
     {
         if self.is_over() {
-            items_of(&[Note::Nothing])
+            fill(items, &[Note::Nothing])
         } else {
-            self.goes_down(why)
+            self.goes_down(why, items)
         }
     }
 

@@ -3,7 +3,7 @@ ghost use Rattle.std.specs.Prelude.{◌≡◌, ◌≤◌};
 ghost use Rattle.link_frames.specs.declared.note.Note.TheVariants as note;
 
 use super::{Ivs, LEAST_OPENING, Phase, Stage};
-use link_frames::{Answer, End, FrameRef, Items, Note, Request, Why, items_of};
+use link_frames::{Answer, End, FrameRef, Items, Note, Request, Why, fill};
 
 impl Ivs {
     ghost use Rattle.std.specs.Prelude.{◌<◌, ◌||◌, if◌then◌else◌, IsTrue, ◌↔◌};
@@ -18,34 +18,34 @@ impl Ivs {
     ghost use Rattle.ivs_machine.specs.inner.Moves.{begun};
 
     /// A fault of the audio or the modem: a muted voice opens.
-    pub(super) fn fault(&mut self) -> Items
-        ensures { Does IvsStandsFor IvsIs self.old self.new result.items (λ v. vehicle_row v rows.Fault) }
+    pub(super) fn fault(&mut self, items: &mut Items)
+        ensures { Does IvsStandsFor IvsIs self.old self.new items.new.items (λ v. vehicle_row v rows.Fault) }
     {
         let fault = Note::Fault {
             end: End::Vehicle,
             call: self.call,
         };
         match self.phase {
-            Phase::InCall(Stage::Talking) => items_of(&[fault]),
+            Phase::InCall(Stage::Talking) => fill(items, &[fault]),
             Phase::InCall(_) => {
                 let opening = self.opens();
-                items_of(&[fault, opening])
+                fill(items, &[fault, opening])
             }
-            _ => items_of(&[Note::Nothing]),
+            _ => fill(items, &[Note::Nothing]),
         }
     }
 
     /// The point hung up: a call that isn't settled is dialled again.
-    pub(super) fn hung_up(&mut self) -> Items
-        ensures { Does IvsStandsFor IvsIs self.old self.new result.items (λ v. vehicle_row v rows.Hangup) }
+    pub(super) fn hung_up(&mut self, items: &mut Items)
+        ensures { Does IvsStandsFor IvsIs self.old self.new items.new.items (λ v. vehicle_row v rows.Hangup) }
     {
         match self.phase {
             Phase::InCall(_) => {
                 let down = self.goes_down(Why::Hangup);
                 let next = self.rests_or_begins();
-                items_of(&[down, next])
+                fill(items, &[down, next])
             }
-            _ => items_of(&[Note::Nothing]),
+            _ => fill(items, &[Note::Nothing]),
         }
     }
 
@@ -70,140 +70,149 @@ impl Ivs {
     }
 
     /// The call was lost.
-    pub(super) fn lost(&mut self) -> Items
-        ensures { Does IvsStandsFor IvsIs self.old self.new result.items (λ v. vehicle_row v rows.Lost) }
+    pub(super) fn lost(&mut self, items: &mut Items)
+        ensures { Does IvsStandsFor IvsIs self.old self.new items.new.items (λ v. vehicle_row v rows.Lost) }
     {
         match self.phase {
             Phase::InCall(_) => {
                 let down = self.goes_down(Why::Lost);
-                items_of(&[down, self.begins()])
+                fill(items, &[down, self.begins()])
             }
-            _ => items_of(&[Note::Nothing]),
+            _ => fill(items, &[Note::Nothing]),
         }
     }
 
     /// A frame that the link of the call handed up.
-    pub(super) fn frame(&mut self, frame: &FrameRef<'_>) -> Items
-        ensures { Does IvsStandsFor IvsIs self.old self.new result.items (λ v. vehicle_row v (rows.Arrives (lent frame.now))) }
+    pub(super) fn frame(&mut self, frame: &FrameRef<'_>, items: &mut Items)
+        ensures { Does IvsStandsFor IvsIs self.old self.new items.new.items
+            (λ v. vehicle_row v (rows.Arrives (lent frame.now))) }
     {
         match frame {
-            FrameRef::Start(request) => self.asked(*request),
-            FrameRef::Nack(request) => self.damaged(*request),
-            FrameRef::Ack(request) => self.acknowledged(*request),
+            FrameRef::Start(request) => self.asked(*request, items),
+            FrameRef::Nack(request) => self.damaged(*request, items),
+            FrameRef::Ack(request) => self.acknowledged(*request, items),
             FrameRef::App {
                 request,
                 answer: Answer::Positive,
-            } => self.confirmed(*request),
+            } => self.confirmed(*request, items),
             FrameRef::App {
                 request,
                 answer: Answer::Clear,
-            } => self.cleared(*request),
-            FrameRef::Init | FrameRef::Content { .. } => Items::new(),
+            } => self.cleared(*request, items),
+            FrameRef::Init | FrameRef::Content { .. } => items.clear(),
         }
     }
 
     /// A request is obeyed where it is above the greatest one obeyed, and an open voice was so for long enough.
-    fn asked(&mut self, request: Request) -> Items
-        ensures { Does IvsStandsFor IvsIs self.old self.new result.items (λ v. vehicle_row v (rows.Arrives (frame.Start request))) }
+    fn asked(&mut self, request: Request, items: &mut Items)
+        ensures { Does IvsStandsFor IvsIs self.old self.new items.new.items
+            (λ v. vehicle_row v (rows.Arrives (frame.Start request))) }
     {
         if request.number() <= self.served {
-            return Items::new();
+            return items.clear();
         }
         match self.phase {
-            Phase::InCall(Stage::Talking) => self.asked_while_open(request),
+            Phase::InCall(Stage::Talking) => self.asked_while_open(request, items),
             Phase::InCall(_) => {
                 let sent = self.takes(request);
-                items_of(&[sent])
+                fill(items, &[sent])
             }
-            _ => Items::new(),
+            _ => items.clear(),
         }
     }
 
     /// What was sent for a request came damaged: the same set is sent again.
-    fn damaged(&mut self, request: Request) -> Items
-        ensures { Does IvsStandsFor IvsIs self.old self.new result.items (λ v. vehicle_row v (rows.Arrives (frame.Nack request))) }
+    fn damaged(&mut self, request: Request, items: &mut Items)
+        ensures { Does IvsStandsFor IvsIs self.old self.new items.new.items
+            (λ v. vehicle_row v (rows.Arrives (frame.Nack request))) }
     {
         let Phase::InCall(stage) = self.phase else {
-            return Items::new();
+            return items.clear();
         };
         match stage {
             Stage::Sending(sent) if sent.number() == request.number() => {
                 let again = self.sends_again(request);
-                items_of(&[again])
+                fill(items, &[again])
             }
-            _ => Items::new(),
+            _ => items.clear(),
         }
     }
 
     /// The acknowledgement of the request that is being sent is counted.
-    fn acknowledged(&mut self, request: Request) -> Items
-        ensures { Does IvsStandsFor IvsIs self.old self.new result.items (λ v. vehicle_row v (rows.Arrives (frame.Ack request))) }
+    fn acknowledged(&mut self, request: Request, items: &mut Items)
+        ensures { Does IvsStandsFor IvsIs self.old self.new items.new.items
+            (λ v. vehicle_row v (rows.Arrives (frame.Ack request))) }
     {
         let Phase::InCall(stage) = self.phase else {
-            return Items::new();
+            return items.clear();
         };
         match stage {
             Stage::Sending(current) if current.number() == request.number() => {
                 let acked = self.counts_as(request);
                 self.enters(Stage::Confirming(request));
-                items_of(&[acked])
+                fill(items, &[acked])
             }
-            _ => Items::new(),
+            _ => items.clear(),
         }
     }
 
     /// A positive application acknowledgement of the present request ends the muting.
-    fn confirmed(&mut self, request: Request) -> Items
-        ensures { Does IvsStandsFor IvsIs self.old self.new result.items (λ v. vehicle_row v (rows.Arrives (frame.App request answer.Positive))) }
+    fn confirmed(&mut self, request: Request, items: &mut Items)
+        ensures { Does IvsStandsFor IvsIs self.old self.new items.new.items
+            (λ v. vehicle_row v (rows.Arrives (frame.App request answer.Positive))) }
     {
         let Phase::InCall(stage) = self.phase else {
-            return Items::new();
+            return items.clear();
         };
         match stage {
             Stage::Sending(sent) if sent.number() == request.number() => {
                 let acked = self.counts_as(request);
                 let opening = self.opens();
-                items_of(&[acked, opening])
+                fill(items, &[acked, opening])
             }
             Stage::Confirming(sent) if sent.number() == request.number() => {
                 let opening = self.opens();
-                items_of(&[opening])
+                fill(items, &[opening])
             }
-            _ => Items::new(),
+            _ => items.clear(),
         }
     }
 
     /// The point lets the vehicle go.
-    fn cleared(&mut self, request: Request) -> Items
-        ensures { Does IvsStandsFor IvsIs self.old self.new result.items (λ v. vehicle_row v (rows.Arrives (frame.App request answer.Clear))) }
+    fn cleared(&mut self, request: Request, items: &mut Items)
+        ensures { Does IvsStandsFor IvsIs self.old self.new items.new.items
+            (λ v. vehicle_row v (rows.Arrives (frame.App request answer.Clear))) }
     {
         let Phase::InCall(stage) = self.phase else {
-            return Items::new();
+            return items.clear();
         };
         match stage {
             Stage::Sending(sent) if sent.number() == request.number() => {
                 let acked = self.counts_as(request);
                 let down = self.goes_down(Why::Release);
-                items_of(&[acked, down, self.rests()])
+                fill(items, &[acked, down, self.rests()])
             }
-            Stage::Confirming(sent) if sent.number() == request.number() => { self.is_released() }
-            Stage::Talking if self.counted.has(request) => self.is_released(),
-            _ => Items::new(),
+            Stage::Confirming(sent) if sent.number() == request.number() => {
+                self.is_released(items)
+            }
+            Stage::Talking if self.counted.has(request) => self.is_released(items),
+            _ => items.clear(),
         }
     }
 
     /// A request of a vehicle that talks is obeyed once the voice was open for long enough.
-    fn asked_while_open(&mut self, request: Request) -> Items
+    fn asked_while_open(&mut self, request: Request, items: &mut Items)
         requires phase { self.old.phase ≡ Phase.InCall Stage.Talking }
         requires above { self.old.served < request }
-        ensures { Does IvsStandsFor IvsIs self.old self.new result.items (λ v. vehicle_row v (rows.Arrives (frame.Start request))) }
+        ensures { Does IvsStandsFor IvsIs self.old self.new items.new.items
+            (λ v. vehicle_row v (rows.Arrives (frame.Start request))) }
     {
         if self.is_long_open() {
             self.voice.mute();
             let sent = self.takes(request);
-            items_of(&[self.voices(false), sent])
+            fill(items, &[self.voices(false), sent])
         } else {
-            Items::new()
+            items.clear()
         }
     }
 

@@ -5,7 +5,7 @@ ghost use Rattle.link_frames.specs.declared.note.Note.TheVariants as note;
 
 use super::{Ivs, Phase, Stage};
 use callback::Rest;
-use link_frames::{DialAttempt, End, Frame, Items, Note, Request, Timer, Why, items_of};
+use link_frames::{DialAttempt, End, Frame, Items, Note, Request, Timer, Why, fill};
 use msd_fit::make;
 use redial::{MOST_ATTEMPTS, WINDOW};
 
@@ -71,11 +71,11 @@ impl Ivs {
     }
 
     /// The window of the series is over.
-    pub(super) fn gives_up(&mut self) -> Items
-        ensures items { result.items ≡ note.Ended «end».Vehicle 0 timer.TW ∷ note.GaveUp ∷ note.Standby ∷ [] }
+    pub(super) fn gives_up(&mut self, items: &mut Items)
+        ensures items { items.new.items ≡ note.Ended «end».Vehicle 0 timer.TW ∷ note.GaveUp ∷ note.Standby ∷ [] }
         ensures new { self.new ≡ record self.old { phase = Phase.Standby; standby = 0 } }
     {
-        items_of(&[ended(Timer::TW), Note::GaveUp, self.rests()])
+        fill(items, &[ended(Timer::TW), Note::GaveUp, self.rests()])
     }
 
     /// Whether no further attempt follows.
@@ -86,13 +86,13 @@ impl Ivs {
     }
 
     /// An attempt to dial failed. Items are those before, and then what follows.
-    pub(super) fn fails(&mut self, before: &[Note]) -> Items
+    pub(super) fn fails(&mut self, before: &[Note], items: &mut Items)
         requires { length before.now ≤ 4 }
         ensures items { 0 < self.old.attempts → self.old.attempts ≤ 10 →
-            result.items ≡ before.now ++ fail_items self.old }
+            items.new.items ≡ before.now ++ fail_items self.old }
         ensures failed { self.new ≡ failed self.old }
     {
-        let mut items = items_of(before);
+        fill(items, before);
         items.push(Note::Failed(self.dialled()));
         if self.is_last() {
             items.push(Note::GaveUp);
@@ -101,7 +101,6 @@ impl Ivs {
             self.phase = Phase::Pausing;
             self.in_phase = 0;
         }
-        items
     }
 
     /// A stage of the call begins, with the voice as it is.
@@ -128,8 +127,8 @@ impl Ivs {
     }
 
     /// A wait for data ends, and the voice opens; it may settle the call.
-    pub(super) fn times_out(&mut self, timer: Timer, settles: bool) -> Items
-        ensures items { result.items ≡ note.Ended «end».Vehicle self.old.call timer
+    pub(super) fn times_out(&mut self, timer: Timer, settles: bool, items: &mut Items)
+        ensures items { items.new.items ≡ note.Ended «end».Vehicle self.old.call timer
             ∷ note.Voice «end».Vehicle self.old.call true true ∷ [] }
         ensures new { self.new ≡ record self.old {
           phase = Phase.InCall Stage.Talking;
@@ -145,7 +144,7 @@ impl Ivs {
         }
         let ended = self.ends(timer);
         let opening = self.opens();
-        items_of(&[ended, opening])
+        fill(items, &[ended, opening])
     }
 
     /// Obeys a request: its set is made once, and sent.
@@ -206,12 +205,12 @@ impl Ivs {
     }
 
     /// The point lets the vehicle go.
-    pub(super) fn is_released(&mut self) -> Items
-        ensures items { result.items ≡ note.Down «end».Vehicle self.old.call why.Release ∷ note.Standby ∷ [] }
+    pub(super) fn is_released(&mut self, items: &mut Items)
+        ensures items { items.new.items ≡ note.Down «end».Vehicle self.old.call why.Release ∷ note.Standby ∷ [] }
         ensures new { self.new ≡ record self.old { phase = Phase.Standby; standby = 0 } }
     {
         let down = self.goes_down(Why::Release);
-        items_of(&[down, self.rests()])
+        fill(items, &[down, self.rests()])
     }
 
     // The items of a call.

@@ -5,7 +5,7 @@ ghost use Rattle.link_frames.specs.declared.note.Note.TheVariants as note;
 use super::{Ivs, Left, MOST_MUTED, Phase, Stage};
 use audio_switch::Switch;
 use callback::LONGEST_STANDBY;
-use link_frames::{Frame, Items, Note, Requests, Why, items_of};
+use link_frames::{Frame, Items, Note, Requests, Why, fill};
 use msd_fit::Cause;
 
 impl Ivs {
@@ -18,149 +18,155 @@ impl Ivs {
     ghost use Rattle.ivs_machine.specs.inner.Moves.{begun};
 
     /// A trigger.
-    pub(super) fn trigger(&mut self, cause: Cause) -> Items
-        ensures { Does IvsStandsFor IvsIs self.old self.new result.items (λ v. vehicle_row v (rows.Trigger cause)) }
+    pub(super) fn trigger(&mut self, cause: Cause, items: &mut Items)
+        ensures { Does IvsStandsFor IvsIs self.old self.new items.new.items (λ v. vehicle_row v (rows.Trigger cause)) }
     {
         match cause {
-            Cause::Auto => self.triggered_by_sensor(),
-            Cause::Manual => self.triggered_by_person(),
-            Cause::Test => self.triggered_by_test(),
+            Cause::Auto => self.triggered_by_sensor(items),
+            Cause::Manual => self.triggered_by_person(items),
+            Cause::Test => self.triggered_by_test(items),
         }
     }
 
     /// A sensor's trigger begins a series, also in the cancel period of a manual one.
-    fn triggered_by_sensor(&mut self) -> Items
-        ensures { Does IvsStandsFor IvsIs self.old self.new result.items (λ v. vehicle_row v (rows.Trigger Cause.Auto)) }
+    fn triggered_by_sensor(&mut self, items: &mut Items)
+        ensures { Does IvsStandsFor IvsIs self.old self.new items.new.items
+            (λ v. vehicle_row v (rows.Trigger Cause.Auto)) }
     {
         match self.phase {
-            Phase::Idle | Phase::Standby | Phase::Arming(_) => self.begins_for(Cause::Auto),
-            _ => items_of(&[Note::Nothing]),
+            Phase::Idle | Phase::Standby | Phase::Arming(_) => self.begins_for(Cause::Auto, items),
+            _ => fill(items, &[Note::Nothing]),
         }
     }
 
     /// A person's trigger begins the cancel period.
-    fn triggered_by_person(&mut self) -> Items
-        ensures { Does IvsStandsFor IvsIs self.old self.new result.items (λ v. vehicle_row v (rows.Trigger Cause.Manual)) }
+    fn triggered_by_person(&mut self, items: &mut Items)
+        ensures { Does IvsStandsFor IvsIs self.old self.new items.new.items
+            (λ v. vehicle_row v (rows.Trigger Cause.Manual)) }
     {
         match self.phase {
-            Phase::Idle => self.arms(Left::Idle),
-            Phase::Standby => self.arms(Left::Standby),
-            _ => items_of(&[Note::Nothing]),
+            Phase::Idle => self.arms(Left::Idle, items),
+            Phase::Standby => self.arms(Left::Standby, items),
+            _ => fill(items, &[Note::Nothing]),
         }
     }
 
     /// A test call's trigger begins a series.
-    fn triggered_by_test(&mut self) -> Items
-        ensures { Does IvsStandsFor IvsIs self.old self.new result.items (λ v. vehicle_row v (rows.Trigger Cause.Test)) }
+    fn triggered_by_test(&mut self, items: &mut Items)
+        ensures { Does IvsStandsFor IvsIs self.old self.new items.new.items
+            (λ v. vehicle_row v (rows.Trigger Cause.Test)) }
     {
         match self.phase {
-            Phase::Idle | Phase::Standby => self.begins_for(Cause::Test),
-            _ => items_of(&[Note::Nothing]),
+            Phase::Idle | Phase::Standby => self.begins_for(Cause::Test, items),
+            _ => fill(items, &[Note::Nothing]),
         }
     }
 
     /// A dial series begins for this cause.
-    fn begins_for(&mut self, cause: Cause) -> Items
-        ensures items { result.items ≡ (if self.old.network then note.Dial 1 else note.Seeking) ∷ [] }
+    fn begins_for(&mut self, cause: Cause, items: &mut Items)
+        ensures items { items.new.items ≡ (if self.old.network then note.Dial 1 else note.Seeking) ∷ [] }
         ensures begun { self.new ≡ begun (record self.old { cause = cause; sets = 0 }) }
     {
         self.cause = cause;
         self.sets = 0;
-        items_of(&[self.begins()])
+        fill(items, &[self.begins()])
     }
 
     /// The cancel period of a manual trigger begins.
-    fn arms(&mut self, before: Left) -> Items
-        ensures items { result.items ≡ note.Arming ∷ [] }
+    fn arms(&mut self, before: Left, items: &mut Items)
+        ensures items { items.new.items ≡ note.Arming ∷ [] }
         ensures armed { self.new ≡ record self.old { phase = Phase.Arming before; in_phase = 0 } }
     {
         self.phase = Phase::Arming(before);
         self.in_phase = 0;
-        items_of(&[Note::Arming])
+        fill(items, &[Note::Arming])
     }
 
     /// A manual trigger is taken back.
-    pub(super) fn cancel(&mut self) -> Items
-        ensures { Does IvsStandsFor IvsIs self.old self.new result.items (λ v. vehicle_row v rows.Cancel) }
+    pub(super) fn cancel(&mut self, items: &mut Items)
+        ensures { Does IvsStandsFor IvsIs self.old self.new items.new.items (λ v. vehicle_row v rows.Cancel) }
     {
         match self.phase {
             Phase::Arming(Left::Idle) => {
                 self.phase = Phase::Idle;
-                items_of(&[Note::Cancelled])
+                fill(items, &[Note::Cancelled])
             }
             Phase::Arming(Left::Standby) => {
                 if self.standby.elapsed() == LONGEST_STANDBY {
                     self.phase = Phase::Idle;
-                    items_of(&[Note::Cancelled, Note::Idle])
+                    fill(items, &[Note::Cancelled, Note::Idle])
                 } else {
                     self.phase = Phase::Standby;
-                    items_of(&[Note::Cancelled])
+                    fill(items, &[Note::Cancelled])
                 }
             }
-            _ => items_of(&[Note::Nothing]),
+            _ => fill(items, &[Note::Nothing]),
         }
     }
 
     /// The network is gone.
-    pub(super) fn net_down(&mut self) -> Items
-        ensures { Does IvsStandsFor IvsIs self.old self.new result.items (λ v. vehicle_row v (rows.Net false)) }
+    pub(super) fn net_down(&mut self, items: &mut Items)
+        ensures { Does IvsStandsFor IvsIs self.old self.new items.new.items (λ v. vehicle_row v (rows.Net false)) }
     {
         if !self.network {
-            return items_of(&[Note::Nothing]);
+            return fill(items, &[Note::Nothing]);
         }
         self.network = false;
         match self.phase {
-            Phase::Dialling => self.fails(&[Note::Net(false)]),
+            Phase::Dialling => self.fails(&[Note::Net(false)], items),
             Phase::InCall(_) => {
                 let down = self.goes_down(Why::Lost);
-                items_of(&[Note::Net(false), down, self.begins()])
+                fill(items, &[Note::Net(false), down, self.begins()])
             }
             Phase::Idle | Phase::Standby | Phase::Arming(_) | Phase::Pausing | Phase::Seeking => {
-                items_of(&[Note::Net(false)])
+                fill(items, &[Note::Net(false)])
             }
         }
     }
 
     /// The network is there.
-    pub(super) fn net_up(&mut self) -> Items
-        ensures { Does IvsStandsFor IvsIs self.old self.new result.items (λ v. vehicle_row v (rows.Net true)) }
+    pub(super) fn net_up(&mut self, items: &mut Items)
+        ensures { Does IvsStandsFor IvsIs self.old self.new items.new.items (λ v. vehicle_row v (rows.Net true)) }
     {
         if self.network {
-            return items_of(&[Note::Nothing]);
+            return fill(items, &[Note::Nothing]);
         }
         self.network = true;
         match self.phase {
             Phase::Seeking => {
                 let dial = self.dials();
-                items_of(&[Note::Net(true), dial])
+                fill(items, &[Note::Net(true), dial])
             }
-            _ => items_of(&[Note::Net(true)]),
+            _ => fill(items, &[Note::Net(true)]),
         }
     }
 
     /// The point took the call that is dialled.
-    pub(super) fn answered(&mut self, call: u32) -> Items
-        ensures { Does IvsStandsFor IvsIs self.old self.new result.items (λ v. vehicle_row v (rows.Answered call)) }
+    pub(super) fn answered(&mut self, call: u32, items: &mut Items)
+        ensures { Does IvsStandsFor IvsIs self.old self.new items.new.items (λ v. vehicle_row v (rows.Answered call)) }
     {
         match self.phase {
             Phase::Dialling => {
                 self.enters_call(call, Stage::Initiating, Switch::muted(MOST_MUTED), false);
-                items_of(&[self.up(), self.voices(false), self.sends(Frame::Init)])
+                fill(
+                    items,
+                    &[self.up(), self.voices(false), self.sends(Frame::Init)],
+                )
             }
-            _ => items_of(&[Note::Nothing]),
+            _ => fill(items, &[Note::Nothing]),
         }
     }
 
     /// The point calls.
-    pub(super) fn incoming(&mut self, call: u32) -> Items
-        ensures { Does IvsStandsFor IvsIs self.old self.new result.items (λ v. vehicle_row v (rows.Incoming call)) }
+    pub(super) fn incoming(&mut self, call: u32, items: &mut Items)
+        ensures { Does IvsStandsFor IvsIs self.old self.new items.new.items (λ v. vehicle_row v (rows.Incoming call)) }
     {
         match self.phase {
             Phase::Standby if self.network => {
                 self.enters_call(call, Stage::Talking, Switch::opened(MOST_MUTED), true);
-                items_of(&[self.up(), self.voices(true)])
+                fill(items, &[self.up(), self.voices(true)])
             }
-            _ => items_of(&[Note::Nothing]),
+            _ => fill(items, &[Note::Nothing]),
         }
     }
 
@@ -192,25 +198,25 @@ impl Ivs {
     }
 
     /// An attempt to dial failed.
-    pub(super) fn failed(&mut self) -> Items
-        ensures { Does IvsStandsFor IvsIs self.old self.new result.items (λ v. vehicle_row v rows.Failed) }
+    pub(super) fn failed(&mut self, items: &mut Items)
+        ensures { Does IvsStandsFor IvsIs self.old self.new items.new.items (λ v. vehicle_row v rows.Failed) }
     {
         match self.phase {
-            Phase::Dialling => self.fails(&[]),
-            _ => items_of(&[Note::Nothing]),
+            Phase::Dialling => self.fails(&[], items),
+            _ => fill(items, &[Note::Nothing]),
         }
     }
 
     /// The vehicle leaves its standby, where that lasted long enough.
-    pub(super) fn sleep(&mut self) -> Items
-        ensures { Does IvsStandsFor IvsIs self.old self.new result.items (λ v. vehicle_row v rows.Sleep) }
+    pub(super) fn sleep(&mut self, items: &mut Items)
+        ensures { Does IvsStandsFor IvsIs self.old self.new items.new.items (λ v. vehicle_row v rows.Sleep) }
     {
         match self.phase {
             Phase::Standby if self.standby.may_sleep() => {
                 self.phase = Phase::Idle;
-                items_of(&[Note::Idle])
+                fill(items, &[Note::Idle])
             }
-            _ => items_of(&[Note::Nothing]),
+            _ => fill(items, &[Note::Nothing]),
         }
     }
 }

@@ -7,7 +7,7 @@ use super::{
     LONGEST_CONFIRMING, LONGEST_SENDING, Left, MOST_MUTED, Phase, SENDS_EVERY, Stage,
 };
 use callback::LONGEST_STANDBY;
-use link_frames::{Frame, Items, Note, Request, Timer, Why, items_of};
+use link_frames::{Frame, Items, Note, Request, Timer, Why, fill};
 use msd_fit::Cause;
 use redial::{LONGEST_ATTEMPT, PAUSE, WINDOW};
 
@@ -95,124 +95,124 @@ impl Ivs {
     }
 
     /// What the timers and repeats do that have no ticks left.
-    pub(super) fn acts(&mut self) -> Items
-        ensures { Does IvsIsDue IvsIs self.old self.new result.items acts }
+    pub(super) fn acts(&mut self, items: &mut Items)
+        ensures { Does IvsIsDue IvsIs self.old self.new items.new.items acts }
     {
         match self.phase {
-            Phase::Idle => Items::new(),
+            Phase::Idle => items.clear(),
             Phase::Standby => {
                 if self.standby.elapsed() >= LONGEST_STANDBY {
                     self.phase = Phase::Idle;
-                    items_of(&[ended(Timer::T10), Note::Idle])
+                    fill(items, &[ended(Timer::T10), Note::Idle])
                 } else {
-                    Items::new()
+                    items.clear()
                 }
             }
             Phase::Arming(_) => {
                 if self.in_phase >= CANCEL_PERIOD {
                     self.cause = Cause::Manual;
                     self.sets = 0;
-                    items_of(&[ended(Timer::T1), self.begins()])
+                    fill(items, &[ended(Timer::T1), self.begins()])
                 } else {
-                    Items::new()
+                    items.clear()
                 }
             }
             Phase::Dialling => {
                 if self.in_phase >= LONGEST_ATTEMPT {
-                    self.fails(&[ended(Timer::TD)])
+                    self.fails(&[ended(Timer::TD)], items)
                 } else {
-                    Items::new()
+                    items.clear()
                 }
             }
-            Phase::Pausing => self.acts_pausing(),
+            Phase::Pausing => self.acts_pausing(items),
             Phase::Seeking => {
                 if self.series >= WINDOW {
-                    self.gives_up()
+                    self.gives_up(items)
                 } else {
-                    Items::new()
+                    items.clear()
                 }
             }
-            Phase::InCall(stage) => self.acts_in_call(stage),
+            Phase::InCall(stage) => self.acts_in_call(stage, items),
         }
     }
 
     /// The end of the series, or of the pause.
-    fn acts_pausing(&mut self) -> Items
+    fn acts_pausing(&mut self, items: &mut Items)
         requires { self.old.phase ≡ Phase.Pausing }
-        ensures { Does IvsIsDue IvsIs self.old self.new result.items acts }
+        ensures { Does IvsIsDue IvsIs self.old self.new items.new.items acts }
     {
         if self.series >= WINDOW {
-            self.gives_up()
+            self.gives_up(items)
         } else if self.in_phase >= PAUSE {
             if self.network {
                 let dial = self.dials();
-                items_of(&[dial])
+                fill(items, &[dial])
             } else {
                 self.phase = Phase::Seeking;
-                items_of(&[Note::Seeking])
+                fill(items, &[Note::Seeking])
             }
         } else {
-            Items::new()
+            items.clear()
         }
     }
 
     /// The timers and repeats of a call, by rank.
-    fn acts_in_call(&mut self, stage: Stage) -> Items
+    fn acts_in_call(&mut self, stage: Stage, items: &mut Items)
         requires { self.old.phase ≡ Phase.InCall stage }
-        ensures { Does IvsIsDue IvsIs self.old self.new result.items acts }
+        ensures { Does IvsIsDue IvsIs self.old self.new items.new.items acts }
     {
         if self.in_call >= LONGEST_CALL {
             let ended = self.ends(Timer::T2);
             let down = self.goes_down(Why::Release);
-            return items_of(&[ended, down, self.rests()]);
+            return fill(items, &[ended, down, self.rests()]);
         }
         if self.voice.muted_for() >= MOST_MUTED {
-            return self.times_out(Timer::Sum, true);
+            return self.times_out(Timer::Sum, true, items);
         }
         match stage {
-            Stage::Initiating => self.acts_initiating(),
+            Stage::Initiating => self.acts_initiating(items),
             Stage::Awaiting if self.in_phase >= LONGEST_AWAITING => {
-                self.times_out(Timer::T5, true)
+                self.times_out(Timer::T5, true, items)
             }
-            Stage::Sending(request) => self.acts_sending(request),
+            Stage::Sending(request) => self.acts_sending(request, items),
             Stage::Confirming(_) if self.in_phase >= LONGEST_CONFIRMING => {
-                self.times_out(Timer::T6, false)
+                self.times_out(Timer::T6, false, items)
             }
-            Stage::Awaiting | Stage::Confirming(_) | Stage::Talking => Items::new(),
+            Stage::Awaiting | Stage::Confirming(_) | Stage::Talking => items.clear(),
         }
     }
 
     /// The end of the initiation, or its repeat.
-    fn acts_initiating(&mut self) -> Items
+    fn acts_initiating(&mut self, items: &mut Items)
         requires phase { self.old.phase ≡ Phase.InCall Stage.Initiating }
         requires call { self.old.in_call < LONGEST_CALL }
         requires sum { muted_ticks self.old.voice.stretch < MOST_MUTED }
-        ensures { Does IvsIsDue IvsIs self.old self.new result.items acts }
+        ensures { Does IvsIsDue IvsIs self.old self.new items.new.items acts }
     {
         if self.in_phase >= INITIATION {
             self.enters(Stage::Awaiting);
-            items_of(&[self.ends(Timer::T3)])
+            fill(items, &[self.ends(Timer::T3)])
         } else if self.in_phase.is_multiple_of(INITIATES_EVERY) {
-            items_of(&[self.sends(Frame::Init)])
+            fill(items, &[self.sends(Frame::Init)])
         } else {
-            Items::new()
+            items.clear()
         }
     }
 
     /// The end of sending a set, or the next attempt.
-    fn acts_sending(&mut self, request: Request) -> Items
+    fn acts_sending(&mut self, request: Request, items: &mut Items)
         requires phase { self.old.phase ≡ Phase.InCall (Stage.Sending request) }
         requires call { self.old.in_call < LONGEST_CALL }
         requires sum { muted_ticks self.old.voice.stretch < MOST_MUTED }
-        ensures { Does IvsIsDue IvsIs self.old self.new result.items acts }
+        ensures { Does IvsIsDue IvsIs self.old self.new items.new.items acts }
     {
         if self.in_phase >= LONGEST_SENDING {
-            self.times_out(Timer::T7, true)
+            self.times_out(Timer::T7, true, items)
         } else if self.in_phase.is_multiple_of(SENDS_EVERY) {
             let again = self.sends_again(request);
-            items_of(&[again])
+            fill(items, &[again])
         } else {
-            Items::new()
+            items.clear()
         }
     }
 }

@@ -1,7 +1,7 @@
 use Rattle.link_frames.specs.Frame.{lent}
 use Rattle.ivs_machine.specs.VehicleRows.{Trigger, Arrives}
 use Rattle.ivs_machine.proofs.Hears.{row_stands}
-use Rattle.ivs_machine.proofs.vehicle.Ivs.hear.Goals as goal
+use Rattle.ivs_machine.proofs.vehicle.Ivs.hear_into.Goals as goal
 
 pub returns-in-Trigger : goal.returns-in-Trigger
 returns-in-Trigger c = rw c.in-Trigger.is (row_stands (Trigger c.in-Trigger.cause) _ _ _ c.trigger.ensures)

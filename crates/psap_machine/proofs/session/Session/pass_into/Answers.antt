@@ -1,5 +1,5 @@
-use Rattle.ivs_machine.proofs.Hears.{pass_stands}
-use Rattle.ivs_machine.proofs.vehicle.Ivs.pass.Goals as goal
+use Rattle.psap_machine.proofs.Hears.{pass_stands}
+use Rattle.psap_machine.proofs.session.Session.pass_into.Goals as goal
 
 pub returns-clause-ticks : goal.returns-clause-ticks
 returns-clause-ticks g c =
