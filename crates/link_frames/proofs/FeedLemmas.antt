@@ -21,15 +21,15 @@ use Rattle.link_frames.specs.Stages.{kind_octet, before, octet_of, fault_of, fra
 use Rattle.link_frames.proofs.FrameLemmas.{front_has_none}
 use Rattle.link_frames.specs.inner.Coming.{request_of, request_of_head, request_of_stop, filled_of, is_open, is_stopped, IsWrong, Came, ComesTo}
 
-unfoldable zeros : List ℕ
+unfoldable pub zeros : List ℕ
 zeros = replicate 140 0
 
-zeros-length : length zeros ≡ 140
+pub zeros-length : length zeros ≡ 140
 unfolding zeros
 zeros-length = length-replicate {A = ℕ} 140 0
 
 -- each kind of frame that has a request begins one
-kind_begins : (kind : Kind) → IsFrameFront (kind_octet kind ∷ [])
+pub kind_begins : (kind : Kind) → IsFrameFront (kind_octet kind ∷ [])
 kind_begins kinds.Start = record { frame = frame.Start 1; next = 1; more = []; is_frame = omega arith; goes_on = refl }
 kind_begins kinds.Content =
     record { frame = frame.Content 1 0 zeros; next = 1; more = 0 ∷ zeros; is_frame = (omega arith, zeros-length); goes_on = refl }
@@ -41,11 +41,15 @@ kind_begins kinds.App =
 pub nothing_begins : IsFrameFront []
 nothing_begins = record { frame = frame.Init; next = 1; more = []; is_frame = tt; goes_on = refl }
 
-app_begins : (request : ℕ) → 0 < request → IsFrameFront (6 ∷ request ∷ [])
+pub app_begins : (request : ℕ) → 0 < request → IsFrameFront (6 ∷ request ∷ [])
 app_begins request h =
     record { frame = frame.App request answers.Positive; next = 1; more = []; is_frame = h; goes_on = refl }
 
-set_begins : (set : List ℕ) (request attempt filled : ℕ)
+pub request_begins : (request : ℕ) → 0 < request → IsFrameFront (3 ∷ request ∷ [])
+request_begins request h =
+    record { frame = frame.Content request 0 zeros; next = 0; more = zeros; is_frame = (h, zeros-length); goes_on = refl }
+
+pub set_begins : (set : List ℕ) (request attempt filled : ℕ)
     → length set ≡ 140
     → 0 < request
     → filled < 140
@@ -71,8 +75,7 @@ open_begins : (set : List ℕ) (stage : Stage)
     → IsFrameFront (kept set stage)
 open_begins set stages.Nothing size h part going = nothing_begins
 open_begins set (stages.Kind kind) size h part going = kind_begins kind
-open_begins set (stages.Content request) size h part going =
-    record { frame = frame.Content request 0 zeros; next = 0; more = zeros; is_frame = (h, zeros-length); goes_on = refl }
+open_begins set (stages.Content request) size h part going = request_begins request h
 open_begins set (stages.App request) size h part going = app_begins request h
 open_begins set (stages.Set request attempt filled) size h part going = set_begins set request attempt filled size h part
 open_begins set stage size h part going = absurd cc
@@ -113,7 +116,7 @@ answer_is (frame.App r answers.Clear) request octet more e = inr cc
 answer_is f request octet more e = absurd cc
 
 -- where a reader stops, no frame goes on
-stop_stops : (stop : Stop) → 0 < request_of_stop stop → IsWrong stop → StopsBehind (before stop) (octet_of stop) (fault_of stop)
+pub stop_stops : (stop : Stop) → 0 < request_of_stop stop → IsWrong stop → StopsBehind (before stop) (octet_of stop) (fault_of stop)
 stop_stops (stops.Kind octet) h wrong = record {
   begun = nothing_begins;
   none = λ f more is e. (let range : (0 < octet) × (octet < 7) = first_octet f octet more e in wrong range.0 range.1);

@@ -67,7 +67,7 @@ abbrev pub HasNoFrame : List ℕ → Type 0
 HasNoFrame octets = (f : Frame) (more : List ℕ) → IsFrame f → octets ≡ frame_octets f ++ more → ⊥
 
 -- a list that has an element isn't empty
-not_nil : (xs ys : List ℕ) (y : ℕ) → xs ++ y ∷ ys ≡ [] → ⊥
+pub not_nil : (xs ys : List ℕ) (y : ℕ) → xs ++ y ∷ ys ≡ [] → ⊥
 not_nil [] ys y e = cc
 not_nil (x ∷ xs) ys y e = cc
 

@@ -75,17 +75,17 @@ one_stop stream fs gs f g p q =
     (frames, same_fault_here f g (p.place ∙ (octets ∙ sym q.place)) stop.octet stop.fault)
 
 -- one more frame behind others
-all_behind : (fs : List Frame) (f : Frame) → all_octets (fs ++ f ∷ []) ≡ all_octets fs ++ frame_octets f
+pub all_behind : (fs : List Frame) (f : Frame) → all_octets (fs ++ f ∷ []) ≡ all_octets fs ++ frame_octets f
 all_behind [] f = append-nil (frame_octets f)
 all_behind (g ∷ fs) f =
     ap (λ (octets : List ℕ). frame_octets g ++ octets) (all_behind fs f) ∙ sym (append_assoc (frame_octets g) (all_octets fs) (frame_octets f))
 
-each_behind : (fs : List Frame) (f : Frame) → AllByRecursion IsFrame fs → IsFrame f → AllByRecursion IsFrame (fs ++ f ∷ [])
+pub each_behind : (fs : List Frame) (f : Frame) → AllByRecursion IsFrame fs → IsFrame f → AllByRecursion IsFrame (fs ++ f ∷ [])
 each_behind [] f p q = (q, tt)
 each_behind (g ∷ fs) f p q = (p.0, each_behind fs f p.1 q)
 
 -- what came of the next frame, and a piece whose front goes on with it
-joined : (frames : List Frame) (stream had front : List ℕ)
+pub joined : (frames : List Frame) (stream had front : List ℕ)
     → stream ≡ all_octets frames ++ had
     → stream ++ front ≡ all_octets frames ++ (had ++ front)
 joined frames stream had front e = ap (λ (octets : List ℕ). octets ++ front) e ∙ append_assoc (all_octets frames) had front

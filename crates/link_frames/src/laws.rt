@@ -1,6 +1,6 @@
 //! The limits of what the two ends say and do.
 
-ghost use Rattle.std.specs.Prelude.{◌≡◌, ℕ, List, [], ◌++◌, take, None, Ok, Err};
+ghost use Rattle.std.specs.Prelude.{◌≡◌, ℕ, List, [], ◌++◌, ◌⊎◌, take, None, Ok, Err};
 ghost use Rattle.link_frames.specs.declared.fault.FrameFault.{FrameFault};
 ghost use Rattle.link_frames.specs.declared.frame.Frame.{Frame};
 ghost use Rattle.link_frames.specs.FrameOctets.{frame_octets, IsFrame};
@@ -22,6 +22,9 @@ pub fn limits()
 pub fn frame_laws()
     ensures apart { (f g : Frame) (more : List ℕ) → IsFrame f → IsFrame g
         → frame_octets g ≡ frame_octets f ++ more → (f ≡ g) × (more ≡ []) }
+    ensures some_reading { (stream : List ℕ)
+        → ((frames : List Frame) × (rest : List ℕ) × Holds stream frames rest)
+        ⊎ ((frames : List Frame) × (fault : FrameFault) × FrameStops stream frames fault) }
     ensures one_reading { (stream : List ℕ) (frames others : List Frame) (rest other : List ℕ)
         → Holds stream frames rest → Holds stream others other → (frames ≡ others) × (rest ≡ other) }
     ensures one_stop { (stream : List ℕ) (frames others : List Frame) (fault other : FrameFault)

@@ -2,11 +2,15 @@
 use Rattle.std.proofs.Common.{refl}
 use Rattle.link_frames.proofs.FeedLemmas.{nothing_begins}
 use Rattle.link_frames.proofs.FrameLemmas.{same_frame}
+use Rattle.link_frames.proofs.NextLemmas.{some_reading}
 use Rattle.link_frames.proofs.StreamLemmas as streams
 use Rattle.link_frames.proofs.laws.frame_laws.Goals as goal
 
 pub returns-clause-apart : goal.returns-clause-apart
 returns-clause-apart c = same_frame
+
+pub returns-clause-some_reading : goal.returns-clause-some_reading
+returns-clause-some_reading c = some_reading
 
 pub returns-clause-one_reading : goal.returns-clause-one_reading
 returns-clause-one_reading c = streams.one_reading
