@@ -1,6 +1,5 @@
 -- How far a frame has come behind one more octet of its head, and behind more octets of its set.
-use Rattle.std.proofs.Common.{◌≡◌, ◌≤◌, ◌<◌, ◌+◌, ◌-◌, ◌∙◌, ℕ, true, false, List, [], ◌∷◌, ◌++◌, Some, length, take, drop, refl, sym, ap, subst, arith, append-nil, append_assoc, ◌⊎◌, inl, inr, get_or}
-use Rattle.std.specs.Prelude.{slice_get}
+use Rattle.std.proofs.Common.{◌≡◌, ◌≤◌, ◌<◌, ◌+◌, ◌∙◌, ℕ, true, false, List, [], ◌∷◌, ◌++◌, Some, length, take, drop, sym, ap, subst, arith, append-nil, append_assoc, inl, inr, get_or}
 use Rattle.std.proofs.lemmas.List.{take-append-drop, take-take, drop-take, take_more, take_all}
 use Rattle.std.proofs.lemmas.Option.{slice_get-get_or}
 use Rattle.std.proofs.lemmas.Bool.{cases_lt}
@@ -16,11 +15,14 @@ take_two n m xs =
     let within : n ≤ n + m = omega arith in
     let front : take n (take (n + m) xs) ≡ take n xs = take-take n (n + m) xs within in
     let rest : drop n (take (n + m) xs) ≡ take m (drop n xs) = drop-take n m xs in
-    let whole : take n (take (n + m) xs) ++ drop n (take (n + m) xs) ≡ take (n + m) xs = take-append-drop n (take (n + m) xs) in
+    let whole : take n (take (n + m) xs) ++ drop n (take (n + m) xs) ≡ take (n + m) xs =
+    take-append-drop n (take (n + m) xs) in
     cc
 
 -- before any octet of a piece
-pub comes_first : (set piece : List ℕ) (stage : Stage) → is_open stage ≡ true → ComesTo set (kept set stage) piece 0 stage
+pub comes_first : (set piece : List ℕ) (stage : Stage)
+    → is_open stage ≡ true
+    → ComesTo set (kept set stage) piece 0 stage
 comes_first set piece (stages.Whole head) h = absurd cc
 comes_first set piece (stages.Stopped stop) h = absurd cc
 comes_first set piece stage h = append-nil (kept set stage)
@@ -95,7 +97,8 @@ comes_in_set old new had piece request attempt filled n m stage size bound behin
     let apart : (had ++ take n piece) ++ take m (drop n piece) ≡ had ++ (take n piece ++ take m (drop n piece)) =
     append_assoc had (take n piece) (take m (drop n piece)) in
     let now : had ++ take n piece ≡ 3 ∷ request ∷ attempt ∷ take filled old = comes in
-    let front : (3 ∷ request ∷ attempt ∷ take filled old) ++ take m (drop n piece) ≡ 3 ∷ request ∷ attempt ∷ take (filled + m) new =
+    let front : (3 ∷ request ∷ attempt ∷ take filled old) ++ take m (drop n piece) ≡ 3 ∷ request ∷ attempt ∷ take
+    (filled + m) new =
     ap (λ (xs : List ℕ). 3 ∷ request ∷ attempt ∷ xs) (sym behind) in
     let all : had ++ take (n + m) piece ≡ 3 ∷ request ∷ attempt ∷ take (filled + m) new = cc in
     elim (cases_lt (filled + m) 140) [

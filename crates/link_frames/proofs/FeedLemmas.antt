@@ -1,5 +1,5 @@
 -- What a stage says of the octets that came to it, as what a piece makes of a reader.
-use Rattle.std.proofs.Common.{◌≡◌, ◌≤◌, ◌<◌, ◌+◌, ◌∙◌, ℕ, zero, suc, true, false, List, [], ◌∷◌, ◌++◌, Option, Some, None, Result, Ok, Err, length, take, drop, replicate, get_or, refl, sym, ap, subst, arith, append-nil, ◌⊎◌, inl, inr}
+use Rattle.std.proofs.Common.{◌≡◌, ◌≤◌, ◌<◌, ◌+◌, ◌∙◌, ℕ, zero, suc, true, false, List, [], ◌∷◌, ◌++◌, Some, None, Ok, length, take, drop, replicate, get_or, refl, sym, ap, subst, arith, append-nil, ◌⊎◌, inl, inr}
 use Rattle.std.specs.Prelude.{slice_get}
 use Rattle.std.proofs.lemmas.List.{take-append-drop, drop_more, take_all, length-take-le, length-replicate}
 use Rattle.std.proofs.lemmas.Option.{slice_get_within, get_or_from_slice_get}
@@ -15,11 +15,11 @@ use Rattle.link_frames.specs.declared.stage.Stage.{Stage}
 use Rattle.link_frames.specs.declared.stage.Stage.TheVariants as stages
 use Rattle.link_frames.specs.declared.stage.Stop.{Stop}
 use Rattle.link_frames.specs.declared.stage.Stop.TheVariants as stops
-use Rattle.link_frames.specs.FrameOctets.{answer_octet, frame_octets, IsFrame, IsFrameFront, StopsBehind}
-use Rattle.link_frames.specs.Reading.{Reading, EndsFrame, TakesAll, StopsIn, Feeds}
+use Rattle.link_frames.specs.FrameOctets.{frame_octets, IsFrame, IsFrameFront, StopsBehind}
+use Rattle.link_frames.specs.Reading.{Reading, TakesAll, StopsIn, Feeds}
 use Rattle.link_frames.specs.Stages.{kind_octet, before, octet_of, fault_of, frame_of, kept, whole_frame, fault_at}
 use Rattle.link_frames.proofs.FrameLemmas.{front_has_none}
-use Rattle.link_frames.specs.inner.Coming.{request_of, request_of_head, request_of_stop, filled_of, is_open, is_stopped, IsWrong, Came, ComesTo}
+use Rattle.link_frames.specs.inner.Coming.{request_of, request_of_head, request_of_stop, filled_of, is_open, is_stopped, IsWrong, ComesTo}
 
 unfoldable pub zeros : List ℕ
 zeros = replicate 140 0
@@ -32,7 +32,13 @@ zeros-length = length-replicate {A = ℕ} 140 0
 pub kind_begins : (kind : Kind) → IsFrameFront (kind_octet kind ∷ [])
 kind_begins kinds.Start = record { frame = frame.Start 1; next = 1; more = []; is_frame = omega arith; goes_on = refl }
 kind_begins kinds.Content =
-    record { frame = frame.Content 1 0 zeros; next = 1; more = 0 ∷ zeros; is_frame = (omega arith, zeros-length); goes_on = refl }
+    record {
+      frame = frame.Content 1 0 zeros;
+      next = 1;
+      more = 0 ∷ zeros;
+      is_frame = (omega arith, zeros-length);
+      goes_on = refl;
+    }
 kind_begins kinds.Nack = record { frame = frame.Nack 1; next = 1; more = []; is_frame = omega arith; goes_on = refl }
 kind_begins kinds.Ack = record { frame = frame.Ack 1; next = 1; more = []; is_frame = omega arith; goes_on = refl }
 kind_begins kinds.App =
@@ -47,7 +53,13 @@ app_begins request h =
 
 pub request_begins : (request : ℕ) → 0 < request → IsFrameFront (3 ∷ request ∷ [])
 request_begins request h =
-    record { frame = frame.Content request 0 zeros; next = 0; more = zeros; is_frame = (h, zeros-length); goes_on = refl }
+    record {
+      frame = frame.Content request 0 zeros;
+      next = 0;
+      more = zeros;
+      is_frame = (h, zeros-length);
+      goes_on = refl;
+    }
 
 pub set_begins : (set : List ℕ) (request attempt filled : ℕ)
     → length set ≡ 140
@@ -77,7 +89,8 @@ open_begins set stages.Nothing size h part going = nothing_begins
 open_begins set (stages.Kind kind) size h part going = kind_begins kind
 open_begins set (stages.Content request) size h part going = request_begins request h
 open_begins set (stages.App request) size h part going = app_begins request h
-open_begins set (stages.Set request attempt filled) size h part going = set_begins set request attempt filled size h part
+open_begins set (stages.Set request attempt filled) size h part going =
+    set_begins set request attempt filled size h part
 open_begins set stage size h part going = absurd cc
 
 -- a whole stage is a frame
@@ -116,7 +129,10 @@ answer_is (frame.App r answers.Clear) request octet more e = inr cc
 answer_is f request octet more e = absurd cc
 
 -- where a reader stops, no frame goes on
-pub stop_stops : (stop : Stop) → 0 < request_of_stop stop → IsWrong stop → StopsBehind (before stop) (octet_of stop) (fault_of stop)
+pub stop_stops : (stop : Stop)
+    → 0 < request_of_stop stop
+    → IsWrong stop
+    → StopsBehind (before stop) (octet_of stop) (fault_of stop)
 stop_stops (stops.Kind octet) h wrong = record {
   begun = nothing_begins;
   none = λ f more is e. (let range : (0 < octet) × (octet < 7) = first_octet f octet more e in wrong range.0 range.1);
@@ -143,7 +159,9 @@ reading_at set stage taken = record {
 }
 
 -- an element in its place
-element_at : (xs : List ℕ) (n x : ℕ) → slice_get xs n ≡ Some x → (xs ≡ take n xs ++ x ∷ drop (n + 1) xs) × (n < length xs)
+element_at : (xs : List ℕ) (n x : ℕ)
+    → slice_get xs n ≡ Some x
+    → (xs ≡ take n xs ++ x ∷ drop (n + 1) xs) × (n < length xs)
 element_at xs n x e =
     let within : n < length xs = slice_get_within xs n x e in
     let here : get_or xs n 0 ≡ x = get_or_from_slice_get xs n x 0 e in
@@ -186,7 +204,8 @@ pub feeds_err : (old : Reading) (set piece : List ℕ) (n : ℕ) (stage : Stage)
 feeds_err old set piece n (stages.Stopped stop) fault h comes e =
     let at : (piece ≡ take n piece ++ octet_of stop ∷ drop (n + 1) piece) × (n < length piece) =
     element_at piece n (octet_of stop) comes.1 in
-    let size : length (take n piece) ≡ n = (let within : n ≤ length piece = omega arith in length-take-le n piece within) in
+    let size : length (take n piece) ≡ n =
+    (let within : n ≤ length piece = omega arith in length-take-le n piece within) in
     let here : FrameFault = record { place = old.taken + n; octet = octet_of stop; fault = fault_of stop } in
     let same : here ≡ fault = cc in
     let P : FrameFault → Type 0 = λ f. StopsIn old piece f (reading_at set (stages.Stopped stop) (old.taken + n)) in
@@ -194,7 +213,9 @@ feeds_err old set piece n (stages.Stopped stop) fault h comes e =
       front = take n piece;
       more = drop (n + 1) piece;
       split = at.0;
-      stops = subst (λ (octets : List ℕ). StopsBehind octets (octet_of stop) (fault_of stop)) (sym comes.0) (stop_stops stop h comes.2);
+      stops =
+          subst (λ (octets : List ℕ). StopsBehind octets (octet_of stop) (fault_of stop)) (sym comes.0)
+          (stop_stops stop h comes.2);
       place = omega arith;
       after = ap (λ (octets : List ℕ). stopped_at octets here) (sym comes.0);
     })

@@ -1,5 +1,5 @@
 -- No frame's octets begin another's, and what begins a frame, or stops one, has no whole frame in front.
-use Rattle.std.proofs.Common.{◌≡◌, ◌≤◌, ◌<◌, ◌+◌, ◌-◌, ◌∙◌, ℕ, zero, suc, true, false, List, [], ◌∷◌, ◌++◌, length, refl, sym, ap, subst, arith, append-nil, append_assoc, length-append, ◌⊎◌, inl, inr}
+use Rattle.std.proofs.Common.{◌≡◌, ◌+◌, ◌∙◌, ℕ, List, [], ◌∷◌, ◌++◌, length, refl, sym, ap, subst, arith, append-nil, append_assoc, length-append, ◌⊎◌, inl, inr}
 use Rattle.link_frames.specs.declared.fault.Fault.{Fault}
 use Rattle.link_frames.specs.declared.fault.Fault.TheVariants as faults
 use Rattle.link_frames.specs.declared.frame.Answer.{Answer}
@@ -74,7 +74,8 @@ not_nil (x ∷ xs) ys y e = cc
 pub front_has_none : (octets : List ℕ) → IsFrameFront octets → HasNoFrame octets
 front_has_none octets front f more is e =
     let all : frame_octets front.frame ≡ octets ++ front.next ∷ front.more = front.goes_on in
-    let apart : (frame_octets f ++ more) ++ front.next ∷ front.more ≡ frame_octets f ++ (more ++ front.next ∷ front.more) =
+    let apart : (frame_octets f ++ more) ++ front.next ∷ front.more ≡ frame_octets f ++
+    (more ++ front.next ∷ front.more) =
     append_assoc (frame_octets f) more (front.next ∷ front.more) in
     let begins : frame_octets front.frame ≡ frame_octets f ++ (more ++ front.next ∷ front.more) = cc in
     not_nil more front.more front.next
@@ -96,7 +97,8 @@ stop_has_none_at : (before more rest behind : List ℕ) (octet : ℕ) (fault : F
     → octet ∷ more ≡ rest ++ behind
     → ⊥
 stop_has_none_at before more [] behind octet fault f stops is longer next =
-    front_has_none before stops.begun f [] is (sym (append-nil before) ∙ (sym longer ∙ sym (append-nil (frame_octets f))))
+    front_has_none before stops.begun f [] is (sym (append-nil before) ∙ (sym longer
+    ∙ sym (append-nil (frame_octets f))))
 stop_has_none_at before more (r ∷ rest) behind octet fault f stops is longer next =
     let same : octet ≡ r = cc in
     stops.none f rest is (rw same longer)

@@ -1,11 +1,11 @@
 -- A stream has one reading, and pieces of it are read as the whole is.
-use Rattle.std.proofs.Common.{◌≡◌, ◌≤◌, ◌+◌, ◌-◌, ◌∙◌, ℕ, List, [], ◌∷◌, ◌++◌, length, take, drop, Option, Some, None, Result, Ok, Err, refl, sym, ap, subst, arith, append-nil, append_assoc, length-append, length-drop, ◌⊎◌, inl, inr}
-use Rattle.std.specs.List.{AllByRecursion, flat_map}
+use Rattle.std.proofs.Common.{◌≡◌, ◌≤◌, ◌+◌, ◌-◌, ◌∙◌, ℕ, List, [], ◌∷◌, ◌++◌, length, take, drop, Some, None, Result, Ok, Err, refl, sym, ap, subst, arith, append-nil, append_assoc, length-append, length-drop, inl, inr}
+use Rattle.std.specs.List.{AllByRecursion}
 use Rattle.std.proofs.lemmas.List.{take_all, length-take-le, take-append-drop}
 use Rattle.link_frames.specs.declared.fault.FrameFault.{FrameFault}
 use Rattle.link_frames.specs.declared.fault.Fault.{Fault}
 use Rattle.link_frames.specs.declared.frame.Frame.{Frame}
-use Rattle.link_frames.specs.FrameOctets.{frame_octets, IsFrame, IsFrameFront, StopsBehind}
+use Rattle.link_frames.specs.FrameOctets.{frame_octets, IsFrame, IsFrameFront}
 use Rattle.link_frames.specs.Streams.{all_octets, Holds, FrameStops}
 use Rattle.link_frames.specs.Reading.{Reading, EndsFrame, TakesAll, StopsIn, Feeds, HasRead, and_frame}
 use Rattle.link_frames.proofs.FeedLemmas.{nothing_begins, resting_at, stopped_at}
@@ -78,9 +78,13 @@ one_stop stream fs gs f g p q =
 pub all_behind : (fs : List Frame) (f : Frame) → all_octets (fs ++ f ∷ []) ≡ all_octets fs ++ frame_octets f
 all_behind [] f = append-nil (frame_octets f)
 all_behind (g ∷ fs) f =
-    ap (λ (octets : List ℕ). frame_octets g ++ octets) (all_behind fs f) ∙ sym (append_assoc (frame_octets g) (all_octets fs) (frame_octets f))
+    ap (λ (octets : List ℕ). frame_octets g ++ octets) (all_behind fs f)
+    ∙ sym (append_assoc (frame_octets g) (all_octets fs) (frame_octets f))
 
-pub each_behind : (fs : List Frame) (f : Frame) → AllByRecursion IsFrame fs → IsFrame f → AllByRecursion IsFrame (fs ++ f ∷ [])
+pub each_behind : (fs : List Frame) (f : Frame)
+    → AllByRecursion IsFrame fs
+    → IsFrame f
+    → AllByRecursion IsFrame (fs ++ f ∷ [])
 each_behind [] f p q = (q, tt)
 each_behind (g ∷ fs) f p q = (p.0, each_behind fs f p.1 q)
 
@@ -88,7 +92,8 @@ each_behind (g ∷ fs) f p q = (p.0, each_behind fs f p.1 q)
 pub joined : (frames : List Frame) (stream had front : List ℕ)
     → stream ≡ all_octets frames ++ had
     → stream ++ front ≡ all_octets frames ++ (had ++ front)
-joined frames stream had front e = ap (λ (octets : List ℕ). octets ++ front) e ∙ append_assoc (all_octets frames) had front
+joined frames stream had front e =
+    ap (λ (octets : List ℕ). octets ++ front) e ∙ append_assoc (all_octets frames) had front
 
 length_taken : (stream piece : List ℕ) (n : ℕ) → n ≤ length piece → length (stream ++ take n piece) ≡ length stream + n
 length_taken stream piece n h =
@@ -106,7 +111,8 @@ read_frame stream piece frames n old new p q =
     let whole : stream ++ take n piece ≡ all_octets frames ++ (old.kept ++ take n piece) =
     joined frames stream old.kept (take n piece) p.holds.whole in
     let octets : frame_octets q.frame ≡ old.kept ++ take n piece = q.octets in
-    let more : all_octets (frames ++ q.frame ∷ []) ≡ all_octets frames ++ frame_octets q.frame = all_behind frames q.frame in
+    let more : all_octets (frames ++ q.frame ∷ []) ≡ all_octets frames ++ frame_octets q.frame =
+    all_behind frames q.frame in
     let nil : all_octets (frames ++ q.frame ∷ []) ++ [] ≡ all_octets (frames ++ q.frame ∷ []) =
     append-nil (all_octets (frames ++ q.frame ∷ [])) in
     rw q.after (record {
@@ -126,7 +132,8 @@ read_rest stream piece frames n old new p q =
     let size : length (stream ++ piece) ≡ length stream + length piece = length-append stream piece in
     let taken : old.taken ≡ length stream = p.taken in
     rw (q.after, front) (record {
-      holds = record { each = p.holds.each; begun = q.begun; whole = joined frames stream old.kept piece p.holds.whole };
+      holds =
+          record { each = p.holds.each; begun = q.begun; whole = joined frames stream old.kept piece p.holds.whole };
       taken = omega arith;
       going = refl;
     })
@@ -137,7 +144,11 @@ pub goes_on : (stream piece : List ℕ) (frames : List Frame) (n : ℕ) (old new
     → Feeds old piece (Ok n) new
     → HasRead (stream ++ take n piece) (and_frame frames new.frame) new
 goes_on stream piece frames n old new p q =
-    elim q [ inl whole ↦ read_frame stream piece frames n old new p whole | inr rest ↦ read_rest stream piece frames n old new p rest ]
+    elim q [
+      | inl whole ↦ read_frame stream piece frames n old new p whole
+      | inr rest ↦ read_rest stream piece frames n
+          old new p rest
+    ]
 
 -- where a reader stops, the stream stops
 pub stops_there : (stream piece : List ℕ) (frames : List Frame) (fault : FrameFault) (old new : Reading)
@@ -145,7 +156,8 @@ pub stops_there : (stream piece : List ℕ) (frames : List Frame) (fault : Frame
     → Feeds old piece (Err fault) new
     → FrameStops (stream ++ piece) frames fault
 stops_there stream piece frames fault old new p q =
-    let whole : stream ++ q.front ≡ all_octets frames ++ (old.kept ++ q.front) = joined frames stream old.kept q.front p.holds.whole in
+    let whole : stream ++ q.front ≡ all_octets frames ++ (old.kept ++ q.front) =
+    joined frames stream old.kept q.front p.holds.whole in
     let size : length (stream ++ q.front) ≡ length stream + length q.front = length-append stream q.front in
     let same : length (stream ++ q.front) ≡ length (all_octets frames ++ (old.kept ++ q.front)) = ap length whole in
     let taken : old.taken ≡ length stream = p.taken in
@@ -158,7 +170,8 @@ stops_there stream piece frames fault old new p q =
       whole =
           joined frames stream old.kept piece p.holds.whole
           ∙ (ap (λ (octets : List ℕ). all_octets frames ++ (old.kept ++ octets)) q.split
-          ∙ ap (λ (octets : List ℕ). all_octets frames ++ octets) (sym (append_assoc old.kept q.front (fault.octet ∷ q.more))));
+          ∙ ap (λ (octets : List ℕ). all_octets frames ++ octets) (sym (append_assoc old.kept q.front
+          (fault.octet ∷ q.more))));
       place = omega arith;
     }
 
@@ -224,16 +237,25 @@ stops_once old piece f g a b p q =
     let one : stopped_at (old.kept ++ p.front) f ≡ stopped_at (old.kept ++ q.front) g = cc in
     (fault, p.after ∙ (one ∙ sym q.after))
 
-ends_or_takes : (old : Reading) (piece : List ℕ) (m n : ℕ) (a b : Reading) → EndsFrame old piece m a → TakesAll old piece n b → ⊥
+ends_or_takes : (old : Reading) (piece : List ℕ) (m n : ℕ) (a b : Reading)
+    → EndsFrame old piece m a
+    → TakesAll old piece n b
+    → ⊥
 ends_or_takes old piece m n a b p q =
     front_has_none (old.kept ++ piece) q.begun p.frame (drop m piece) p.is_frame (ends_whole old piece m a p)
 
-ends_or_stops : (old : Reading) (piece : List ℕ) (m : ℕ) (f : FrameFault) (a b : Reading) → EndsFrame old piece m a → StopsIn old piece f b → ⊥
+ends_or_stops : (old : Reading) (piece : List ℕ) (m : ℕ) (f : FrameFault) (a b : Reading)
+    → EndsFrame old piece m a
+    → StopsIn old piece f b
+    → ⊥
 ends_or_stops old piece m f a b p q =
     stop_has_none (old.kept ++ q.front) q.more f.octet f.fault q.stops p.frame (drop m piece) p.is_frame
     (sym (stops_whole old piece f b q) ∙ ends_whole old piece m a p)
 
-takes_or_stops : (old : Reading) (piece : List ℕ) (m : ℕ) (f : FrameFault) (a b : Reading) → TakesAll old piece m a → StopsIn old piece f b → ⊥
+takes_or_stops : (old : Reading) (piece : List ℕ) (m : ℕ) (f : FrameFault) (a b : Reading)
+    → TakesAll old piece m a
+    → StopsIn old piece f b
+    → ⊥
 takes_or_stops old piece m f a b p q =
     stop_begins_none (old.kept ++ q.front) q.more f.octet f.fault q.stops
     (subst (λ (octets : List ℕ). IsFrameFront octets) (stops_whole old piece f b q) p.begun)

@@ -21,8 +21,8 @@ frame_octets (frame.Nack request) = 4 ∷ request ∷ []
 frame_octets (frame.Ack request) = 5 ∷ request ∷ []
 frame_octets (frame.App request answer) = 6 ∷ request ∷ answer_octet answer ∷ []
 
--- What the type of a frame keeps: a request is 1 or more, and a set has 140 octets. That an octet is below 256 is not said
--- again: a stream is one of octets.
+-- What the type of a frame keeps: a request is 1 or more, and a set has 140 octets. That an octet is below 256 is not
+-- said again: a stream is one of octets.
 abbrev pub IsFrame : Frame → Type 0
 IsFrame frame.Init = Unit {0}
 IsFrame (frame.Start request) = 0 < request
@@ -39,7 +39,8 @@ pub record IsFrameFront (octets : List ℕ) : Type 0 where
   pub is_frame : IsFrame frame
   pub goes_on : frame_octets frame ≡ octets ++ next ∷ more
 
--- What is wrong with an octet behind these ones: a first octet outside 1 to 6, a request 0, an answer other than 1 or 2.
+-- What is wrong with an octet behind these ones: a first octet outside 1 to 6, a request 0, or an answer other than 1
+-- or 2.
 abbrev pub IsFaulty : Fault → (before : List ℕ) → (octet : ℕ) → Type 0
 IsFaulty faults.Kind before octet = (before ≡ []) × (0 < octet → octet < 7 → ⊥)
 IsFaulty faults.Number before octet = (length before ≡ 1) × (octet ≡ 0)

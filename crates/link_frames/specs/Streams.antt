@@ -1,6 +1,6 @@
 -- Which frames a stream of octets holds, and where it stops being one of frames. This project's profile.
 -- Cited by the contract of `frame_laws`.
-use Rattle.std.specs.Prelude.{◌≡◌, ℕ, List, [], ◌∷◌, ◌++◌, length}
+use Rattle.std.specs.Prelude.{◌≡◌, ℕ, List, ◌∷◌, ◌++◌, length}
 use Rattle.std.specs.List.{AllByRecursion, flat_map}
 use Rattle.link_frames.specs.declared.fault.FrameFault.{FrameFault}
 use Rattle.link_frames.specs.declared.frame.Frame.{Frame}

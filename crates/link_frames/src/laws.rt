@@ -17,8 +17,8 @@ pub fn limits()
     ensures items { MOST_ITEMS ≡ 8 }
 {}
 
-/// No frame's octets are a proper prefix of another's. So a stream has one reading, and pieces of it are read as the whole
-/// is, however it is cut.
+/// No frame's octets are a proper prefix of another's. So a stream has one reading, and pieces of it are read as the
+/// whole is, however it is cut.
 pub fn frame_laws()
     ensures apart { (f g : Frame) (more : List ℕ) → IsFrame f → IsFrame g
         → frame_octets g ≡ frame_octets f ++ more → (f ≡ g) × (more ≡ []) }

@@ -1,12 +1,12 @@
 -- What it is for octets to have brought a reader to a stage. Cited by private contracts alone.
-use Rattle.std.specs.Prelude.{◌≡◌, ◌≢◌, ◌<◌, ℕ, Bool, true, false, List, [], ◌∷◌, ◌++◌, length, take, slice_get, Some}
+use Rattle.std.specs.Prelude.{◌≡◌, ◌≢◌, ◌<◌, ℕ, Bool, true, false, List, [], ◌∷◌, ◌++◌, take, slice_get, Some}
 use Rattle.link_frames.specs.declared.stage.Head.{Head}
 use Rattle.link_frames.specs.declared.stage.Head.TheVariants as heads
 use Rattle.link_frames.specs.declared.stage.Stage.{Stage}
 use Rattle.link_frames.specs.declared.stage.Stage.TheVariants as stages
 use Rattle.link_frames.specs.declared.stage.Stop.{Stop}
 use Rattle.link_frames.specs.declared.stage.Stop.TheVariants as stops
-use Rattle.link_frames.specs.FrameOctets.{frame_octets, IsFrame}
+use Rattle.link_frames.specs.FrameOctets.{frame_octets}
 use Rattle.link_frames.specs.Stages.{before, octet_of, frame_of, kept}
 
 -- its request, or 1 where none has come

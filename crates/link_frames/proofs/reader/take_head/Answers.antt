@@ -1,5 +1,5 @@
 -- An octet of a head is a step, taken or not.
-use Rattle.std.proofs.Common.{◌≡◌, ◌≤◌, ◌+◌, true, false, length, arith}
+use Rattle.std.proofs.Common.{◌≡◌, true, false, arith}
 use Rattle.link_frames.specs.Stages.{kept}
 use Rattle.link_frames.specs.inner.Coming.{is_in_head, is_stopped}
 use Rattle.link_frames.proofs.ComingLemmas.{comes_on, comes_stopped}

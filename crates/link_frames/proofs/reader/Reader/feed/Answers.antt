@@ -1,9 +1,8 @@
 -- What the stage says is what the piece makes of the reader, and a piece makes one thing of it.
-use Rattle.std.proofs.Common.{◌≡◌, ◌≤◌, ◌<◌, ◌+◌, ◌∙◌, ℕ, List, true, Option, Some, None, Ok, Err, length, refl, sym, ap, subst}
+use Rattle.std.proofs.Common.{◌≡◌, ◌∙◌, None, Ok, Err, sym, ap, subst}
 use Rattle.link_frames.specs.FrameOctets.{IsFrameFront}
-use Rattle.link_frames.specs.Reading.{Reading, Feeds}
+use Rattle.link_frames.specs.Reading.{Reading}
 use Rattle.link_frames.specs.Stages.{kept, fault_at}
-use Rattle.link_frames.specs.inner.Coming.{ComesTo}
 use Rattle.link_frames.proofs.FeedLemmas.{feeds_err, feeds_ok, feeds_some, keeps_front, not_stopped, reading_at}
 use Rattle.link_frames.proofs.StreamLemmas.{feeds_once}
 use Rattle.link_frames.proofs.reader.Reader.feed.Goals as goal
@@ -22,7 +21,8 @@ returns-in-Some-fault-clause-only c = λ going answer new feeds.
 pub returns-in-None-clause-fed : goal.returns-in-None-clause-fed
 returns-in-None-clause-fed c = rw (← c.self.view_is) (λ going.
     feeds_ok (reading_at c.self.inside.octets c.self.inside.stage c.self.inside.taken) c.take_piece-stage.new.octets
-    c.args.piece.now c.take_piece-stage.result.1 c.take_piece-stage.result.0 c.take_piece-stage.array_long c.take_piece-stage.ensures.request
+    c.args.piece.now c.take_piece-stage.result.1 c.take_piece-stage.result.0 c.take_piece-stage.array_long
+    c.take_piece-stage.ensures.request
     c.take_piece-stage.ensures.filled c.take_piece-stage.ensures.bound c.take_piece-stage.ensures.ends
     c.take_piece-stage.ensures.comes (sym c.fault-2.ensures ∙ c.in-None.is))
 
