@@ -4,7 +4,9 @@ ghost use Rattle.ivs_machine.specs.VehicleRows.{due_of};
 ghost use Rattle.ivs_machine.specs.IvsStands.{IvsStandsFor};
 
 use crate::{Ivs, VehicleEvent};
-use link_frames::{Answer, DialAttempt, End, Frame, Note, OCTETS, Request, Steps, Timer, Why};
+use link_frames::{
+    Answer, DialAttempt, End, Frame, Items, Note, OCTETS, Request, Steps, Timer, Why, items_of,
+};
 use msd_fit::{Cause, Facts};
 use std::process::Abort;
 use std::sync::ledger::Ledger;
@@ -112,9 +114,15 @@ fn failed(rt: &impl Abort, number: u8) -> Note {
     Note::Failed(DialAttempt::new(number).expect(rt, "1 to 10"))
 }
 
+/// Items of another step: what a step gives stands in place of them.
+fn old_items() -> Items {
+    items_of(&[Note::Busy(CALL), Note::Spent(CALL), Note::Unshown(CALL)])
+}
+
 /// Checks what the vehicle does at an event.
 fn hears(rt: &impl Abort, ivs: &mut Ivs, event: &VehicleEvent<'_>, want: &[Note]) {
-    let items = ivs.hear(event);
+    let mut items = old_items();
+    ivs.hear_into(event, &mut items);
     assert_eq!(rt; items.as_slice(), want, "at {event:?}");
 }
 
@@ -147,7 +155,8 @@ fn passes<L: Ledger>(
 ) {
     assert!(rt; n > 0);
     assert!(rt; may_pass(ivs, n), "{n} ticks are more than are due");
-    let items = ivs.pass(n, moments);
+    let mut items = old_items();
+    ivs.pass_into(n, moments, &mut items);
     assert_eq!(rt; items.as_slice(), want, "after {n}");
 }
 

@@ -2,7 +2,7 @@ ghost use Rattle.std.specs.Prelude.{◌≡◌, ◌<◌};
 
 use crate::{
     Answer, DialAttempt, End, Frame, FrameRef, MOST_ITEMS, Note, OCTETS, Request, Requests, Steps,
-    items_of,
+    fill, items_of,
 };
 use std::marker::Brand;
 use std::process::Abort;
@@ -98,8 +98,12 @@ fn items_keep_their_order(rt: HostRuntime) {
     let items = items_of(&notes);
     assert_eq!(rt; items.as_slice(), notes.as_slice());
     let full = [Note::GaveUp; MOST_ITEMS];
-    let items = items_of(&full);
+    let mut items = items_of(&full);
     assert_eq!(rt; items.len(), 8);
+    fill(&mut items, &notes);
+    assert_eq!(rt; items.as_slice(), notes.as_slice());
+    fill(&mut items, &[]);
+    assert!(rt; items.is_empty());
     assert_eq!(rt; Note::default(), Note::Nothing);
 }
 

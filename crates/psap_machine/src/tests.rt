@@ -4,7 +4,7 @@ ghost use Rattle.psap_machine.specs.PointRows.{due_of};
 ghost use Rattle.psap_machine.specs.SessionStands.{SessionStandsFor};
 
 use crate::{PointEvent, Session};
-use link_frames::{Answer, End, Frame, Note, OCTETS, Request, Steps, Timer, Why};
+use link_frames::{Answer, End, Frame, Items, Note, OCTETS, Request, Steps, Timer, Why, items_of};
 use std::process::Abort;
 use std::sync::ledger::Ledger;
 
@@ -90,9 +90,15 @@ fn ended(timer: Timer) -> Note {
     }
 }
 
+/// Items of another step: what a step gives stands in place of them.
+fn old_items() -> Items {
+    items_of(&[Note::GaveUp, Note::Standby, Note::Idle])
+}
+
 /// Checks what the point does at an event.
 fn hears(rt: &impl Abort, session: &mut Session, event: &PointEvent<'_>, want: &[Note]) {
-    let items = session.hear(event);
+    let mut items = old_items();
+    session.hear_into(event, &mut items);
     assert_eq!(rt; items.as_slice(), want, "at {event:?}");
 }
 
@@ -133,7 +139,8 @@ fn passes<L: Ledger>(
 ) {
     assert!(rt; n > 0);
     assert!(rt; may_pass(session, n), "{n} ticks are more than are due");
-    let items = session.pass(n, moments);
+    let mut items = old_items();
+    session.pass_into(n, moments, &mut items);
     assert_eq!(rt; items.as_slice(), want, "after {n}");
 }
 
@@ -198,13 +205,14 @@ fn comes_up(rt: &impl Abort, items: &[Note], open: bool) {
 
 #[test]
 fn a_call_comes_up(rt: HostRuntime) {
-    let (session, items) = Session::arriving(CALL);
+    let mut items = old_items();
+    let session = Session::arriving_into(CALL, &mut items);
     comes_up(&rt, items.as_slice(), false);
     assert_eq!(rt; session.call(), 3);
     assert!(rt; !session.over());
     assert_eq!(rt; session.due(), Some(50));
 
-    let (session, items) = Session::called(CALL);
+    let session = Session::called_into(CALL, &mut items);
     comes_up(&rt, items.as_slice(), true);
     assert_eq!(rt; session.call(), 3);
     assert!(rt; !session.over());

@@ -3,7 +3,8 @@ ghost use Rattle.std.specs.Prelude.{◌≡◌, ◌<◌};
 
 use super::{
     CALL, SET, ack, acked, app, confirming, dial, dialling, down, ended, failed, fault, hears,
-    hears_frame, ignores, initiating, passes, resting, sending, sends, sent, start, talking, voice,
+    hears_frame, ignores, initiating, may_pass, passes, resting, sending, sends, sent, start,
+    talking, voice,
 };
 use crate::{Ivs, VehicleEvent};
 use link_frames::{Answer, Frame, Note, Steps, Timer, Why};
@@ -269,6 +270,16 @@ fn rests_while_armed<L: Ledger>(rt: &impl Abort, moments: &mut Steps<L>) {
     assert_eq!(rt; ivs.due(), None);
 }
 
+/// A vehicle that answers its items.
+fn answers_its_items<L: Ledger>(rt: &impl Abort, moments: &mut Steps<L>) {
+    let mut ivs = initiating(rt);
+    let items = ivs.hear(&VehicleEvent::Cancel);
+    assert_eq!(rt; items.as_slice(), [Note::Nothing].as_slice());
+    assert!(rt; may_pass(&ivs, 5));
+    let items = ivs.pass(5, moments);
+    assert_eq!(rt; items.as_slice(), [sends(Frame::Init)].as_slice());
+}
+
 /// Each of these with a count of its own steps.
 fn ticks_pass<L: Ledger>(rt: &impl Abort, blank: Blank)
     requires name { blank.name ≡ L.name }
@@ -276,6 +287,7 @@ fn ticks_pass<L: Ledger>(rt: &impl Abort, blank: Blank)
     requires some { 0 < blank.parts }
 {
     let mut moments = Steps::<L>::start(blank);
+    answers_its_items(rt, &mut moments);
     waits_in_vain(rt, &mut moments);
     waits_for_a_request(rt, &mut moments);
     sends_in_vain(rt, &mut moments);

@@ -3,7 +3,7 @@ ghost use Rattle.std.specs.Prelude.{◌≡◌, ◌<◌};
 
 use super::{
     CALL, OTHER_SET, SET, ack, app, asking, content, down, ended, fault, hears, hears_frame,
-    listening, passes, sends, shown, start, talking, telling, voice,
+    listening, may_pass, passes, sends, shown, start, talking, telling, voice,
 };
 use crate::{PointEvent, Session};
 use link_frames::{Answer, Frame, Note, Steps, Timer, Why};
@@ -190,6 +190,19 @@ fn spends_its_requests<L: Ledger>(rt: &impl Abort, moments: &mut Steps<L>) {
     hears(rt, &mut session, &PointEvent::Clear, &[Note::Unshown(CALL)]);
 }
 
+/// A point that answers its items.
+fn answers_its_items<L: Ledger>(rt: &impl Abort, moments: &mut Steps<L>) {
+    let (mut session, _items) = Session::arriving(CALL);
+    let items = session.hear(&PointEvent::Damaged);
+    assert_eq!(rt; items.as_slice(), [Note::Nothing].as_slice());
+    assert!(rt; may_pass(&session, 50));
+    let items = session.pass(50, moments);
+    assert_eq!(rt;
+        items.as_slice(),
+        [ended(Timer::T4), voice(true)].as_slice()
+    );
+}
+
 /// Each of these with a count of its own steps.
 fn ticks_pass<L: Ledger>(rt: &impl Abort, blank: Blank)
     requires name { blank.name ≡ L.name }
@@ -197,6 +210,7 @@ fn ticks_pass<L: Ledger>(rt: &impl Abort, blank: Blank)
     requires some { 0 < blank.parts }
 {
     let mut moments = Steps::<L>::start(blank);
+    answers_its_items(rt, &mut moments);
     waits_in_vain(rt, &mut moments);
     asks_in_vain(rt, &mut moments);
     tells(rt, &mut moments);
