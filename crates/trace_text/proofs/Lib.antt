@@ -1,5 +1,6 @@
 pub mod BlockLemmas
 pub mod DraftLemmas
+pub mod EntryWords
 pub mod FactLemmas
 pub mod FeedLemmas
 pub mod Folds

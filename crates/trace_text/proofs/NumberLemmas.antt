@@ -42,12 +42,12 @@ IsAscii-digits (c ∷ cs) all zero = digit_below c (first_true (is_digit c) (lis
 IsAscii-digits (c ∷ cs) all (suc i) = IsAscii-digits cs (second_true (is_digit c) (list_all is_digit cs) all) i
 
 -- what parsing gives for digits
-pub SomeIff-from_parse : (digits : List ℕ) (r : Result ℕ ParseIntError) → ParsesUnsigned 32 10 digits r → list_all is_digit digits ≡ true → 0 < length digits
-    → SomeIff (result_ok r) (number_of digits < 2 ^ 32) (number_of digits)
-SomeIff-from_parse digits r parses all some = by_answer r (parse_digits digits_model 32 digits r parses all)
+pub SomeIff-from_parse : (bits : ℕ) (digits : List ℕ) (r : Result ℕ ParseIntError) → ParsesUnsigned bits 10 digits r → list_all is_digit digits ≡ true → 0 < length digits
+    → SomeIff (result_ok r) (number_of digits < 2 ^ bits) (number_of digits)
+SomeIff-from_parse bits digits r parses all some = by_answer r (parse_digits digits_model bits digits r parses all)
   where
-    by_answer : (r : Result ℕ ParseIntError) → OkIff r ((0 < length digits) × (number_of digits < 2 ^ 32)) (number_of digits)
-        → SomeIff (result_ok r) (number_of digits < 2 ^ 32) (number_of digits)
+    by_answer : (r : Result ℕ ParseIntError) → OkIff r ((0 < length digits) × (number_of digits < 2 ^ bits)) (number_of digits)
+        → SomeIff (result_ok r) (number_of digits < 2 ^ bits) (number_of digits)
     by_answer (Ok n) is = (is.0.1, is.1)
     by_answer (Err e) fails = λ small. fails (some, small)
 

@@ -1,10 +1,15 @@
 -- The octets of a ready set, and of a candidate of additional data.
-use Rattle.std.proofs.Common.{◌≡◌, ℕ, ◌-◌, ◌/◌, ◌≤◌, true, leb, ltb, List, ◌++◌, length, take, drop, replicate, Option, Some, None, refl, ap, sym, ◌∙◌, arith}
+use Rattle.std.proofs.Common.{◌≡◌, ℕ, ◌-◌, eqb, eq-eqb, ◌&&◌, ◌/◌, ◌≤◌, true, leb, ltb, List, [], ◌++◌, length, take, drop, replicate, Option, Some, None, Result, Ok, Err, refl, ap, sym, ◌∙◌, arith}
 use Rattle.std.proofs.Math.Seq.{take-append_seam}
 use Rattle.hex.proofs.HexLemmas.{decode_of-ok}
+use Rattle.std.specs.List.{list_all}
+use Rattle.std.specs.Result.{result_ok}
 use Rattle.std.proofs.lemmas.Bool.{cond_both, lt-ltb, le-leb}
-use Rattle.std.proofs.lemmas.List.{drop-replicate, length-replicate}
+use Rattle.std.proofs.lemmas.List.{append-nil, drop-replicate, length-replicate}
+use Rattle.hex.specs.Hex.{decode_of}
+use Rattle.hex.specs.declared.error.FromHexError.{FromHexError}
 use Rattle.msd_fit.specs.Candidates.{candidate_of}
+use Rattle.trace_text.specs.EntryLines.{is_lower_digit, set_octets}
 use Rattle.trace_text.specs.FactLines.{candidate_from, padded, set_of}
 use Rattle.trace_text.specs.Hexadecimal.{octets_of}
 use Rattle.trace_text.specs.inner.Decoding.{DecodesTo, few_of}
@@ -45,3 +50,32 @@ few_of-some (Some o) octets few =
 pub candidate_from-few : (a b : Option (List ℕ)) (oid content : List ℕ) → Some oid ≡ few_of a → Some content ≡ few_of b
     → candidate_of oid content ≡ candidate_from a b
 candidate_from-few a b oid content first second = rw (few_of-some a oid first, few_of-some b content second) refl
+
+from_ok : (r : Result (List ℕ) FromHexError) (octets : List ℕ) → result_ok r ≡ Some octets → r ≡ Ok octets
+from_ok (Ok o) octets e = let same : o ≡ octets = cc in ap Ok same
+from_ok (Err why) octets e = let never : ⊥ = cc in absurd never
+
+-- what hexadecimal spells is what it decodes to
+pub octets_of-decodes : (text octets : List ℕ) → octets_of text ≡ Some octets → decode_of text ≡ Ok octets
+octets_of-decodes text octets e =
+    cond_both (ltb 0 (length text)) (result_ok (decode_of text)) None (λ v. v ≡ Some octets → decode_of text ≡ Ok octets)
+    (λ _ same. from_ok (decode_of text) octets same) (λ _ same. let never : ⊥ = cc in absurd never) e
+
+-- at 280 digits of lower case a set is the octets that they spell
+pub set_octets-digits : (text : List ℕ) → length text ≡ 280 → list_all is_lower_digit text ≡ true → set_octets text ≡ octets_of text
+set_octets-digits text long lower =
+    let test : eqb (length text) 280 ≡ true = eq-eqb (length text) 280 long in
+    rw (test, lower) refl
+
+-- a set of 140 octets has no zero octets behind it
+pub full-set : (text : List ℕ) → length text ≡ 280 → list_all is_lower_digit text ≡ true → set_of (octets_of text) ≡ set_octets text
+full-set text long lower = by_case (octets_of text) refl ∙ sym (set_octets-digits text long lower)
+  where
+    by_case : (r : Option (List ℕ)) → octets_of text ≡ r → set_of r ≡ r
+    by_case None e = refl
+    by_case (Some octets) e =
+        let sized = decode_of-ok text octets (octets_of-decodes text octets e) in
+        let full : length octets ≡ 140 = omega (arith, sized.2, long) in
+        let small : leb (length octets) 140 ≡ true = le-leb _ _ (omega (arith, full)) in
+        let none : 140 - length octets ≡ 0 = omega (arith, full) in
+        rw small (ap Some (ap (λ n. octets ++ replicate n 0) none ∙ append-nil octets))

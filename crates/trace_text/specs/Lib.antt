@@ -2,7 +2,9 @@ pub mod Characters
 pub mod Choices
 pub mod Drafts
 pub mod Encode
+pub mod EntryChoices
 pub mod EntryLine
+pub mod EntryLines
 pub mod EventLines
 pub mod FactLines
 pub mod Facts

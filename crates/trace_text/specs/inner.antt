@@ -4,3 +4,4 @@ pub mod Drafting
 pub mod Gathering
 pub mod Kinds
 pub mod ListenerLaws
+pub mod NextWords

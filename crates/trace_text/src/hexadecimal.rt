@@ -2,6 +2,8 @@
 
 ghost use Rattle.std.specs.Prelude.{◌≡◌, false, length, IsTrue};
 ghost use Rattle.std.specs.Option.{option_copied};
+ghost use Rattle.std.specs.List.{list_all};
+ghost use Rattle.trace_text.specs.EntryLines.{is_lower_digit, set_octets};
 ghost use Rattle.trace_text.specs.FactLines.{candidate_from, set_of};
 ghost use Rattle.trace_text.specs.Hexadecimal.{octets_of, content_of};
 ghost use Rattle.trace_text.specs.inner.Decoding.{DecodesTo, DecodesNone, few_of};
@@ -18,6 +20,36 @@ pub fn read_set_octets(text: &[u8]) -> Option<[u8; 140]>
         true => Some(octets),
         false => None,
     }
+}
+
+/// The 140 octets of a set, in 280 hexadecimal digits of lower case.
+pub fn read_full_set(text: &[u8]) -> Option<[u8; 140]>
+    ensures { result ≡ set_octets text.now }
+{
+    if text.len() == 280 && is_lower(text) {
+        read_set_octets(text)
+    } else {
+        None
+    }
+}
+
+/// Whether each byte is a hexadecimal digit of lower case.
+fn is_lower(text: &[u8]) -> bool
+    ensures { result ≡ list_all is_lower_digit text.now }
+{
+    // All bytes are looked at, so that the compiler compares many at once.
+    let mut all = true;
+    for byte in text {
+        all &= is_lower_hexadecimal(*byte);
+    }
+    all
+}
+
+/// Whether a byte is a hexadecimal digit of lower case.
+fn is_lower_hexadecimal(byte: u8) -> bool
+    ensures { result ≡ is_lower_digit byte }
+{
+    (b'0' <= byte && byte <= b'9') || (b'a' <= byte && byte <= b'f')
 }
 
 /// Additional data of this identifier and this content, where there may be some.

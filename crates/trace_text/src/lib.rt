@@ -5,6 +5,7 @@ mod bytes;
 mod choices;
 mod draft;
 mod encode;
+mod entries;
 mod entry;
 mod event;
 #[cfg(test)]
@@ -38,6 +39,7 @@ mod write;
 
 pub use draft::Draft;
 pub use encode::{EncodeLine, read_encode};
+pub use entries::read_entry;
 pub use entry::Entry;
 pub use event::{Delay, Event, LONGEST_DELAY, Positive};
 pub use fact_line::FactLine;

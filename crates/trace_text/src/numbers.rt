@@ -7,6 +7,7 @@ ghost use Rattle.trace_text.specs.Numbers.{delay, is_digit, is_plain_number, is_
 
 use crate::event::{Delay, Positive};
 use crate::words::is_word;
+use link_frames::{DialAttempt, Request};
 
 /// A number from 1 to 4294967295.
 pub fn read_positive(text: &[u8]) -> Option<Positive>
@@ -18,8 +19,9 @@ pub fn read_positive(text: &[u8]) -> Option<Positive>
     Positive::new(read_digits(text)?)
 }
 
-/// A number from 1 on, below a limit.
-pub fn read_positive_u8(text: &[u8], limit: u8) -> Option<u8>
+/// A number from 1 on, below a limit of at most 256.
+pub fn read_positive_u8(text: &[u8], limit: u16) -> Option<u8>
+    requires { limit ≤ 256 }
     ensures value { result ≡ positive_below limit text.now }
     ensures range { IfSome result (λ n. (1 ≤ n) × (n < limit)) }
 {
@@ -32,6 +34,20 @@ pub fn read_positive_u8(text: &[u8], limit: u8) -> Option<u8>
     } else {
         None
     }
+}
+
+/// A request, 1 to 255.
+pub fn read_request(text: &[u8]) -> Option<Request>
+    ensures { result ≡ positive_below 256 text.now }
+{
+    Request::new(read_positive_u8(text, 256)?)
+}
+
+/// An attempt to dial, 1 to 10.
+pub fn read_dial_attempt(text: &[u8]) -> Option<DialAttempt>
+    ensures { result ≡ positive_below 11 text.now }
+{
+    DialAttempt::new(read_positive_u8(text, 11)?)
 }
 
 /// A number from 0 to 255.
@@ -52,6 +68,17 @@ pub fn read_u32(text: &[u8]) -> Option<u32>
 {
     if is_natural(text) {
         read_digits(text)
+    } else {
+        None
+    }
+}
+
+/// A number from 0 to 18446744073709551615.
+pub fn read_u64(text: &[u8]) -> Option<u64>
+    ensures { result ≡ natural_below (2 ^ 64) text.now }
+{
+    if is_natural(text) {
+        read_long_digits(text)
     } else {
         None
     }
@@ -140,6 +167,18 @@ fn read_digits(text: &[u8]) -> Option<u32>
 {
     match str::from_utf8(text) {
         Ok(digits) => digits.parse::<u32>().ok(),
+        Err(_) => None,
+    }
+}
+
+/// The number that digits spell, where it is below 2^64.
+fn read_long_digits(text: &[u8]) -> Option<u64>
+    requires digits { IsTrue (list_all is_digit text.now) }
+    requires some { 0 < length text.now }
+    ensures { SomeIff result (number_of text.now < 2 ^ 64) (number_of text.now) }
+{
+    match str::from_utf8(text) {
+        Ok(digits) => digits.parse::<u64>().ok(),
         Err(_) => None,
     }
 }

@@ -4,7 +4,7 @@ use Rattle.trace_text.proofs.numbers.read_digits.Goals as goal
 
 pub returns-in-Ok : goal.returns-in-Ok
 returns-in-Ok c =
-    rw (c.ok.ensures.value, ← c.in-Ok.ensures.cases.0) (SomeIff-from_parse c.in-Ok.digits.now _ c.parse.ensures.value.0
+    rw (c.ok.ensures.value, ← c.in-Ok.ensures.cases.0) (SomeIff-from_parse 32 c.in-Ok.digits.now _ c.parse.ensures.value.0
     (rw c.in-Ok.ensures.cases.0 c.requires.digits) (rw c.in-Ok.ensures.cases.0 c.requires.some))
 
 pub returns-in-Err : goal.returns-in-Err

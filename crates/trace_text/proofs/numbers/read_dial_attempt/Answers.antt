@@ -1,0 +1,10 @@
+use Rattle.std.proofs.Common.{◌≤◌, ◌∙◌, arith}
+use Rattle.trace_text.proofs.FactLemmas.{is_given}
+use Rattle.trace_text.proofs.numbers.read_dial_attempt.Goals as goal
+
+pub returns : goal.returns
+returns c =
+    let n = c.in_ok-read_positive_u8.field-0 in
+    let most : n ≤ 10 = omega (arith, c.in_ok-read_positive_u8.ensures.range.1) in
+    is_given c.new.result n (c.new.ensures.some.1 (c.in_ok-read_positive_u8.ensures.range.0, most)) c.new.ensures.value
+    ∙ c.in_ok-read_positive_u8.ensures.value
