@@ -1,5 +1,12 @@
 pub mod BlockLemmas
 pub mod DraftLemmas
+pub mod EntryBack
+pub mod EntryChoicesBack
+pub mod EntryForth
+pub mod EntryLaw
+pub mod EntryNumbers
+pub mod EntryOctets
+pub mod EntryReads
 pub mod EntryWords
 pub mod FactLemmas
 pub mod FeedLemmas

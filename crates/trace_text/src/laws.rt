@@ -1,11 +1,14 @@
 //! What holds of all traces and of all summaries. The functions here do nothing: their contracts are the laws.
-ghost use Rattle.std.specs.Prelude.{◌≡◌, ◌≤◌, ◌↔◌, ◌+◌, ℕ, true, List, [], ◌∷◌, ◌++◌};
+ghost use Rattle.std.specs.Prelude.{◌≡◌, ◌≤◌, ◌↔◌, ◌+◌, ℕ, true, List, [], ◌∷◌, ◌++◌, Ok};
 ghost use Rattle.link_frames.specs.Legs.{least_opening};
 ghost use Rattle.link_frames.specs.declared.frame.End.{End};
 ghost use Rattle.link_frames.specs.declared.note.Note.TheVariants as note;
 ghost use Rattle.msd_codec.specs.Sets.{Shows, StopsAt};
 ghost use Rattle.msd_values.specs.declared.msd.Msd.{Msd};
 ghost use Rattle.per_bits.specs.declared.refusals.Refusal.{Refusal};
+ghost use Rattle.trace_text.specs.Characters.{newline};
+ghost use Rattle.trace_text.specs.EntryLine.{line_of};
+ghost use Rattle.trace_text.specs.EntryLines.{IsEntry, entry_of};
 ghost use Rattle.trace_text.specs.Safety.{Agreed, Bounded, IsShownFirst, IsWithin, Opened};
 ghost use Rattle.trace_text.specs.Safety.{OwesOpening, Safe, TurnsMuted, first_leg, leg_at, leg_behind};
 ghost use Rattle.trace_text.specs.Summary.{ok_words, refused_words, summary_words};
@@ -33,4 +36,11 @@ pub fn summary_laws()
     // Where octets show a set of data, the summary is that of the set, and where they stop, that of the refusal.
     ensures shown { (octets : List ℕ) (msd : Msd) → Shows octets msd → summary_words octets ≡ ok_words msd }
     ensures stopped { (octets : List ℕ) (refusal : Refusal) → StopsAt octets refusal → summary_words octets ≡ refused_words refusal }
+{}
+
+/// The law of the lines of a trace: a line is read as an entry exactly where it is the line of that entry. So each line
+/// that is written for an entry is read as the entry, and no other line is.
+pub fn entry_laws()
+    ensures { (text : List ℕ) (entry : Entry) →
+        entry_of text ≡ Ok entry ↔ IsEntry entry × (line_of entry ≡ text ++ newline ∷ []) }
 {}

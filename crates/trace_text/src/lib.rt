@@ -45,7 +45,7 @@ pub use event::{Delay, Event, LONGEST_DELAY, Positive};
 pub use fact_line::FactLine;
 pub use fault::LineFault;
 pub use kept::Kept;
-pub use laws::{safe_traces, summary_laws};
+pub use laws::{entry_laws, safe_traces, summary_laws};
 pub use line::Line;
 pub use lines::Lines;
 pub use listener::{Deaf, Listener};
