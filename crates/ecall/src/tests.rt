@@ -8,56 +8,46 @@ use std::process::Abort;
 use std::test::Fail;
 use trace_text::{BadLine, Reason as LineReason};
 
-#[test]
-fn explains_lines(rt: HostRuntime) -> Result<(), Fail> {
-    let table = [
-        (
-            LineReason::Word,
-            "a word that is none of those that may stand there (reason 1)",
-        ),
-        (
-            LineReason::Number,
-            "a number that isn't decimal, begins with 0, or is out of its range (reason 2)",
-        ),
-        (
-            LineReason::Count,
-            "too few or too many words (reason 3); one space stands between two words",
-        ),
-        (LineReason::LineLong, "more than 512 bytes (reason 4)"),
-        (
-            LineReason::Text,
-            "a byte that is neither a printable character nor a space (reason 5); a tab, a carriage return and a byte order mark are such bytes",
-        ),
-        (
-            LineReason::Hex,
-            "no even number of hexadecimal digits, too many octets, or no object identifier (reason 6)",
-        ),
-        (
-            LineReason::Missing,
-            "it wants a set of data, and the facts for one didn't come before it (reason 7); put `vin`, `kind` and `time`, or in a script a `set` line, in front",
-        ),
-        (
-            LineReason::Late,
-            "a fact, with an event before it (reason 8); put it in front of the first event",
-        ),
-        (
-            LineReason::Many,
-            "a fifth candidate of additional data (reason 9)",
-        ),
-    ];
-    for (reason, text) in &table {
-        let bad = BadLine {
-            line: 3,
-            reason: *reason,
-        };
-        let why = Explanation {
-            status: Status::Refused(Refused::Line(bad)),
-            word: Some("run"),
-        };
-        let want = format!(in rt.alloc(); "line 3: {text}")?;
-        assert_eq!(rt; format!(in rt.alloc(); "{why}")?.as_str(), want.as_str());
-    }
+/// Checks what a person is told of line 3, where it is refused for this reason.
+fn expect_line(alloc: Global, rt: &impl Abort, reason: LineReason, text: &str) -> Result<(), Fail> {
+    let why = Explanation {
+        status: Status::Refused(Refused::Line(BadLine { line: 3, reason })),
+        word: Some("run"),
+    };
+    let want = format!(in alloc; "line 3: {text}")?;
+    assert_eq!(rt; format!(in alloc; "{why}")?.as_str(), want.as_str());
     Ok(())
+}
+
+#[test]
+fn explains_a_line_by_itself(rt: HostRuntime) -> Result<(), Fail> {
+    let alloc = rt.alloc();
+    let text = "a word that is none of those that may stand there (reason 1)";
+    expect_line(alloc, &rt, LineReason::Word, text)?;
+    let text = "a number that isn't decimal, begins with 0, or is out of its range (reason 2)";
+    expect_line(alloc, &rt, LineReason::Number, text)?;
+    let text = "too few or too many words (reason 3); one space stands between two words";
+    expect_line(alloc, &rt, LineReason::Count, text)?;
+    let text = "more than 512 bytes (reason 4)";
+    expect_line(alloc, &rt, LineReason::LineLong, text)?;
+    let text = "a byte that is neither a printable character nor a space (reason 5); \
+        a tab, a carriage return and a byte order mark are such bytes";
+    expect_line(alloc, &rt, LineReason::Text, text)?;
+    let text = "no even number of hexadecimal digits, too many octets, or no object identifier \
+        (reason 6)";
+    expect_line(alloc, &rt, LineReason::Hex, text)
+}
+
+#[test]
+fn explains_a_line_by_those_before_it(rt: HostRuntime) -> Result<(), Fail> {
+    let alloc = rt.alloc();
+    let text = "it wants a set of data, and the facts for one didn't come before it (reason 7); \
+        put `vin`, `kind` and `time`, or in a script a `set` line, in front";
+    expect_line(alloc, &rt, LineReason::Missing, text)?;
+    let text = "a fact, with an event before it (reason 8); put it in front of the first event";
+    expect_line(alloc, &rt, LineReason::Late, text)?;
+    let text = "a fifth candidate of additional data (reason 9)";
+    expect_line(alloc, &rt, LineReason::Many, text)
 }
 
 /// Checks what a person is told of a set that is refused at bit 237, for this reason and with this value.

@@ -11,6 +11,7 @@ mod ScriptRead
 mod TextSoFar
 mod Passes
 mod Safely
+mod SafelyCut
 mod Endings
 mod Staged
 mod Turned

@@ -33,8 +33,8 @@ remarks none
 ";
 
 /// A set with additions in each of its sections and an added kind, as an independent model of the format wrote it.
-const ADDED: &str =
-    "02f14c403a0b2d34aa4cbc00441c80e93bbbf010151d6bf38972c190b43c32eb971b4800597604000000000000002fe07af1cc002e20206531b000";
+const ADDED: &str = "02f14c403a0b2d34aa4cbc00441c80e93bbbf010151d6bf38972c190b43c32eb97\
+    1b4800597604000000000000002fe07af1cc002e20206531b000";
 
 const ADDED_SAYS: &str = "format 2
 message 83

@@ -1,13 +1,14 @@
 //! The commands of `ecall`: words and a whole input in, text and a status out.
 #![tactic(auto)]
 
-ghost use Rattle.std.specs.Prelude.{◌≡◌, ◌≤◌, ◌⊎◌, [], List, ℕ, Some, None, map};
+ghost use Rattle.std.specs.Prelude.{◌≡◌, ◌≤◌, ◌⊎◌, ◌++◌, [], List, ℕ, Some, None, map};
 ghost use Rattle.std.specs.String.{string_bytes};
 ghost use Rattle.call_io.specs.Blocks.{held, pending, sink, sink_name, way};
 ghost use Rattle.call_io.specs.Ways.{Onward};
 ghost use Rattle.trace_text.specs.Safety.{Agreed, Bounded, Finished, Opened};
 ghost use Rattle.trace_text.specs.Script.{script_of};
 ghost use Rattle.ecall_top.specs.Commands.{command_of};
+ghost use Rattle.ecall_top.specs.CutTraces.{IsSafelyCut};
 ghost use Rattle.ecall_top.specs.Outcome.{Outcome, ReadCause, WriteCause, streams_of};
 ghost use Rattle.ecall_top.specs.Replies.{usage_line};
 ghost use Rattle.ecall_top.specs.Run.{script_tick, script_trace};
@@ -72,13 +73,18 @@ pub fn ecall<I: Source, O: Sink, L: Ledger>(
     ensures outcome { Outcome (command_of (map string_bytes words.now))
         (streams_of I.left O.held input.old output.old moments.old)
         (streams_of I.left O.held input.new output.new moments.new) result }
-    // In the trace of every script, every acknowledged set was shown earlier by the point for that call, octet for octet.
+    // In the trace of every script, every acknowledged set was shown earlier by the point for that call, octet for
+    // octet.
     ensures agreed { (script : List ℕ) → Agreed (script_trace (script_of script)) }
     // Where a wait for data ends, or a fault comes, a muted voice opens at once, also behind the last line.
     ensures opened { (script : List ℕ) → Opened (script_trace (script_of script)) }
     ensures finished { (script : List ℕ) → Finished (script_trace (script_of script)) }
     // No end's voice is muted for longer than its limit, up to the tick at which the script ends.
     ensures bounded { (script : List ℕ) → Bounded (script_trace (script_of script)) (script_tick (script_of script)) }
+    // However `run` ended, the whole lines that it wrote are those of a safe trace, or of one and of the line that
+    // refuses a line of the script.
+    ensures cut { command_of (map string_bytes words.now) ≡ Some Command.Run → (before written : List ℕ) →
+        O.held output.old ≡ Some before → O.held output.new ≡ Some (before ++ written) → IsSafelyCut written }
     // Words that name no command get the usage line unless writing fails.
     ensures usage { command_of (map string_bytes words.now) ≡ None →
         (result ≡ Status.Usage) ⊎ (result ≡ Status.WriteFault) }

@@ -58,6 +58,14 @@ pub(crate) const UP: &str = "0 dial 1
 0 voice point 1 muted muted
 ";
 
+/// The same without its first line.
+const BEHIND_THE_DIAL: &str = "0 up vehicle 1
+0 voice vehicle 1 muted muted
+0 send vehicle 1 init
+0 up point 1
+0 voice point 1 muted muted
+";
+
 /// Text with the digits of the set in place of each `H`, and its summary in place of each `S`.
 pub(crate) fn expand(alloc: Global, text: &str) -> Result<String, AllocError> {
     let mut all = String::new(alloc);
@@ -130,15 +138,39 @@ pub(crate) fn sink(alloc: Global, fails: Vec<u64>) -> Result<MemSink, Fail> {
     Ok(MemSink::new(alloc, 20_000, fails)?)
 }
 
+/// Checks what the program answers, and writes in two pieces, for a script that stands behind a `set` line.
+fn expect_played(
+    rt: &impl Abort,
+    alloc: Global,
+    script: &str,
+    status: Status,
+    pieces: &[&str],
+) -> Result<(), Fail> {
+    let mut input = source(alloc, &[SET, script], 4096, Vec::new(alloc))?;
+    let mut output = sink(alloc, Vec::new(alloc))?;
+    let answer = call(alloc, "run", &mut input, &mut output)?;
+    assert_eq!(rt; answer, status, "{script}");
+    let mut want = String::new(alloc);
+    for piece in pieces {
+        want.push_str(expand(alloc, piece)?.as_str())?;
+    }
+    assert_eq!(rt; output.bytes(), want.as_bytes(), "{script}");
+    Ok(())
+}
+
 #[test]
-fn plays_scripts(rt: HostRuntime) -> Result<(), Fail> {
-    let alloc = rt.alloc();
-    // Each script stands behind a `set` line.
-    let table = [
-        (CALL, Status::Done, CALL_TRACE, ""),
-        // Frames before any call, to a call that doesn't exist, and that were never sent.
-        (
-            "deliver up 1 1
+fn plays_a_call(rt: HostRuntime) -> Result<(), Fail> {
+    expect_played(&rt, rt.alloc(), CALL, Status::Done, &[CALL_TRACE])
+}
+
+/// Frames before any call, to a call that doesn't exist, and that were never sent.
+#[test]
+fn frames_without_a_call(rt: HostRuntime) -> Result<(), Fail> {
+    let none = "0 nothing\n";
+    expect_played(
+        &rt,
+        rt.alloc(),
+        "deliver up 1 1
 answer
 trigger auto
 trigger auto
@@ -148,22 +180,27 @@ deliver down 1 1
 deliver up 2 1
 deliver up 1 2
 ",
-            Status::Done,
-            "0 nothing
-0 nothing
-0 dial 1
-0 nothing
-0 up vehicle 1
-0 voice vehicle 1 muted muted
-0 send vehicle 1 init
-0 up point 1
-0 voice point 1 muted muted
-",
-            "0 nothing\n0 nothing\n0 nothing\n0 nothing\n",
-        ),
-        // Frames twice, late, and out of order: the application acknowledgement overtakes the other.
-        (
-            "trigger auto
+        Status::Done,
+        &[
+            none,
+            none,
+            "0 dial 1\n0 nothing\n",
+            BEHIND_THE_DIAL,
+            none,
+            none,
+            none,
+            none,
+        ],
+    )
+}
+
+/// Frames twice, late, and out of order: the application acknowledgement overtakes the other.
+#[test]
+fn frames_out_of_order(rt: HostRuntime) -> Result<(), Fail> {
+    expect_played(
+        &rt,
+        rt.alloc(),
+        "trigger auto
 answer
 deliver up 1 1
 deliver up 1 1
@@ -175,7 +212,8 @@ deliver down 1 3
 deliver down 1 2
 deliver down 1 4
 ",
-            Status::Done,
+        Status::Done,
+        &[
             UP,
             "0 send point 1 start 1
 0 send vehicle 1 data 1 0 H
@@ -186,31 +224,28 @@ deliver down 1 4
 0 acked 1 1 H
 0 voice vehicle 1 open open
 ",
-        ),
-        // A fact line behind an event line, and an unknown word, behind comments and empty lines.
-        (
-            "trigger auto\n\n# late\nset 00\n",
-            bad(5, Reason::Late),
-            "0 dial 1\n",
-            "refused 5 8\n",
-        ),
-        (
-            "# a comment\n\nhello\n",
-            bad(4, Reason::Word),
-            "",
-            "refused 4 1\n",
-        ),
-    ];
-    for (script, status, first, then) in &table {
-        let mut input = source(alloc, &[SET, script], 4096, Vec::new(alloc))?;
-        let mut output = sink(alloc, Vec::new(alloc))?;
-        let answer = call(alloc, "run", &mut input, &mut output)?;
-        assert_eq!(rt; answer, *status, "{script}");
-        let mut want = expand(alloc, first)?;
-        want.push_str(expand(alloc, then)?.as_str())?;
-        assert_eq!(rt; output.bytes(), want.as_bytes(), "{script}");
-    }
-    Ok(())
+        ],
+    )
+}
+
+/// A fact line behind an event line, and an unknown word, behind comments and empty lines.
+#[test]
+fn refused_scripts(rt: HostRuntime) -> Result<(), Fail> {
+    let alloc = rt.alloc();
+    expect_played(
+        &rt,
+        alloc,
+        "trigger auto\n\n# late\nset 00\n",
+        bad(5, Reason::Late),
+        &["0 dial 1\nrefused 5 8\n"],
+    )?;
+    expect_played(
+        &rt,
+        alloc,
+        "# a comment\n\nhello\n",
+        bad(4, Reason::Word),
+        &["refused 4 1\n"],
+    )
 }
 
 #[test]

@@ -126,27 +126,11 @@ fn a_timer_comes_before_a_frame(rt: HostRuntime) -> Result<(), Fail> {
     )
 }
 
-/// A call that is lost, ten attempts to dial again, and then the point calls back and pulls a set.
-#[test]
-fn the_point_calls_back(rt: HostRuntime) -> Result<(), Fail> {
-    let again = "fail\ntick 50\n";
-    expect(
-        &rt,
-        rt.alloc(),
-        &[
-            "trigger auto\nanswer\ndrop both 1\n",
-            again,
-            again,
-            again,
-            again,
-            again,
-            again,
-            again,
-            again,
-            again,
-            "fail\ncallback\ntick 20\nrequest 2\ndeliver down 2 1\n",
-        ],
-        "0 down vehicle 1 lost
+/// Three attempts to dial that fail, and the pauses behind them.
+const FAILS: &str = "fail\ntick 50\nfail\ntick 50\nfail\ntick 50\n";
+
+/// A call that is lost, and ten attempts to dial again.
+const REDIALS: &str = "0 down vehicle 1 lost
 0 dial 1
 0 down point 1 lost
 0 failed 1
@@ -168,7 +152,22 @@ fn the_point_calls_back(rt: HostRuntime) -> Result<(), Fail> {
 400 failed 9
 450 dial 10
 450 failed 10
-",
+";
+
+/// A call that is lost, ten attempts to dial again, and then the point calls back and pulls a set.
+#[test]
+fn the_point_calls_back(rt: HostRuntime) -> Result<(), Fail> {
+    expect(
+        &rt,
+        rt.alloc(),
+        &[
+            "trigger auto\nanswer\ndrop both 1\n",
+            FAILS,
+            FAILS,
+            FAILS,
+            "fail\ncallback\ntick 20\nrequest 2\ndeliver down 2 1\n",
+        ],
+        REDIALS,
         "450 gaveup
 450 standby
 450 up vehicle 2
