@@ -60,6 +60,7 @@ impl Session {
     ghost use Rattle.link_frames.specs.Does.{Does};
     ghost use Rattle.link_frames.specs.Frame.{lent};
     ghost use Rattle.link_frames.specs.Ranks.{behind, to_next};
+    ghost use Rattle.link_frames.specs.Row.{silent};
     ghost use Rattle.link_frames.specs.declared.frame.Answer.TheVariants as answer;
     ghost use Rattle.link_frames.specs.declared.frame.End.TheVariants as «end»;
     ghost use Rattle.link_frames.specs.declared.frame.Frame.TheVariants as frame;
@@ -224,8 +225,34 @@ impl Session {
         }
     }
 
-    /// What the timers and repeats do that have no ticks left.
+    /// What the timers and repeats do that have no ticks left; mostly all have some.
     fn acts(&mut self, items: &mut Items)
+        ensures { Does SessionIsDue SessionIs self.old self.new items.new.items acts }
+    {
+        if self.is_quiet() {
+            items.clear();
+        } else {
+            self.acts_now(items);
+        }
+    }
+
+    /// Whether no timer is at its end and no frame is sent again. Where frames are repeated, the wait ends at the tick
+    /// of a repeat.
+    fn is_quiet(&self) -> bool
+        ensures { IsTrue result → (s : Point) → SessionIsDue self.now s → acts s ≡ silent s }
+    {
+        match self.phase {
+            Phase::Listening => self.in_phase < LONGEST_LISTENING,
+            Phase::Asking(_) | Phase::Telling(_) | Phase::Clearing(_) => {
+                !self.in_phase.is_multiple_of(REPEATS_EVERY)
+            }
+            Phase::Talking | Phase::Over => true,
+        }
+    }
+
+    /// What the timers and repeats do that have no ticks left.
+    #[inline(never)]
+    fn acts_now(&mut self, items: &mut Items)
         ensures { Does SessionIsDue SessionIs self.old self.new items.new.items acts }
     {
         let phase = self.phase;

@@ -12,9 +12,10 @@ use msd_fit::Cause;
 use redial::{LONGEST_ATTEMPT, PAUSE, WINDOW};
 
 impl Ivs {
-    ghost use Rattle.std.specs.Prelude.{◌<◌};
+    ghost use Rattle.std.specs.Prelude.{◌<◌, IsTrue};
     ghost use Rattle.audio_switch.specs.Switch.{muted_ticks};
     ghost use Rattle.link_frames.specs.Does.{Does};
+    ghost use Rattle.link_frames.specs.Row.{silent};
     ghost use Rattle.ivs_machine.specs.Vehicle.{Vehicle};
     ghost use Rattle.ivs_machine.specs.VehicleRows.{acts, due_of};
     ghost use Rattle.ivs_machine.specs.IvsStands.{IvsIs, IvsIsDue, IvsStandsFor, ivs_aged};
@@ -94,8 +95,52 @@ impl Ivs {
         }
     }
 
-    /// What the timers and repeats do that have no ticks left.
+    /// What the timers and repeats do that have no ticks left; mostly all have some.
     pub(super) fn acts(&mut self, items: &mut Items)
+        ensures { Does IvsIsDue IvsIs self.old self.new items.new.items acts }
+    {
+        if self.is_quiet() {
+            items.clear();
+        } else {
+            self.acts_now(items);
+        }
+    }
+
+    /// Whether no timer is at its end and nothing is repeated.
+    fn is_quiet(&self) -> bool
+        ensures { IsTrue result → (v : Vehicle) → IvsIsDue self.now v → acts v ≡ silent v }
+    {
+        match self.phase {
+            Phase::Idle => true,
+            Phase::Standby => self.standby.elapsed() < LONGEST_STANDBY,
+            Phase::Arming(_) => self.in_phase < CANCEL_PERIOD,
+            Phase::Dialling => self.in_phase < LONGEST_ATTEMPT,
+            Phase::Pausing => self.series < WINDOW && self.in_phase < PAUSE,
+            Phase::Seeking => self.series < WINDOW,
+            Phase::InCall(stage) => self.in_call < LONGEST_CALL && self.is_quiet_in(stage),
+        }
+    }
+
+    /// Whether no timer of this stage is at its end and nothing is repeated.
+    fn is_quiet_in(&self, stage: Stage) -> bool
+        requires { self.now.phase ≡ Phase.InCall stage }
+        ensures { IsTrue result → self.now.in_call < LONGEST_CALL →
+            (v : Vehicle) → IvsIsDue self.now v → acts v ≡ silent v }
+    {
+        let ticks = self.in_phase;
+        let is_within = match stage {
+            Stage::Initiating => ticks < INITIATION && !ticks.is_multiple_of(INITIATES_EVERY),
+            Stage::Awaiting => ticks < LONGEST_AWAITING,
+            Stage::Sending(_) => ticks < LONGEST_SENDING && !ticks.is_multiple_of(SENDS_EVERY),
+            Stage::Confirming(_) => ticks < LONGEST_CONFIRMING,
+            Stage::Talking => true,
+        };
+        is_within && self.voice.muted_for() < MOST_MUTED
+    }
+
+    /// What the timers and repeats do that have no ticks left.
+    #[inline(never)]
+    fn acts_now(&mut self, items: &mut Items)
         ensures { Does IvsIsDue IvsIs self.old self.new items.new.items acts }
     {
         match self.phase {
