@@ -116,8 +116,7 @@ set_octets-back text octets e =
     (λ _ none. let never : ⊥ = cc in absurd never) e in
     let long : length text ≡ 280 = eqb-true _ _ parts.0 in
     let decodes = octets_of-decodes text octets parts.2 in
-    let sized = decode_of-ok text octets decodes in
-    (
+    let sized = decode_of-ok text octets decodes in (
       sym (pairs-back 0 text octets (sym (decode_of-even text sized.0) ∙ decodes) parts.1),
       (omega (arith, sized.2, long), octets-bytes octets sized.3),
     )

@@ -120,8 +120,7 @@ leg-next ws leg rest e =
     let b = followed-back (next_call a.rest) _ (leg, rest) a.goes in
     let same : ((a.value, b.value), b.rest) ≡ (leg, rest) = ok-same _ _ b.goes in
     let p = choice-next _ end_word end_of end-back ws a.value a.rest a.says in
-    let q = call-next a.rest b.value b.rest b.says in
-    (
+    let q = call-next a.rest b.value b.rest b.says in (
       p ∙ ap (λ (l : List (List ℕ)). end_word a.value ∷ l) q.0 ∙ ap (λ (x : (End × ℕ) × List (List ℕ)). end_word x.0.0 ∷ decimal x.0.1 ∷ x.1) same,
       subst (λ (x : (End × ℕ) × List (List ℕ)). IsCall x.0.1) same q.1,
     )
@@ -135,11 +134,10 @@ set-next ws set rest e =
     let same : ((a.value, b.value, d.value), d.rest) ≡ (set, rest) = ok-same _ _ d.goes in
     let p = call-next ws a.value a.rest a.says in
     let q = request-next a.rest b.value b.rest b.says in
-    let r = octets-next b.rest d.value d.rest d.says in
-    (
+    let r = octets-next b.rest d.value d.rest d.says in (
       p.0
-      ∙ ap (λ (l : List (List ℕ)). decimal a.value ∷ l) (q.0 ∙ ap (λ (l : List (List ℕ)). decimal b.value ∷ l) r.0)
-      ∙ ap (λ (x : (ℕ × ℕ × List ℕ) × List (List ℕ)). decimal x.0.0 ∷ decimal x.0.1 ∷ encode_lower x.0.2 ∷ x.1) same,
+          ∙ ap (λ (l : List (List ℕ)). decimal a.value ∷ l) (q.0 ∙ ap (λ (l : List (List ℕ)). decimal b.value ∷ l) r.0)
+          ∙ ap (λ (x : (ℕ × ℕ × List ℕ) × List (List ℕ)). decimal x.0.0 ∷ decimal x.0.1 ∷ encode_lower x.0.2 ∷ x.1) same,
       subst (λ (x : (ℕ × ℕ × List ℕ) × List (List ℕ)). IsCall x.0.0 × IsRequest x.0.1 × IsSet x.0.2) same (p.1, q.1, r.1),
     )
 

@@ -19,4 +19,5 @@ pub mod NumberLemmas
 pub mod OctetsLemmas
 pub mod SkimLemmas
 pub mod SummaryLemmas
+pub mod TallyLemmas
 pub mod WordsLemmas

@@ -19,5 +19,6 @@ pub mod ReasonCode
 pub mod Safety
 pub mod Script
 pub mod Summary
+pub mod Tallies
 pub mod Words
 pub mod inner

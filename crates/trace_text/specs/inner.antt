@@ -5,3 +5,4 @@ pub mod Gathering
 pub mod Kinds
 pub mod ListenerLaws
 pub mod NextWords
+pub mod Tallying

@@ -7,6 +7,8 @@ mod draft;
 mod encode;
 mod entries;
 mod entry;
+#[cfg(test)]
+mod entry_tests;
 mod event;
 #[cfg(test)]
 mod event_tests;
@@ -33,6 +35,7 @@ mod script;
 #[cfg(test)]
 mod script_tests;
 mod summary;
+mod tally;
 mod text_out;
 mod words;
 mod write;
@@ -52,6 +55,7 @@ pub use listener::{Deaf, Listener};
 pub use push::{push_number, push_word};
 pub use reason::{BadLine, Reason};
 pub use script::{ScriptLine, read_script};
+pub use tally::Tally;
 pub use text_out::TextOut;
 pub use words::only_word;
 pub use write::write_entry;

@@ -6,9 +6,9 @@ ghost use Rattle.trace_text.specs.EntryLine.{text_of};
 ghost use Rattle.trace_text.specs.Listener.{DeafCause};
 
 use super::*;
-use crate::{Kept, TextOut};
+use crate::{Kept, Tally, TextOut};
 use call_io::{MemSink, Sink};
-use link_frames::{End, Note};
+use link_frames::{End, Note, OCTETS, Request};
 use std::test::Fail;
 
 /// Lets a listener hear entries until one fails.
@@ -98,6 +98,41 @@ fn kept_has_what_it_heard(rt: HostRuntime) -> Result<(), Fail> {
     assert_eq!(rt; kept.entries().len(), 4);
     assert_eq!(rt; &kept.entries()[..3], entries);
     assert_eq!(rt; &kept.entries()[3..], &entries[..1]);
+    Ok(())
+}
+
+/// A set that is shown and twice acknowledged in an answered call, and a call that is busy.
+fn answered_call() -> [Entry; 5] {
+    let at = |tick, note| Entry { tick, note };
+    let (call, request, octets) = (1, Request::first(), [0; OCTETS]);
+    let shown = Note::Shown {
+        call,
+        request,
+        octets,
+    };
+    let acked = Note::Acked {
+        call,
+        request,
+        octets,
+    };
+    let end = End::Point;
+    [
+        at(60, Note::Up { end, call }),
+        at(61, shown),
+        at(62, acked),
+        at(62, acked),
+        at(90, Note::Busy(2)),
+    ]
+}
+
+#[test]
+fn tally_counts_what_it_heard(rt: HostRuntime) -> Result<(), Fail> {
+    let mut tally = Tally::new();
+    assert_eq!(rt; tally.counts(), [0; 5]);
+    hear_all(rt.alloc(), &three_entries(), &mut tally)?;
+    assert_eq!(rt; tally.counts(), [3, 0, 0, 0, 50]);
+    hear_all(rt.alloc(), &answered_call(), &mut tally)?;
+    assert_eq!(rt; tally.counts(), [8, 1, 1, 2, 90]);
     Ok(())
 }
 
