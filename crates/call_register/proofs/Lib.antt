@@ -1,0 +1,4 @@
+pub mod TableLemmas
+pub mod RowLemmas
+pub mod TextLemmas
+pub mod VinLemmas

@@ -1,0 +1,6 @@
+pub mod Growth
+pub mod Rows
+pub mod Table
+pub mod Text
+pub mod Vins
+pub mod inner

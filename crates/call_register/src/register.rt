@@ -1,0 +1,191 @@
+//! The register, as a listener of a trace.
+ghost use Rattle.std.specs.Prelude.{◌≡◌, [], map, string_bytes, IfOk, OnOk, OnErr};
+ghost use Rattle.link_frames.specs.declared.note.Note.TheVariants as note;
+ghost use Rattle.serde_json.specs.View.{view};
+ghost use Rattle.call_register.specs.Table.{table};
+ghost use Rattle.call_register.specs.Text.{table_text};
+ghost use Rattle.call_register.specs.inner.Data.{row_data};
+ghost use Rattle.call_register.specs.inner.Heard.{at_call, heard, with_call, with_ending, with_set};
+
+use crate::record::{CallRecord, Ending, ShownSet};
+use crate::text::record_value;
+use call_io::Memory;
+use indexmap::IndexMap;
+use link_frames::{End, Note, Why};
+use serde_json::{Value, push};
+use std::alloc::{AllocError, Global};
+use std::marker::Model;
+use trace_text::{Deaf, Entry, Listener};
+
+/// Keeps each call that came up at the point, in the order in which the calls first did, with the sets that the point
+/// showed in it and the end of the point's leg. After a refused growth it is as it was.
+#[derive(Drop)]
+pub struct Register {
+    calls: IndexMap<u32, CallRecord>,
+}
+
+impl Model for Register {
+    ghost use Rattle.call_register.specs.Rows.{Rows};
+
+    ghost Value = { Rows };
+
+    ghost view = { λ r. r.calls.entries };
+}
+
+impl Register {
+    /// One that has heard nothing. It takes no memory yet.
+    pub fn new(alloc: Global) -> Register
+        ensures { result ≡ table [] }
+    {
+        Register {
+            calls: IndexMap::new(alloc),
+        }
+    }
+
+    /// A call comes up at the point.
+    fn open(&mut self, alloc: Global, call: u32, tick: u64) -> Result<(), Memory>
+        ensures ok { OnOk result (self.new ≡ with_call call tick self.old) }
+        ensures err { OnErr result (self.new ≡ self.old) }
+    {
+        if self.calls.contains_key(&call) {
+            return Ok(());
+        }
+        match self.calls.insert(call, CallRecord::new(alloc, tick)) {
+            Ok(_) => Ok(()),
+            Err(_) => Err(Memory),
+        }
+    }
+
+    /// The point shows a set in a call.
+    fn show(&mut self, call: u32, set: ShownSet) -> Result<(), Memory>
+        ensures ok { OnOk result (self.new ≡ at_call call (with_set set) self.old) }
+        ensures err { OnErr result (self.new ≡ self.old) }
+    {
+        let Some(kept) = self.calls.get_mut(&call) else {
+            return Ok(());
+        };
+        kept.show(set)
+    }
+
+    /// The point's leg of a call goes down.
+    fn close(&mut self, call: u32, ending: Ending)
+        ensures { self.new ≡ at_call call (with_ending ending) self.old }
+    {
+        let Some(kept) = self.calls.get_mut(&call) else {
+            return;
+        };
+        kept.end(ending);
+    }
+
+    /// The point takes a call, or the vehicle does.
+    fn come_up(&mut self, alloc: Global, end: End, call: u32, tick: u64) -> Result<(), Memory>
+        ensures ok { OnOk result (self.new ≡ heard self.old (record { tick = tick; note = note.Up end call })) }
+        ensures err { OnErr result (self.new ≡ self.old) }
+    {
+        match end {
+            End::Point => self.open(alloc, call, tick),
+            End::Vehicle => Ok(()),
+        }
+    }
+
+    /// The point's leg of a call goes down, or the vehicle's.
+    fn go_down(&mut self, end: End, call: u32, tick: u64, why: Why)
+        ensures { self.new ≡ heard self.old (record { tick = tick; note = note.Down end call why }) }
+    {
+        match end {
+            End::Point => self.close(call, Ending { tick, why }),
+            End::Vehicle => {}
+        }
+    }
+
+    /// Takes in an item.
+    fn take_in(&mut self, alloc: Global, tick: u64, item: &Note) -> Result<(), Memory>
+        ensures ok { OnOk result (self.new ≡ heard self.old (record { tick = tick; note = item.now })) }
+        ensures err { OnErr result (self.new ≡ self.old) }
+    {
+        match item {
+            Note::Up { end, call } => self.come_up(alloc, *end, *call, tick),
+            Note::Down { end, call, why } => {
+                self.go_down(*end, *call, tick, *why);
+                Ok(())
+            }
+            Note::Shown {
+                call,
+                request,
+                octets,
+            } => self.show(
+                *call,
+                ShownSet {
+                    tick,
+                    request: *request,
+                    octets: *octets,
+                },
+            ),
+            _ => Ok(()),
+        }
+    }
+
+    /// Each call as JSON, in order.
+    fn values(&self, alloc: Global) -> Result<Vec<Value>, AllocError>
+        ensures { IfOk result (λ vs. map view vs.items ≡ map row_data self.now) }
+    {
+        let mut values = Vec::new(alloc);
+        for (call, kept) in &self.calls {
+            push(&mut values, record_value(alloc, *call, kept)?)?;
+        }
+        Ok(values)
+    }
+
+    /// The text, unless there is no memory.
+    fn text(&self, alloc: Global) -> Result<String, AllocError>
+        ensures { IfOk result (λ text. string_bytes text ≡ table_text self.now) }
+    {
+        let whole = Value::from(self.values(alloc)?);
+        whole.to_string(alloc)
+    }
+
+    /// The register as compact JSON: an array with one object for each call, in the order in which they came up.
+    pub fn json(&self, alloc: Global) -> Result<String, Memory>
+        ensures { IfOk result (λ text. string_bytes text ≡ table_text self.now) }
+    {
+        match self.text(alloc) {
+            Ok(text) => Ok(text),
+            Err(_) => Err(Memory),
+        }
+    }
+}
+
+impl Listener for Register {
+    ghost use Rattle.std.specs.Prelude.{◌≡◌, [], ◌∷◌, OnOk, OnErr, IfErr};
+    ghost use Rattle.trace_text.specs.Listener.{GrewByFront};
+    ghost use Rattle.trace_text.specs.inner.ListenerLaws.{GrewByFront-whole, GrewByFront-after, GrewByFront-longer};
+    ghost use Rattle.call_register.specs.Growth.{RegisterGrew};
+    ghost use Rattle.call_register.specs.inner.Grown.{RegisterGrew-nothing, RegisterGrew-append};
+
+    ghost grew = { RegisterGrew };
+
+    ghost partly = { GrewByFront RegisterGrew };
+
+    ghost faults = { λ _. 0 };
+
+    fn hear(&mut self, alloc: Global, entry: &Entry) -> Result<(), Deaf>
+        ensures ok { OnOk result (RegisterGrew self.old self.new (entry.now ∷ [])) }
+        ensures err { OnErr result (self.new ≡ self.old) }
+        ensures memory { IfErr result (λ e. e ≡ Deaf.Memory) }
+    {
+        match self.take_in(alloc, entry.tick, &entry.note) {
+            Ok(()) => Ok(()),
+            Err(_) => Err(Deaf::Memory),
+        }
+    }
+
+    ghost unchanged = { RegisterGrew-nothing };
+
+    ghost twice = { RegisterGrew-append };
+
+    ghost whole = { GrewByFront-whole RegisterGrew };
+
+    ghost then_partly = { GrewByFront-after RegisterGrew RegisterGrew-append };
+
+    ghost longer = { GrewByFront-longer RegisterGrew };
+}
