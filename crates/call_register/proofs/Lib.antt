@@ -1,3 +1,4 @@
+pub mod PlainLemmas
 pub mod TableLemmas
 pub mod RowLemmas
 pub mod TextLemmas

@@ -25,19 +25,28 @@ or_none None = refl
 or_none (Some x) = refl
 
 -- the row where neither a set nor an end is told of it
-kept : (row : ℕ × Row) → (row.0, record { from = row.1.from; sets = row.1.sets ++ []; ending = option_or row.1.ending None }) ≡ row
+abbrev unchanged : ℕ × Row → ℕ × Row
+unchanged row = (row.0, record { from = row.1.from; sets = row.1.sets ++ []; ending = option_or row.1.ending None })
+
+kept : (row : ℕ × Row) → unchanged row ≡ row
 kept row =
     let sets = append-nil row.1.sets in
     let ending = or_none row.1.ending in
     λ i. (row.0, record { from = row.1.from; sets = sets i; ending = ending i })
 
-kept_all : (rows : Rows) → map (λ row. (row.0, record { from = row.1.from; sets = row.1.sets ++ []; ending = option_or row.1.ending None })) rows ≡ rows
+kept_all : (rows : Rows) → map unchanged rows ≡ rows
 kept_all [] = refl
 kept_all (row ∷ rows) = λ i. kept row i ∷ kept_all rows i
 
 shown_row : (set : ShownSet) (row : ℕ × Row) (b : Bool) →
-    ◌≡◌ {A = ℕ × Row}
-    (row.0, record { from = row.1.from; sets = row.1.sets ++ listed (cond b (Some set) None); ending = option_or row.1.ending None })
+    ◌≡◌ {A = ℕ × Row} (
+      row.0,
+      record {
+        from = row.1.from;
+        sets = row.1.sets ++ listed (cond b (Some set) None);
+        ending = option_or row.1.ending None;
+      },
+    )
     (row.0, cond b (with_set set row.1) row.1)
 shown_row set row true =
     let ending = or_none row.1.ending in
@@ -45,8 +54,14 @@ shown_row set row true =
 shown_row set row false = kept row
 
 ended_row : (ending : Ending) (row : ℕ × Row) (b : Bool) →
-    ◌≡◌ {A = ℕ × Row}
-    (row.0, record { from = row.1.from; sets = row.1.sets ++ []; ending = option_or row.1.ending (cond b (Some ending) None) })
+    ◌≡◌ {A = ℕ × Row} (
+      row.0,
+      record {
+        from = row.1.from;
+        sets = row.1.sets ++ [];
+        ending = option_or row.1.ending (cond b (Some ending) None);
+      },
+    )
     (row.0, cond b (with_ending ending row.1) row.1)
 ended_row ending row true =
     let sets = append-nil row.1.sets in
@@ -74,7 +89,8 @@ heard-down call tick why (row ∷ rows) =
 
 -- the point's leg goes down
 pub heard-point_down : (e : End) (call tick : ℕ) (why : Why) (rows : Rows) → e ≡ «end».Point
-    → at_call call (with_ending (record { tick = tick; why = why })) rows ≡ heard rows (record { tick = tick; note = note.Down e call why })
+    → at_call call (with_ending (record { tick = tick; why = why })) rows
+    ≡ heard rows (record { tick = tick; note = note.Down e call why })
 heard-point_down «end».Point call tick why rows is = sym (heard-down call tick why rows)
 heard-point_down «end».Vehicle call tick why rows is = cc
 
@@ -111,12 +127,14 @@ has_call-lookup : (call : ℕ) (rows : Rows) → has_call call rows ≡ is_some 
 has_call-lookup call [] = refl
 has_call-lookup call (row ∷ rows) = by (call == row.0) (has_call-lookup call rows)
   where
-    by : (b : Bool) → has_call call rows ≡ is_some (lookup (nat_eq call) rows) → (b || has_call call rows) ≡ is_some (cond b (Some row.1) (lookup (nat_eq call) rows))
+    by : (b : Bool) → has_call call rows ≡ is_some (lookup (nat_eq call) rows)
+        → (b || has_call call rows) ≡ is_some (cond b (Some row.1) (lookup (nat_eq call) rows))
     by true below = refl
     by false below = below
 
 -- a call that isn't there changes nothing
-at_call-absent : (call : ℕ) (change : Row → Row) (rows : Rows) → lookup (nat_eq call) rows ≡ None → at_call call change rows ≡ rows
+at_call-absent : (call : ℕ) (change : Row → Row) (rows : Rows) → lookup (nat_eq call) rows ≡ None
+    → at_call call change rows ≡ rows
 at_call-absent call change [] none = refl
 at_call-absent call change (row ∷ rows) none = by (call == row.0) none (at_call-absent call change rows)
   where
@@ -126,21 +144,25 @@ at_call-absent call change (row ∷ rows) none = by (call == row.0) none (at_cal
     by true h below = cc
     by false h below = ap (λ l. row ∷ l) (below h)
 
-apart : (call : ℕ) (rows : Rows) → AllByRecursion (λ y. nat_eq call y ≡ false) (keys_of rows) → lookup (nat_eq call) rows ≡ None
+apart : (call : ℕ) (rows : Rows) → AllByRecursion (λ y. nat_eq call y ≡ false) (keys_of rows)
+    → lookup (nat_eq call) rows ≡ None
 apart call [] h = refl
 apart call (row ∷ rows) h = ap (λ b. cond b (Some row.1) (lookup (nat_eq call) rows)) h.0 ∙ apart call rows h.1
 
 -- where each call stands once, its row alone changes
-at_call-present : (call : ℕ) (change : Row → Row) (rows : Rows) → IsDistinct nat_eq (keys_of rows) → (row : Row) → lookup (nat_eq call) rows ≡ Some row
+at_call-present : (call : ℕ) (change : Row → Row) (rows : Rows) → IsDistinct nat_eq (keys_of rows) → (row : Row)
+    → lookup (nat_eq call) rows ≡ Some row
     → set_value (nat_eq call) rows (change row) ≡ at_call call change rows
 at_call-present call change [] once row is = cc
 at_call-present call change (head ∷ rows) once row is =
-    by (call == head.0) refl is (at_call-present call change rows (IsDistinct-tail nat_eq head.0 (keys_of rows) once) row)
+    let later = IsDistinct-tail nat_eq head.0 (keys_of rows) once in
+    by (call == head.0) refl is (at_call-present call change rows later row)
   where
     alone : call ≡ head.0 → at_call call change rows ≡ rows
     alone same =
         let P : ℕ → Type 0 = λ c. AllByRecursion (λ y. nat_eq c y ≡ false) (keys_of rows) in
-        at_call-absent call change rows (apart call rows (subst P (sym same) (IsDistinct-head nat_eq head.0 (keys_of rows) once)))
+        let first = IsDistinct-head nat_eq head.0 (keys_of rows) once in
+        at_call-absent call change rows (apart call rows (subst P (sym same) first))
 
     by : (b : Bool) → (call == head.0) ≡ b → cond b (Some head.1) (lookup (nat_eq call) rows) ≡ Some row
         → (lookup (nat_eq call) rows ≡ Some row → set_value (nat_eq call) rows (change row) ≡ at_call call change rows)
@@ -152,7 +174,8 @@ at_call-present call change (head ∷ rows) once row is =
     by false e h below = ap (λ l. head ∷ l) (below h)
 
 -- a call that is there doesn't come up again
-pub with_call-there : (call tick : ℕ) (rows : Rows) → is_some (lookup (nat_eq call) rows) ≡ true → rows ≡ with_call call tick rows
+pub with_call-there : (call tick : ℕ) (rows : Rows) → is_some (lookup (nat_eq call) rows) ≡ true
+    → rows ≡ with_call call tick rows
 with_call-there call tick rows there =
     ap (λ b. cond b rows (rows ++ (call, row_of call tick []) ∷ [])) (sym (has_call-lookup call rows ∙ there))
 
@@ -178,18 +201,22 @@ at_call-same call (row ∷ rows) =
     λ i. one i ∷ rest i
 
 -- where there is no row of a call, none was written
-pub unwritten : (call : ℕ) (change : Row → Row) (rows before : Rows) → None ≡ lookup (nat_eq call) rows → rows ≡ before → before ≡ at_call call change before
+pub unwritten : (call : ℕ) (change : Row → Row) (rows before : Rows) → None ≡ lookup (nat_eq call) rows
+    → rows ≡ before → before ≡ at_call call change before
 unwritten call change rows before none is =
     sym is ∙ sym (at_call-absent call change rows (sym none)) ∙ ap (at_call call change) is
 
 -- what was written to the row of a call is its change
-pub written : (call : ℕ) (change : Row → Row) (rows before new : Rows) (kept w : Row) → IsDistinct nat_eq (keys_of rows) → Some kept ≡ lookup (nat_eq call) rows
+pub written : (call : ℕ) (change : Row → Row) (rows before new : Rows) (kept w : Row)
+    → IsDistinct nat_eq (keys_of rows) → Some kept ≡ lookup (nat_eq call) rows
     → rows ≡ before → new ≡ set_value (nat_eq call) rows w → w ≡ change kept → new ≡ at_call call change before
 written call change rows before new kept w once found is wrote changed =
-    wrote ∙ ap (set_value (nat_eq call) rows) changed ∙ at_call-present call change rows once kept (sym found) ∙ ap (at_call call change) is
+    wrote ∙ ap (set_value (nat_eq call) rows) changed ∙ at_call-present call change rows once kept (sym found)
+    ∙ ap (at_call call change) is
 
 -- what was written back as it was changes nothing
-pub written_back : (call : ℕ) (rows before new : Rows) (kept w : Row) → IsDistinct nat_eq (keys_of rows) → Some kept ≡ lookup (nat_eq call) rows
+pub written_back : (call : ℕ) (rows before new : Rows) (kept w : Row) → IsDistinct nat_eq (keys_of rows)
+    → Some kept ≡ lookup (nat_eq call) rows
     → rows ≡ before → new ≡ set_value (nat_eq call) rows w → w ≡ kept → new ≡ before
 written_back call rows before new kept w once found is wrote kept_is =
     written call (λ r. r) rows before new kept w once found is wrote kept_is ∙ at_call-same call before

@@ -8,9 +8,11 @@ use Rattle.serde_json.specs.Data.{Data}
 use Rattle.serde_json.specs.View.{items_of}
 use Rattle.serde_json.specs.Written.{compact_text, has_float, items_have_float, items_text}
 use Rattle.serde_json.proofs.OnLiterals.{serde_json_on_literals}
+use Rattle.link_frames.specs.declared.note.Why.{Why}
+use Rattle.link_frames.specs.declared.note.Why.TheVariants as why
 use Rattle.trace_text.specs.EntryLine.{why_word}
 use Rattle.call_register.specs.Rows.{Row, Rows}
-use Rattle.call_register.specs.Text.{array_text, or_null, row_text, set_text, table_text}
+use Rattle.call_register.specs.Text.{array_text, in_quotes, or_null, row_text, set_text, table_text}
 use Rattle.call_register.specs.Vins.{vin_of}
 use Rattle.call_register.specs.inner.Data.{number_data, row_data, set_data, table_data, text_data, until_data, why_data}
 use Rattle.call_register.specs.declared.record.Ending.{Ending}
@@ -18,7 +20,8 @@ use Rattle.call_register.specs.declared.record.ShownSet.{ShownSet}
 
 -- ---- arrays
 
-items_joined : (d : Data) (ds : List Data) → compact_text d ++ items_text true (items_of ds) ≡ join_with_byte 44 (map compact_text (d ∷ ds)) ++ 93 ∷ []
+items_joined : (d : Data) (ds : List Data) →
+    compact_text d ++ items_text true (items_of ds) ≡ join_with_byte 44 (map compact_text (d ∷ ds)) ++ 93 ∷ []
 items_joined d [] = refl
 items_joined d (e ∷ ds) =
     ap (λ l. compact_text d ++ 44 ∷ l) (items_joined e ds)
@@ -38,9 +41,16 @@ until_is : (o : Option Ending) → compact_text (until_data o) ≡ or_null (opti
 until_is None = refl
 until_is (Some ending) = refl
 
-why_is : (o : Option Ending) → compact_text (why_data o) ≡ or_null (option_map (λ ending. quoted (why_word ending.why)) o)
+word_is : (w : Why) → quoted (why_word w) ≡ in_quotes (why_word w)
+unfolding serde_json_on_literals
+word_is why.Release = refl
+word_is why.Hangup = refl
+word_is why.Lost = refl
+
+why_is : (o : Option Ending) →
+    compact_text (why_data o) ≡ or_null (option_map (λ ending. in_quotes (why_word ending.why)) o)
 why_is None = refl
-why_is (Some ending) = refl
+why_is (Some ending) = word_is ending.why
 
 -- ---- objects
 
@@ -48,11 +58,11 @@ set_is : (set : ShownSet) → compact_text (set_data set) ≡ set_text set
 unfolding serde_json_on_literals
 set_is set =
     ap (λ vin. concat (
-      codes "{\"octets\":" ∷ quoted (encode_lower set.octets)
-      ∷ codes ",\"request\":" ∷ decimal set.request
-      ∷ codes ",\"tick\":" ∷ decimal set.tick
-      ∷ codes ",\"vin\":" ∷ vin
-      ∷ codes "}" ∷ []
+    codes "{\"octets\":" ∷ quoted (encode_lower set.octets)
+    ∷ codes ",\"request\":" ∷ decimal set.request
+    ∷ codes ",\"tick\":" ∷ decimal set.tick
+    ∷ codes ",\"vin\":" ∷ vin
+    ∷ codes "}" ∷ []
     )) (text_is (vin_of set.octets))
 
 sets_are : (sets : List ShownSet) → map compact_text (map set_data sets) ≡ map set_text sets
@@ -64,14 +74,14 @@ unfolding serde_json_on_literals
 row_is row =
     let sets = array_is (map set_data row.1.sets) ∙ ap array_text (sets_are row.1.sets) in
     let until = until_is row.1.ending in
-    let why = why_is row.1.ending in
+    let word = why_is row.1.ending in
     λ i. concat (
-      codes "{\"call\":" ∷ decimal row.0
-      ∷ codes ",\"from\":" ∷ decimal row.1.from
-      ∷ codes ",\"sets\":" ∷ sets i
-      ∷ codes ",\"until\":" ∷ until i
-      ∷ codes ",\"why\":" ∷ why i
-      ∷ codes "}" ∷ []
+    codes "{\"call\":" ∷ decimal row.0
+    ∷ codes ",\"from\":" ∷ decimal row.1.from
+    ∷ codes ",\"sets\":" ∷ sets i
+    ∷ codes ",\"until\":" ∷ until i
+    ∷ codes ",\"why\":" ∷ word i
+    ∷ codes "}" ∷ []
     )
 
 rows_are : (rows : Rows) → map compact_text (map row_data rows) ≡ map row_text rows
@@ -100,8 +110,8 @@ sets_whole (set ∷ sets) = λ i. (text_whole (vin_of set.octets) i || false) ||
 row_whole : (row : ℕ × Row) → has_float (row_data row) ≡ false
 row_whole row =
     let until = number_whole (option_map (λ e. e.tick) row.1.ending) in
-    let why = text_whole (option_map (λ e. why_word e.why) row.1.ending) in
-    λ i. sets_whole row.1.sets i || (until i || (why i || false))
+    let word = text_whole (option_map (λ e. why_word e.why) row.1.ending) in
+    λ i. sets_whole row.1.sets i || (until i || (word i || false))
 
 rows_whole : (rows : Rows) → items_have_float (items_of (map row_data rows)) ≡ false
 rows_whole [] = refl

@@ -1,6 +1,6 @@
 -- The text of a table: compact JSON, with the keys of each object in alphabetical order. This project's profile, over
--- RFC 8259. A text between quotes has JSON's escapes, of which hexadecimal digits and identification numbers need none.
--- Cited by the register.
+-- RFC 8259. A text that is `quoted` has JSON's escapes, of which hexadecimal digits and identification numbers need
+-- none (`register_laws`). Cited by the register.
 use Rattle.std.specs.Prelude.{ℕ, List, [], ◌∷◌, map, Option, Some, None, codes, decimal}
 use Rattle.std.specs.List.{concat, join_with_byte}
 use Rattle.std.specs.Option.{option_map}
@@ -17,6 +17,10 @@ abbrev pub or_null : Option (List ℕ) → List ℕ
 or_null None = codes "null"
 or_null (Some text) = text
 
+-- a text between quotes, as it stands
+abbrev pub in_quotes : List ℕ → List ℕ
+in_quotes text = concat (codes "\"" ∷ text ∷ codes "\"" ∷ [])
+
 abbrev pub comma : ℕ
 comma = 44
 
@@ -28,23 +32,23 @@ array_text items = concat (codes "[" ∷ join_with_byte comma items ∷ codes "]
 abbrev pub set_text : ShownSet → List ℕ
 set_text set =
     concat (
-      codes "{\"octets\":" ∷ quoted (encode_lower set.octets)
-      ∷ codes ",\"request\":" ∷ decimal set.request
-      ∷ codes ",\"tick\":" ∷ decimal set.tick
-      ∷ codes ",\"vin\":" ∷ or_null (option_map quoted (vin_of set.octets))
-      ∷ codes "}" ∷ []
+    codes "{\"octets\":" ∷ quoted (encode_lower set.octets)
+    ∷ codes ",\"request\":" ∷ decimal set.request
+    ∷ codes ",\"tick\":" ∷ decimal set.tick
+    ∷ codes ",\"vin\":" ∷ or_null (option_map quoted (vin_of set.octets))
+    ∷ codes "}" ∷ []
     )
 
 -- what is told of a call
 abbrev pub row_text : ℕ × Row → List ℕ
 row_text row =
     concat (
-      codes "{\"call\":" ∷ decimal row.0
-      ∷ codes ",\"from\":" ∷ decimal row.1.from
-      ∷ codes ",\"sets\":" ∷ array_text (map set_text row.1.sets)
-      ∷ codes ",\"until\":" ∷ or_null (option_map (λ ending. decimal ending.tick) row.1.ending)
-      ∷ codes ",\"why\":" ∷ or_null (option_map (λ ending. quoted (why_word ending.why)) row.1.ending)
-      ∷ codes "}" ∷ []
+    codes "{\"call\":" ∷ decimal row.0
+    ∷ codes ",\"from\":" ∷ decimal row.1.from
+    ∷ codes ",\"sets\":" ∷ array_text (map set_text row.1.sets)
+    ∷ codes ",\"until\":" ∷ or_null (option_map (λ ending. decimal ending.tick) row.1.ending)
+    ∷ codes ",\"why\":" ∷ or_null (option_map (λ ending. in_quotes (why_word ending.why)) row.1.ending)
+    ∷ codes "}" ∷ []
     )
 
 -- the text of a table

@@ -14,11 +14,7 @@ use std::alloc::{AllocError, Global};
 use std::str;
 
 /// What is kept of a call, as JSON.
-pub(crate) fn record_value(
-    alloc: Global,
-    call: u32,
-    kept: &CallRecord,
-) -> Result<Value, AllocError>
+pub(crate) fn record_value(alloc: Global, call: u32, kept: &CallRecord) -> Result<Value, AllocError>
     ensures { IfOk result (λ v. view v ≡ row_data (call, kept.now)) }
 {
     let sets = set_values(alloc, kept.sets())?;

@@ -8,4 +8,5 @@ use Rattle.call_register.proofs.text.vin_value.Goals as goal
 pub returns-in-Ok : goal.returns-in-Ok
 returns-in-Ok c =
     let vin = vin_of-read c.args.octets.now c.in-Ok.msd c.in-Ok.ensures.read in
-    IfOk-weaker c.try_from_str.result _ _ (λ v is. is ∙ ap string c.vin_text.ensures ∙ ap text_data (sym vin)) c.try_from_str.ensures
+    let same = ap string c.vin_text.ensures ∙ ap text_data (sym vin) in
+    IfOk-weaker c.try_from_str.result _ _ (λ v is. is ∙ same) c.try_from_str.ensures

@@ -6,8 +6,9 @@ use Rattle.call_register.proofs.register.Register.open.Goals as goal
 
 pub returns-then-contains_key-clause-ok : goal.returns-then-contains_key-clause-ok
 returns-then-contains_key-clause-ok c =
+    let there = sym c.contains_key.ensures ∙ c.if-contains_key.true in
     sym c.self.view_is
-    ∙ with_call-there c.args.call c.args.tick c.self.inside.calls.entries (sym c.contains_key.ensures ∙ c.if-contains_key.true)
+    ∙ with_call-there c.args.call c.args.tick c.self.inside.calls.entries there
     ∙ ap (with_call c.args.call c.args.tick) c.self.view_is
 
 pub returns-in-Ok-clause-ok : goal.returns-in-Ok-clause-ok

@@ -9,7 +9,8 @@ use Rattle.call_register.proofs.register.Register.text.Goals as goal
 
 pub returns : goal.returns
 returns c =
-    let is : view c.from-whole.result ≡ table_data c.args.self.now = c.from-whole.ensures ∙ ap (λ ds. array (items_of ds)) c.in_ok-values.ensures in
+    let is : view c.from-whole.result ≡ table_data c.args.self.now =
+    c.from-whole.ensures ∙ ap (λ ds. array (items_of ds)) c.in_ok-values.ensures in
     IfOk-weaker c.to_string.result _ _
     (λ text says. says (ap has_float is ∙ table_whole c.args.self.now) ∙ ap compact_text is ∙ table_is c.args.self.now)
     c.to_string.ensures.text
