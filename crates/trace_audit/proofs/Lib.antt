@@ -1,0 +1,3 @@
+pub mod LegsLemmas
+pub mod RulesLemmas
+pub mod ShownLemmas

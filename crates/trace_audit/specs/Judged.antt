@@ -1,0 +1,25 @@
+-- Which rule a trace breaks, if it breaks one. This project's profile. Cited by the contracts of `Rules` and `audit`.
+use Rattle.std.specs.Prelude.{ℕ, List, [], ◌∷◌, Option, Some, None}
+use Rattle.trace_text.specs.declared.entry.Entry.{Entry}
+use Rattle.trace_text.specs.Safety.{Agreed, Bounded, Opened, Safe}
+use Rattle.trace_audit.specs.declared.rule.Rule.{Rule}
+use Rattle.trace_audit.specs.declared.rule.Rule.TheVariants as rule
+
+-- the number by which a reply names a rule
+abbrev pub rule_number : Rule → ℕ
+rule_number rule.Agreed = 1
+rule_number rule.Opened = 2
+rule_number rule.Bounded = 3
+
+-- These entries are safe up to this tick, or they break this rule up to it, and none that is named before it.
+abbrev pub Judges : List Entry → (now : ℕ) → Option Rule → Type 0
+Judges entries now None = Safe entries now
+Judges entries now (Some rule.Agreed) = Agreed entries → ⊥
+Judges entries now (Some rule.Opened) = Agreed entries × (Opened entries → ⊥)
+Judges entries now (Some rule.Bounded) = Agreed entries × Opened entries × (Bounded entries now → ⊥)
+
+-- the tick of the last of these entries; 0 where there is none
+abbrev pub last_tick : List Entry → ℕ
+last_tick [] = 0
+last_tick (x ∷ []) = x.tick
+last_tick (x ∷ y ∷ xs) = last_tick (y ∷ xs)

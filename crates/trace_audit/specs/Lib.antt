@@ -1,0 +1,5 @@
+pub mod inner
+pub mod Judged
+pub mod RulesStand
+pub mod ShownStands
+pub mod LegsStand
