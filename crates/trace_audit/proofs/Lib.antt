@@ -1,3 +1,6 @@
+pub mod AuditRead
 pub mod LegsLemmas
 pub mod RulesLemmas
 pub mod ShownLemmas
+pub mod Takings
+pub mod WholeLines

@@ -1,2 +1,3 @@
+pub mod AuditTurns
 pub mod Legs
 pub mod Owed

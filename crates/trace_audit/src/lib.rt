@@ -1,11 +1,17 @@
 //! The audit of a trace: whether what was written of both ends' calls is safe, said of its lines alone.
 #![tactic(auto)]
 
+mod audit_lines;
 mod legs;
 mod rule;
 mod rules;
+#[cfg(test)]
+mod rules_tests;
 mod shown;
+mod verdict;
 mod voice;
 
+pub use audit_lines::audit;
 pub use rule::Rule;
 pub use rules::Rules;
+pub use verdict::Verdict;
