@@ -5,16 +5,15 @@ use Rattle.link_frames.specs.declared.note.Note.{Note}
 use Rattle.ivs_machine.specs.Vehicle.{Vehicle, vehicle_call}
 use Rattle.trace_text.specs.declared.entry.Entry.{Entry}
 use Rattle.trace_text.specs.History.{told}
-use Rattle.channel_sim.specs.declared.world.World as kept_world
+use Rattle.channel_sim.specs.declared.channel.Channel as kept_channel
 use Rattle.channel_sim.specs.World.{Call, World, Step, did, and_then, with_legs, carries}
 use Rattle.channel_sim.specs.inner.Acts.{IsReady}
 use Rattle.channel_sim.specs.inner.Lag.{VehicleLags, CallsLag, StandsAt, Came}
-use Rattle.channel_sim.specs.inner.Places.{AreAbove}
-use Rattle.channel_sim.specs.inner.Tidy.{CallInTime}
+use Rattle.channel_sim.specs.Tidy.{AreAbove, CallInTime}
 use Rattle.channel_sim.proofs.CallsLemmas.{carried_numbers}
 use Rattle.channel_sim.proofs.TidyLemmas.{all_with_legs, with_legs_all, with_legs_above, with_legs_numbers, carried_in_time}
 
-pub did_done : (ahead : ℕ) (floor : ℕ) (clock : ℕ → ℕ) (kept new : kept_world.World) (w : World) (v : Vehicle) (ks : List Call) (concerned : Option ℕ) (items : List Note)
+pub did_done : (ahead : ℕ) (floor : ℕ) (clock : ℕ → ℕ) (kept new : kept_channel.Channel) (w : World) (v : Vehicle) (ks : List Call) (concerned : Option ℕ) (items : List Note)
     → IsReady ahead floor clock kept w v ks concerned
     → new ≡ record kept { calls = new.calls }
     → CallsLag floor clock new.calls.items (with_legs (vehicle_call v) (map (carries (told w.tick items)) ks))
@@ -43,7 +42,7 @@ did_done ahead floor clock kept new w v ks concerned items r same calls =
 pub came_after : {S Fault : Type 0} (grew partly : S → S → List Entry → Type 0)
     → ((a b c : S) (s t : List Entry) → grew a b s → grew b c t → grew a c (s ++ t))
     → ((a b c : S) (s t : List Entry) → grew a b s → partly b c t → partly a c (s ++ t))
-    → (a b c : S) (result : Result (Unit {0}) Fault) (ahead : ℕ) (floor : ℕ) (clock : ℕ → ℕ) (kept : kept_world.World) (first : Step) (second : World → Step)
+    → (a b c : S) (result : Result (Unit {0}) Fault) (ahead : ℕ) (floor : ℕ) (clock : ℕ → ℕ) (kept : kept_channel.Channel) (first : Step) (second : World → Step)
     → grew a b first.entries
     → Came (grew b c) (partly b c) result ahead floor clock kept (second first.world)
     → Came (grew a c) (partly a c) result ahead floor clock kept (and_then first second)

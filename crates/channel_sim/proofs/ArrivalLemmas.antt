@@ -6,13 +6,12 @@ use Rattle.std.proofs.lemmas.List.{map-append}
 use Rattle.ivs_machine.specs.IvsStands.{IvsStandsFor}
 use Rattle.ivs_machine.specs.Vehicle.{Vehicle, vehicle_call}
 use Rattle.channel_sim.specs.declared.calls.Call as kept_call
-use Rattle.channel_sim.specs.declared.world.World as kept_world
+use Rattle.channel_sim.specs.declared.channel.Channel as kept_channel
 use Rattle.channel_sim.specs.World.{Call, World}
 use Rattle.channel_sim.specs.Lines.{with_call}
 use Rattle.channel_sim.specs.inner.Acts.{OtherHasLeg, IsReady}
 use Rattle.channel_sim.specs.inner.Lag.{CallLags, CallsLag, StandsNow}
-use Rattle.channel_sim.specs.inner.Places.{AreAbove}
-use Rattle.channel_sim.specs.inner.Tidy.{CallInTime, numbers_of}
+use Rattle.channel_sim.specs.Tidy.{AreAbove, CallInTime, numbers_of}
 use Rattle.channel_sim.proofs.VehicleLemmas.{vehicle_stands_now, legs_others}
 
 all_append : {A : Type 0} (P : A → Type 0) (xs : List A) (x : A) → AllByRecursion P xs → P x → AllByRecursion P (xs ++ x ∷ [])
@@ -38,7 +37,7 @@ spared now c [] h = tt
 spared now c (k ∷ ks) h = ((λ other. h.0 refl), spared now c ks h.1)
 
 -- the vehicle heard in a call of the next number, in which nothing was sent yet
-pub arrival_ready : (kept moved : kept_world.World) (w : World) (v : Vehicle)
+pub arrival_ready : (kept moved : kept_channel.Channel) (w : World) (v : Vehicle)
     → StandsNow kept w
     → vehicle_call w.vehicle ≡ None
     → moved ≡ record kept { drawn = kept.drawn + 1; calls = moved.calls; vehicle = moved.vehicle }

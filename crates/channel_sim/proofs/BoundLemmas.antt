@@ -21,7 +21,7 @@ use Rattle.channel_sim.specs.World.{Call, World, Step, Act, Due, quiet_step, and
 use Rattle.channel_sim.specs.inner.Lag.{SessionLags, SeatLags, CallLags, CallsLag}
 use Rattle.channel_sim.specs.inner.Passes.{passes_of, once_if}
 use Rattle.channel_sim.specs.inner.Places.{place_of}
-use Rattle.channel_sim.specs.inner.Tidy.{numbers_of}
+use Rattle.channel_sim.specs.Tidy.{numbers_of}
 use Rattle.channel_sim.proofs.PlaceLemmas.{next_place-some, place_first, place_behind}
 
 -- Sums.

@@ -3,7 +3,6 @@ use Rattle.std.proofs.Common.{◌≡◌, ℕ, zero, suc, ◌-◌, ◌<◌, ◌�
 use Rattle.std.proofs.Math.ListN.{set}
 use Rattle.std.specs.Option.{is_some}
 use Rattle.std.proofs.lemmas.Bool.{eqb-true, eqb-false}
-use Rattle.arrayvec.specs.ArrayVec.{ArrayVec}
 use Rattle.link_frames.specs.declared.frame.End.{End}
 use Rattle.link_frames.specs.declared.frame.End.TheVariants as «end»
 use Rattle.link_frames.specs.declared.frame.Frame.{Frame}
@@ -19,8 +18,8 @@ use Rattle.channel_sim.specs.declared.calls.Call as kept_call
 use Rattle.channel_sim.specs.World.{Call, call_of, session_in, session_of, seated, carries}
 use Rattle.channel_sim.specs.inner.Acts.{pushed, seat_items, seat_after, CallDid, SessionDid, IsCaught}
 use Rattle.channel_sim.specs.inner.Lag.{SeatLags, CallLags, CallsLag}
-use Rattle.channel_sim.specs.inner.Places.{AreAbove, place_of}
-use Rattle.channel_sim.specs.inner.Tidy.{numbers_of}
+use Rattle.channel_sim.specs.inner.Places.{place_of}
+use Rattle.channel_sim.specs.Tidy.{AreAbove, numbers_of}
 use Rattle.channel_sim.proofs.PlaceLemmas.{numbers, next_place-some, next_place-none, place_first, place_behind, above_nowhere}
 
 pub same_numbers : (floor : ℕ) (clock : ℕ → ℕ) (xs : List kept_call.Call) (ks : List Call) → CallsLag floor clock xs ks → numbers_of ks ≡ numbers xs
@@ -219,7 +218,7 @@ seated_nowhere c new (k ∷ ks) none = at (seated_nowhere c new ks) (k.number ==
         ap (λ b. if b then record k { session = new } ∷ ks else k ∷ seated c new ks) other
         ∙ ap (λ z. k ∷ z) (further (next_place-none (place_of c (numbers_of ks)) (sym (place_behind c k.number (numbers_of ks) other) ∙ none)))
 
-pub did_nowhere : (floor : ℕ) (clock : ℕ → ℕ) (c : ℕ) (row : Point → Row Point) (xs : List kept_call.Call) (ks : List Call) → CallsLag floor clock xs ks → place_of c (numbers_of ks) ≡ None → SessionDid floor clock None xs c row ks
+pub did_nowhere : (floor : ℕ) (clock : ℕ → ℕ) (c : ℕ) (row : Point → Row Point) (xs : List kept_call.Call) (ks : List Call) → CallsLag floor clock xs ks → place_of c (numbers_of ks) ≡ None → SessionDid floor clock false [] xs c row ks
 did_nowhere floor clock c row xs ks h none =
     record {
       items = ap (seat_items row) (sym (no_session c ks none));
@@ -229,18 +228,18 @@ did_nowhere floor clock c row xs ks h none =
     }
 
 -- the call at i did this, and its clock may have moved
-pub did_at : (floor : ℕ) (old new : ℕ → ℕ) (n c : ℕ) (row : Point → Row Point) (result : Option (ArrayVec Note)) (xs : List kept_call.Call) (ks : List Call) (i : ℕ) (d x' : kept_call.Call)
+pub did_at : (floor : ℕ) (old new : ℕ → ℕ) (n c : ℕ) (row : Point → Row Point) (done : Bool) (given : List Note) (xs : List kept_call.Call) (ks : List Call) (i : ℕ) (d x' : kept_call.Call)
     → CallsLag floor old xs ks
     → AreAbove n (numbers_of ks)
     → place_of c (numbers_of ks) ≡ Some i
     → ((j : ℕ) → (j ≡ c → ⊥) → old j ≡ new j)
-    → ((k : Call) → k.number ≡ c → CallLags floor (old c) (get_or xs i d) k → CallDid floor (new c) result x' k row)
-    → SessionDid floor new result (set xs i x') c row ks
-did_at floor old new n c row result [] [] i d x' h up place others did = cc
-did_at floor old new n c row result [] (k ∷ ks) i d x' h up place others did = absurd h
-did_at floor old new n c row result (x ∷ xs) [] i d x' h up place others did = absurd h
-did_at floor old new n c row result (x ∷ xs) (k ∷ ks) i d x' h up place others did =
-    step (λ j. did_at floor old new k.number c row result xs ks j d x' h.1 up.1) (k.number == c) refl
+    → ((k : Call) → k.number ≡ c → CallLags floor (old c) (get_or xs i d) k → CallDid floor (new c) done given x' k row)
+    → SessionDid floor new done given (set xs i x') c row ks
+did_at floor old new n c row done given [] [] i d x' h up place others did = cc
+did_at floor old new n c row done given [] (k ∷ ks) i d x' h up place others did = absurd h
+did_at floor old new n c row done given (x ∷ xs) [] i d x' h up place others did = absurd h
+did_at floor old new n c row done given (x ∷ xs) (k ∷ ks) i d x' h up place others did =
+    step (λ j. did_at floor old new k.number c row done given xs ks j d x' h.1 up.1) (k.number == c) refl
   where
     moved : (m : ℕ) (ys : List kept_call.Call) (ms : List Call) → c ≤ m → AreAbove m (numbers_of ms) → CallsLag floor old ys ms → CallsLag floor new ys ms
     moved m [] [] low up h = tt
@@ -250,13 +249,13 @@ did_at floor old new n c row result (x ∷ xs) (k ∷ ks) i d x' h up place othe
         let above : m < k.number = up.0 in
         (subst (λ z. CallLags floor z x k) (others k.number (λ e. absurd (omega arith))) h.0, moved k.number xs ks (omega arith) up.1 h.1)
 
-    step : ((j : ℕ) → place_of c (numbers_of ks) ≡ Some j → ((j : ℕ) → (j ≡ c → ⊥) → old j ≡ new j) → ((k : Call) → k.number ≡ c → CallLags floor (old c) (get_or xs j d) k → CallDid floor (new c) result x' k row) → SessionDid floor new result (set xs j x') c row ks) → (b : Bool) → (k.number == c) ≡ b → SessionDid floor new result (set (x ∷ xs) i x') c row (k ∷ ks)
+    step : ((j : ℕ) → place_of c (numbers_of ks) ≡ Some j → ((j : ℕ) → (j ≡ c → ⊥) → old j ≡ new j) → ((k : Call) → k.number ≡ c → CallLags floor (old c) (get_or xs j d) k → CallDid floor (new c) done given x' k row) → SessionDid floor new done given (set xs j x') c row ks) → (b : Bool) → (k.number == c) ≡ b → SessionDid floor new done given (set (x ∷ xs) i x') c row (k ∷ ks)
     step further true same =
         let first = place_first c k.number (numbers_of ks) same in
         let at : 0 ≡ i = cc in
         let here : k.number ≡ c = eqb-true k.number c same in
-        let one : CallDid floor (new c) result x' k row = subst (λ z. CallLags floor (old c) (get_or (x ∷ xs) z d) k → CallDid floor (new c) result x' k row) (sym at) (did k here) (subst (λ z. CallLags floor (old z) x k) here h.0) in
-        subst (λ z. SessionDid floor new result (set (x ∷ xs) z x') c row (k ∷ ks)) at
+        let one : CallDid floor (new c) done given x' k row = subst (λ z. CallLags floor (old c) (get_or (x ∷ xs) z d) k → CallDid floor (new c) done given x' k row) (sym at) (did k here) (subst (λ z. CallLags floor (old z) x k) here h.0) in
+        subst (λ z. SessionDid floor new done given (set (x ∷ xs) z x') c row (k ∷ ks)) at
         (record {
           items = one.items ∙ ap (seat_items row) (sym (session_first c k ks same));
           acts = λ e. ap is_some (session_first c k ks same) ∙ one.acts e;
@@ -268,8 +267,8 @@ did_at floor old new n c row result (x ∷ xs) (k ∷ ks) i d x' h up place othe
         })
     step further false other =
         let next = next_place-some (place_of c (numbers_of ks)) i (sym (place_behind c k.number (numbers_of ks) other) ∙ place) in
-        let rest : SessionDid floor new result (set xs next.0 x') c row ks = further next.0 next.1 others (subst (λ z. (k : Call) → k.number ≡ c → CallLags floor (old c) (get_or (x ∷ xs) z d) k → CallDid floor (new c) result x' k row) next.2 did) in
-        subst (λ z. SessionDid floor new result (set (x ∷ xs) z x') c row (k ∷ ks)) (sym next.2)
+        let rest : SessionDid floor new done given (set xs next.0 x') c row ks = further next.0 next.1 others (subst (λ z. (k : Call) → k.number ≡ c → CallLags floor (old c) (get_or (x ∷ xs) z d) k → CallDid floor (new c) done given x' k row) next.2 did) in
+        subst (λ z. SessionDid floor new done given (set (x ∷ xs) z x') c row (k ∷ ks)) (sym next.2)
         (record {
           items = rest.items ∙ ap (seat_items row) (sym (session_behind c k ks other));
           acts = λ e. ap is_some (session_behind c k ks other) ∙ rest.acts e;
@@ -335,5 +334,5 @@ all_stood floor old new c (x ∷ xs) (k ∷ ks) h none others = at (all_stood fl
       further (next_place-none (place_of c (numbers_of ks)) (sym (place_behind c k.number (numbers_of ks) other) ∙ none)) others,
     )
 
-pub lags_elsewhere : (floor : ℕ) (old new : ℕ → ℕ) (n c : ℕ) (row : Point → Row Point) (xs : List kept_call.Call) (ks : List Call) → CallsLag floor old xs ks → AreAbove n (numbers_of ks) → place_of c (numbers_of ks) ≡ None → ((j : ℕ) → (j ≡ c → ⊥) → old j ≡ new j) → SessionDid floor new None xs c row ks
+pub lags_elsewhere : (floor : ℕ) (old new : ℕ → ℕ) (n c : ℕ) (row : Point → Row Point) (xs : List kept_call.Call) (ks : List Call) → CallsLag floor old xs ks → AreAbove n (numbers_of ks) → place_of c (numbers_of ks) ≡ None → ((j : ℕ) → (j ≡ c → ⊥) → old j ≡ new j) → SessionDid floor new false [] xs c row ks
 lags_elsewhere floor old new n c row xs ks h above none others = did_nowhere floor new c row xs ks (all_stood floor old new c xs ks h none others) none

@@ -10,8 +10,8 @@ use Rattle.channel_sim.specs.World.{Call, call_of, seated, left_by}
 use Rattle.channel_sim.specs.Lines.{sent_up, sent_down}
 use Rattle.channel_sim.specs.inner.Acts.{IsCaught}
 use Rattle.channel_sim.specs.inner.Lag.{CallLags, CallsLag}
-use Rattle.channel_sim.specs.inner.Places.{AreAbove, place_of}
-use Rattle.channel_sim.specs.inner.Tidy.{numbers_of}
+use Rattle.channel_sim.specs.inner.Places.{place_of}
+use Rattle.channel_sim.specs.Tidy.{AreAbove, numbers_of}
 use Rattle.channel_sim.proofs.PlaceLemmas.{numbers, above_at, next_place-some, next_place-none, place_first, place_behind}
 use Rattle.channel_sim.proofs.SeatLemmas.{stands_now}
 

@@ -10,9 +10,9 @@ use Rattle.channel_sim.specs.declared.calls.Call as kept_call
 use Rattle.channel_sim.specs.World.{Call, Due, due_frames, due_in}
 use Rattle.channel_sim.specs.inner.Acts.{due_by, sent_way}
 use Rattle.channel_sim.specs.inner.Lag.{CallLags}
-use Rattle.channel_sim.specs.inner.Tidy.{CallInTime}
+use Rattle.channel_sim.specs.Tidy.{CallInTime, AreFrom, ticks_of}
 use Rattle.channel_sim.specs.inner.Quiet.{FramesRest}
-use Rattle.channel_sim.specs.inner.Sends.{AreFrom, IsFirstFrom, ticks_of}
+use Rattle.channel_sim.specs.inner.Sends.{IsFirstFrom}
 
 pub frames_append : (c delay now : ℕ) (xs ys : List Sent) → due_frames c delay now (xs ++ ys) ≡ due_frames c delay now xs ++ due_frames c delay now ys
 frames_append c delay now [] ys = refl

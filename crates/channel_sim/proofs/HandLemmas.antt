@@ -6,7 +6,7 @@ use Rattle.ivs_machine.specs.VehicleRows as vehicle
 use Rattle.psap_machine.specs.PointRows as point
 use Rattle.trace_text.specs.declared.entry.Entry.{Entry}
 use Rattle.trace_text.specs.History.{Sent}
-use Rattle.channel_sim.specs.declared.world.World as kept_world
+use Rattle.channel_sim.specs.declared.channel.Channel as kept_channel
 use Rattle.channel_sim.specs.World.{World, Step, Session, InCall, Hears, Due, call_of, quiet_step, one_handed, performs, settled, point_is_in, vehicle_is_in, hands_up, hands_down}
 use Rattle.channel_sim.specs.Lines.{HandsUp, HandsDown, hands_one, or_nothing, sent_up, sent_down}
 use Rattle.channel_sim.specs.inner.Lag.{VehicleLags, CallsLag, StandsAt, StandsNow, Came, CameNow}
@@ -18,11 +18,11 @@ pub record Alike (s t : Step) : Type 0 where
   pub entries : s.entries ≡ t.entries
   pub world : s.world ≡ t.world
 
-pub came_alike : {Fault : Type 0} (Grew Partly : List Entry → Type 0) (result : Result (Unit {0}) Fault) (ahead floor : ℕ) (clock : ℕ → ℕ) (kept : kept_world.World) (s t : Step) → Alike s t → Came Grew Partly result ahead floor clock kept t → Came Grew Partly result ahead floor clock kept s
+pub came_alike : {Fault : Type 0} (Grew Partly : List Entry → Type 0) (result : Result (Unit {0}) Fault) (ahead floor : ℕ) (clock : ℕ → ℕ) (kept : kept_channel.Channel) (s t : Step) → Alike s t → Came Grew Partly result ahead floor clock kept t → Came Grew Partly result ahead floor clock kept s
 came_alike Grew Partly (Ok u) ahead floor clock kept s t h came = (subst Grew (sym h.entries) came.0, subst (StandsAt ahead floor clock kept) (sym h.world) came.1)
 came_alike Grew Partly (Err e) ahead floor clock kept s t h came = subst Partly (sym h.entries) came
 
-pub came_alike_now : {Fault : Type 0} (Grew Partly : List Entry → Type 0) (result : Result (Unit {0}) Fault) (kept : kept_world.World) (s t : Step) → Alike s t → CameNow Grew Partly result kept t → CameNow Grew Partly result kept s
+pub came_alike_now : {Fault : Type 0} (Grew Partly : List Entry → Type 0) (result : Result (Unit {0}) Fault) (kept : kept_channel.Channel) (s t : Step) → Alike s t → CameNow Grew Partly result kept t → CameNow Grew Partly result kept s
 came_alike_now Grew Partly (Ok u) kept s t h came = (subst Grew (sym h.entries) came.0, subst (StandsNow kept) (sym h.world) came.1)
 came_alike_now Grew Partly (Err e) kept s t h came = subst Partly (sym h.entries) came
 
@@ -77,7 +77,7 @@ down_line c place w frame e = at (vehicle_is_in c w) refl (slice_get (sent_down 
         (subst (λ g. Alike (hands_down d w) (performs (Hears (vehicle.Arrives g)) w)) (sym same) (down_alike d w f))
 
 -- what is kept with other calls that stand for the same
-pub with_calls : (ahead floor : ℕ) (clock : ℕ → ℕ) (kept moved : kept_world.World) (w : World) → StandsAt ahead floor clock kept w → moved ≡ record kept { calls = moved.calls } → CallsLag floor clock moved.calls.items w.calls → StandsAt ahead floor clock moved w
+pub with_calls : (ahead floor : ℕ) (clock : ℕ → ℕ) (kept moved : kept_channel.Channel) (w : World) → StandsAt ahead floor clock kept w → moved ≡ record kept { calls = moved.calls } → CallsLag floor clock moved.calls.items w.calls → StandsAt ahead floor clock moved w
 with_calls ahead floor clock kept moved w s same calls =
     record {
       tick = s.tick ∙ sym (ap (λ x. x.tick) same);
@@ -92,7 +92,7 @@ with_calls ahead floor clock kept moved w s same calls =
     }
 
 -- all ends were caught up
-pub caught_all : (floor : ℕ) (kept moved : kept_world.World) (w : World) → StandsAt kept.tick floor (λ c. kept.tick) kept w → moved ≡ record kept { calls = moved.calls } → kept.passed ≡ kept.tick → CallsLag kept.tick (λ c. kept.tick) moved.calls.items w.calls → StandsNow moved w
+pub caught_all : (floor : ℕ) (kept moved : kept_channel.Channel) (w : World) → StandsAt kept.tick floor (λ c. kept.tick) kept w → moved ≡ record kept { calls = moved.calls } → kept.passed ≡ kept.tick → CallsLag kept.tick (λ c. kept.tick) moved.calls.items w.calls → StandsNow moved w
 caught_all floor kept moved w s same passed calls =
     subst (λ x. StandsNow x w) (sym same)
     (record {

@@ -15,10 +15,8 @@ use Rattle.psap_machine.specs.Point as at_point
 use Rattle.psap_machine.specs.Point.{Point}
 use Rattle.psap_machine.specs.PointRows as point
 use Rattle.channel_sim.specs.World.{Call, World, Step, quiet_step, and_then, left_by, unit, units, carries, with_legs, did, vehicle_did, session_did, settled, vehicle_passes, session_passes, session_acts, sessions_pass, each, call_of, session_in, session_of, seated, Due, due_frames, due_in, hands_up, hands_down, flows_up, flows_down}
-use Rattle.channel_sim.specs.inner.Places.{AreAbove}
-use Rattle.channel_sim.specs.inner.Sends.{ticks_of}
+use Rattle.channel_sim.specs.Tidy.{AreAbove, ticks_of, HasLeg, IsTidy, InTime, CallInTime, numbers_of}
 use Rattle.channel_sim.specs.inner.Quiet.{SessionRests, CallRests, FramesRest, QuietFor, aged_call, aged_world}
-use Rattle.channel_sim.specs.inner.Tidy.{HasLeg, IsTidy, InTime, CallInTime, numbers_of}
 
 -- Lines by the ticks that they have left.
 

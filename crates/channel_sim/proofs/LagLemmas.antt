@@ -1,7 +1,6 @@
 -- Ends that lag and catch up.
-use Rattle.std.proofs.Common.{◌≡◌, ℕ, zero, suc, ◌+◌, ◌-◌, ◌<◌, ◌≤◌, Option, Some, None, IfSome, refl, ap, sym, ◌∙◌, subst, arith}
+use Rattle.std.proofs.Common.{◌≡◌, ℕ, zero, suc, ◌+◌, ◌-◌, ◌<◌, ◌≤◌, Bool, true, false, List, [], Option, Some, None, IfSome, refl, ap, sym, ◌∙◌, subst, arith}
 use Rattle.std.specs.Option.{is_some}
-use Rattle.arrayvec.specs.ArrayVec.{ArrayVec}
 use Rattle.link_frames.specs.declared.note.Note.{Note}
 use Rattle.link_frames.specs.Row.{Row, silent}
 use Rattle.ivs_machine.specs.declared.vehicle.Ivs.{Ivs}
@@ -80,15 +79,15 @@ some_later n (Some due) h = omega arith
 
 -- What a session does at its unit tick, as it is kept.
 
-pub acted_over : (floor before tick : ℕ) (x : kept_call.Call) (k : Call) (row : Point → Row Point) (session : Session) (items : ArrayVec Note)
+pub acted_over : (floor before tick : ℕ) (x : kept_call.Call) (k : Call) (row : Point → Row Point) (session : Session) (items : List Note)
     → CallLags floor before x k
     → floor ≤ tick
     → x.session ≡ Some session
-    → ((s : Point) → SessionLags (before - x.passed) session s → (items.items ≡ (row s).items) × (left_by (row s).new ≡ None))
-    → CallDid floor tick (Some items) (record x { session = None; passed = tick }) k row
+    → ((s : Point) → SessionLags (before - x.passed) session s → (items ≡ (row s).items) × (left_by (row s).new ≡ None))
+    → CallDid floor tick true items (record x { session = None; passed = tick }) k row
 acted_over floor before tick x k row session items h floor_up e did = at k.session refl (subst (λ o. SeatLags (before - x.passed) o k.session) e h.session)
   where
-    at : (o : Option Point) → k.session ≡ o → SeatLags (before - x.passed) (Some session) o → CallDid floor tick (Some items) (record x { session = None; passed = tick }) k row
+    at : (o : Option Point) → k.session ≡ o → SeatLags (before - x.passed) (Some session) o → CallDid floor tick true items (record x { session = None; passed = tick }) k row
     at None f seat = absurd seat
     at (Some s) f seat =
         record {
@@ -106,15 +105,15 @@ acted_over floor before tick x k row session items h floor_up e did = at k.sessi
               };
         }
 
-pub acted_on : (floor before tick : ℕ) (x : kept_call.Call) (k : Call) (row : Point → Row Point) (session new : Session) (items : ArrayVec Note)
+pub acted_on : (floor before tick : ℕ) (x : kept_call.Call) (k : Call) (row : Point → Row Point) (session new : Session) (items : List Note)
     → CallLags floor before x k
     → floor ≤ tick
     → x.session ≡ Some session
-    → ((s : Point) → SessionLags (before - x.passed) session s → (items.items ≡ (row s).items) × (left_by (row s).new ≡ Some (row s).new) × SessionStandsFor new (row s).new)
-    → CallDid floor tick (Some items) (record x { session = Some new; passed = tick }) k row
+    → ((s : Point) → SessionLags (before - x.passed) session s → (items ≡ (row s).items) × (left_by (row s).new ≡ Some (row s).new) × SessionStandsFor new (row s).new)
+    → CallDid floor tick true items (record x { session = Some new; passed = tick }) k row
 acted_on floor before tick x k row session new items h floor_up e did = at k.session refl (subst (λ o. SeatLags (before - x.passed) o k.session) e h.session)
   where
-    at : (o : Option Point) → k.session ≡ o → SeatLags (before - x.passed) (Some session) o → CallDid floor tick (Some items) (record x { session = Some new; passed = tick }) k row
+    at : (o : Option Point) → k.session ≡ o → SeatLags (before - x.passed) (Some session) o → CallDid floor tick true items (record x { session = Some new; passed = tick }) k row
     at None f seat = absurd seat
     at (Some s) f seat =
         record {
@@ -140,13 +139,13 @@ pub rested : (floor before tick : ℕ) (x : kept_call.Call) (k : Call) (session 
     → before + 1 ≡ tick
     → x.session ≡ Some session
     → ((q : Point) → SessionStandsFor session q → IfSome (point.due_of q) (λ due. tick - x.passed < due))
-    → CallDid floor tick None x k point.unit_row
+    → CallDid floor tick false [] x k point.unit_row
 rested floor before tick x k session h next e later = at k.session refl (subst (λ o. SeatLags (before - x.passed) o k.session) e h.session)
   where
     sum : tick - x.passed ≡ (before - x.passed) + 1
     sum = let p : x.passed ≤ before = h.passed in omega arith
 
-    at : (o : Option Point) → k.session ≡ o → SeatLags (before - x.passed) (Some session) o → CallDid floor tick None x k point.unit_row
+    at : (o : Option Point) → k.session ≡ o → SeatLags (before - x.passed) (Some session) o → CallDid floor tick false [] x k point.unit_row
     at None f seat = absurd seat
     at (Some s) f seat =
         let quiet : IfSome (point.due_of seat.was) (λ due. (before - x.passed) + 1 < due) = as_sum (before - x.passed) 1 (tick - x.passed) (point.due_of seat.was) sum (later seat.was seat.stands) in
@@ -177,10 +176,10 @@ rested floor before tick x k session h next e later = at k.session refl (subst (
               };
         }
 
-pub nobody_acts : (floor before tick : ℕ) (x : kept_call.Call) (k : Call) (row : Point → Row Point) → CallLags floor before x k → before ≤ tick → x.session ≡ None → CallDid floor tick None x k row
+pub nobody_acts : (floor before tick : ℕ) (x : kept_call.Call) (k : Call) (row : Point → Row Point) → CallLags floor before x k → before ≤ tick → x.session ≡ None → CallDid floor tick false [] x k row
 nobody_acts floor before tick x k row h le e = at k.session refl (subst (λ o. SeatLags (before - x.passed) o k.session) e h.session)
   where
-    at : (o : Option Point) → k.session ≡ o → SeatLags (before - x.passed) None o → CallDid floor tick None x k row
+    at : (o : Option Point) → k.session ≡ o → SeatLags (before - x.passed) None o → CallDid floor tick false [] x k row
     at (Some s) f seat = absurd seat
     at None f seat =
         record {

@@ -8,7 +8,7 @@ use Rattle.ivs_machine.specs.VehicleRows as vehicle
 use Rattle.trace_text.specs.declared.entry.Entry.{Entry}
 use Rattle.trace_text.specs.History.{told}
 use Rattle.channel_sim.specs.declared.calls.Call as kept_call
-use Rattle.channel_sim.specs.declared.world.World as kept_world
+use Rattle.channel_sim.specs.declared.channel.Channel as kept_channel
 use Rattle.channel_sim.specs.World.{Call, World, Step, Hears, InCall, is_number, quiet_step, performs, settled, vehicle_did}
 use Rattle.channel_sim.specs.Lines.{Deed, Does, deed, in_its_call, or_nothing, nothing_step}
 use Rattle.channel_sim.specs.inner.Acts.{IsCaught}
@@ -19,11 +19,11 @@ pub one_deed : (d : Deed) (w : World) → or_nothing (d ∷ []) w ≡ deed d w
 one_deed d w = quiet_behind (deed d w)
 
 -- the tick stood
-pub came_now : {Fault : Type 0} (Grew Partly : List Entry → Type 0) (result : Result (Unit {0}) Fault) (tick : ℕ) (new : kept_world.World) (s : Step) → new.tick ≡ tick → Came Grew Partly result tick tick (λ c. tick) new s → CameNow Grew Partly result new s
+pub came_now : {Fault : Type 0} (Grew Partly : List Entry → Type 0) (result : Result (Unit {0}) Fault) (tick : ℕ) (new : kept_channel.Channel) (s : Step) → new.tick ≡ tick → Came Grew Partly result tick tick (λ c. tick) new s → CameNow Grew Partly result new s
 came_now Grew Partly (Ok u) tick new s same h = (h.0, subst (λ t. StandsAt t t (λ c. t) new s.world) (sym same) h.1)
 came_now Grew Partly (Err e) tick new s same h = h
 
-pub caught_now : (kept : kept_world.World) (w : World) → StandsNow kept w → kept.tick ≡ kept.passed
+pub caught_now : (kept : kept_channel.Channel) (w : World) → StandsNow kept w → kept.tick ≡ kept.passed
 caught_now kept w s =
     let low : kept.tick ≤ kept.passed = s.from in
     let high : kept.passed ≤ kept.tick = s.passed in
@@ -37,7 +37,7 @@ all_caught tick c (x ∷ xs) (k ∷ ks) h =
     ((λ same. let low : tick ≤ x.passed = h.0.from in let high : x.passed ≤ tick = h.0.passed in omega arith), all_caught tick c xs ks h.1)
 
 -- a line that applies to nothing
-pub nothing_came : {Fault : Type 0} (Grew Partly : List Entry → Type 0) (result : Result (Unit {0}) Fault) (kept : kept_world.World) (w : World) → StandsNow kept w → OnOk result (Grew (told kept.tick (note.Nothing ∷ []))) → OnErr result (Partly (told kept.tick (note.Nothing ∷ []))) → CameNow Grew Partly result kept (nothing_step w)
+pub nothing_came : {Fault : Type 0} (Grew Partly : List Entry → Type 0) (result : Result (Unit {0}) Fault) (kept : kept_channel.Channel) (w : World) → StandsNow kept w → OnOk result (Grew (told kept.tick (note.Nothing ∷ []))) → OnErr result (Partly (told kept.tick (note.Nothing ∷ []))) → CameNow Grew Partly result kept (nothing_step w)
 nothing_came Grew Partly (Ok u) kept w s ok err = (subst (λ t. Grew (told t (note.Nothing ∷ []))) (sym s.tick) ok, s)
 nothing_came Grew Partly (Err e) kept w s ok err = subst (λ t. Partly (told t (note.Nothing ∷ []))) (sym s.tick) err
 

@@ -11,11 +11,11 @@ use Rattle.psap_machine.specs.declared.session.Session.{Session}
 use Rattle.psap_machine.specs.Point.{Point}
 use Rattle.psap_machine.specs.PointRows as point
 use Rattle.channel_sim.specs.declared.calls.Call as kept_call
-use Rattle.channel_sim.specs.declared.world.World as kept_world
+use Rattle.channel_sim.specs.declared.channel.Channel as kept_channel
 use Rattle.channel_sim.specs.World.{Call, World, unit, units}
 use Rattle.channel_sim.specs.inner.Lag.{SessionLags, SeatLags, VehicleLags, CallsLag, StandsAt}
 use Rattle.channel_sim.specs.inner.Quiet.{SessionRests, CallRests, FramesRest, QuietFor, aged_call, aged_world}
-use Rattle.channel_sim.specs.inner.Tidy.{CallInTime, IsTidy}
+use Rattle.channel_sim.specs.Tidy.{CallInTime, IsTidy}
 use Rattle.channel_sim.proofs.SeatLemmas.{due_later}
 use Rattle.channel_sim.proofs.VehicleLemmas.{vehicle_due_later}
 use Rattle.channel_sim.proofs.Jump.{less, vehicle_due_aged, vehicle_again, point_due_aged, point_again, point_live, aged_tidy, units_behind, units_one}
@@ -86,7 +86,7 @@ in_time_more m n (k ∷ ks) le h = (
 )
 
 -- quiet ticks later, and one tick more, at which nobody was passed yet
-pub jumped : (floor n tick : ℕ) (kept : kept_world.World) (w : World) → StandsAt kept.tick floor (λ c. kept.tick) kept w → QuietFor n w → kept.tick + n + 1 ≡ tick → StandsAt (kept.tick + n) floor (λ c. kept.tick + n) (record kept { tick = tick }) (record (aged_world n w) { tick = (aged_world n w).tick + 1 })
+pub jumped : (floor n tick : ℕ) (kept : kept_channel.Channel) (w : World) → StandsAt kept.tick floor (λ c. kept.tick) kept w → QuietFor n w → kept.tick + n + 1 ≡ tick → StandsAt (kept.tick + n) floor (λ c. kept.tick + n) (record kept { tick = tick }) (record (aged_world n w) { tick = (aged_world n w).tick + 1 })
 jumped floor n tick kept w s quiet next =
     let within : kept.passed ≤ kept.tick = s.passed in
     let sum : (kept.tick - kept.passed) + n ≡ (kept.tick + n) - kept.passed = omega arith in
@@ -114,7 +114,7 @@ still_same m kept v h =
     let e : m + 0 ≡ m = omega arith in
     ap (vehicle.aged 0) h.aged ∙ vehicle_again m 0 h.was ∙ ap (λ k. vehicle.aged k h.was) e ∙ sym h.aged
 
-pub units_jump : (floor n : ℕ) (kept : kept_world.World) (w : World) → StandsAt kept.tick floor (λ c. kept.tick) kept w → QuietFor n w → units (n + 1) w ≡ unit (aged_world n w)
+pub units_jump : (floor n : ℕ) (kept : kept_channel.Channel) (w : World) → StandsAt kept.tick floor (λ c. kept.tick) kept w → QuietFor n w → units (n + 1) w ≡ unit (aged_world n w)
 units_jump floor n kept w s quiet =
     units_behind n 1 w s.tidy (still_same (kept.tick - kept.passed) kept.vehicle w.vehicle s.vehicle) quiet ∙ units_one (aged_world n w)
 
@@ -148,7 +148,7 @@ all_frames : (sent : Call → List Sent) (flow tick : ℕ) (ks : List Call) → 
 all_frames sent flow tick [] = tt
 all_frames sent flow tick (k ∷ ks) = (frames_rest flow tick (sent k), all_frames sent flow tick ks)
 
-quiet_none : (floor t : ℕ) (kept : kept_world.World) (w : World) → StandsAt t floor (λ c. t) kept w → QuietFor 0 w
+quiet_none : (floor t : ℕ) (kept : kept_channel.Channel) (w : World) → StandsAt t floor (λ c. t) kept w → QuietFor 0 w
 quiet_none floor t kept w s =
     record {
       vehicle = vehicle_due_later w.vehicle;
@@ -158,7 +158,7 @@ quiet_none floor t kept w s =
     }
 
 -- up to the next moment it is quiet
-pub moment_quiet : (floor t next_due : ℕ) (kept : kept_world.World) (w : World) → StandsAt t floor (λ c. t) kept w → ((n : ℕ) → t + n < next_due → QuietFor n w) → (n : ℕ) × (t + n + 1 ≡ max next_due (t + 1)) × QuietFor n w
+pub moment_quiet : (floor t next_due : ℕ) (kept : kept_channel.Channel) (w : World) → StandsAt t floor (λ c. t) kept w → ((n : ℕ) → t + n < next_due → QuietFor n w) → (n : ℕ) × (t + n + 1 ≡ max next_due (t + 1)) × QuietFor n w
 moment_quiet floor t next_due kept w s quiet = at (nat_lt t next_due) refl
   where
     at : (b : Bool) → nat_lt t next_due ≡ b → (n : ℕ) × (t + n + 1 ≡ max next_due (t + 1)) × QuietFor n w

@@ -11,12 +11,11 @@ use Rattle.ivs_machine.specs.Vehicle.{Vehicle, vehicle_call}
 use Rattle.ivs_machine.specs.VehicleRows as vehicle
 use Rattle.psap_machine.specs.Point.{Point}
 use Rattle.channel_sim.specs.declared.calls.Call as kept_call
-use Rattle.channel_sim.specs.declared.world.World as kept_world
+use Rattle.channel_sim.specs.declared.channel.Channel as kept_channel
 use Rattle.channel_sim.specs.World.{Call, World, Step, quiet_step, vehicle_passes, settled, session_acts, session_of, seated, did, carries, with_legs, left_by}
 use Rattle.channel_sim.specs.inner.Acts.{SessionDid, AreSameBut, IsReady, OtherHasLeg, seat_items, seat_after}
 use Rattle.channel_sim.specs.inner.Lag.{VehicleLags, CallLags, CallsLag, StandsAt}
-use Rattle.channel_sim.specs.inner.Places.{AreAbove}
-use Rattle.channel_sim.specs.inner.Tidy.{HasLeg, numbers_of}
+use Rattle.channel_sim.specs.Tidy.{AreAbove, HasLeg, numbers_of}
 use Rattle.channel_sim.proofs.ActLemmas.{did_done}
 use Rattle.channel_sim.proofs.CallsLemmas.{carries_none}
 use Rattle.channel_sim.proofs.Jump.{vehicle_later, vehicle_again, vehicle_acts, quiet_vehicle, call_stays}
@@ -43,23 +42,25 @@ seated_legs ic c o (k ∷ ks) h there = at (k.number == c) (seated_legs ic c o k
     at false rest = (h.0, rest)
 
 -- a session that isn't due gives nothing
-pub rests_step : (ahead floor : ℕ) (old new : ℕ → ℕ) (kept moved : kept_world.World) (w : World) (c : ℕ) (row : Point → Row Point)
+pub rests_step : (ahead floor : ℕ) (old new : ℕ → ℕ) (kept moved : kept_channel.Channel) (w : World) (c : ℕ) (done : Bool) (given : List Note) (row : Point → Row Point)
     → StandsAt ahead floor old kept w
     → moved ≡ record kept { calls = moved.calls }
-    → SessionDid floor new None moved.calls.items c row w.calls
+    → done ≡ false
+    → given ≡ []
+    → SessionDid floor new done given moved.calls.items c row w.calls
     → ((settled (session_acts c w row (session_of c w.calls))).entries ≡ []) × StandsAt ahead floor new moved (settled (session_acts c w row (session_of c w.calls))).world
-rests_step ahead floor old new kept moved w c row s same h = at (session_of c w.calls) refl
+rests_step ahead floor old new kept moved w c done given row s same idle none h = at (session_of c w.calls) refl
   where
     at : (o : Option Point) → session_of c w.calls ≡ o → ((settled (session_acts c w row o)).entries ≡ []) × StandsAt ahead floor new moved (settled (session_acts c w row o)).world
-    at None e = (refl, nobody_did ahead floor old new kept moved w c row s same (ap is_some e) h)
+    at None e = (refl, nobody_did ahead floor old new kept moved w c done given row s same (ap is_some e) h)
     at (Some p) e =
         let kp = seated c (left_by (row p).new) w.calls in
         let calls : CallsLag floor new moved.calls.items kp = subst (λ o. CallsLag floor new moved.calls.items (seated c (seat_after row o) w.calls)) e h.stands in
-        let ready : IsReady ahead floor new moved w w.vehicle kp (Some c) = subst (λ o. IsReady ahead floor new moved w w.vehicle (seated c (seat_after row o) w.calls) (Some c)) e (session_ready ahead floor old new kept moved w c None row s same h) in
-        let there : is_some (left_by (row p).new) ≡ true = ap (λ o. is_some (seat_after row o)) (sym e) ∙ h.rests refl ∙ ap is_some e in
+        let ready : IsReady ahead floor new moved w w.vehicle kp (Some c) = subst (λ o. IsReady ahead floor new moved w w.vehicle (seated c (seat_after row o) w.calls) (Some c)) e (session_ready ahead floor old new kept moved w c done given row s same h) in
+        let there : is_some (left_by (row p).new) ≡ true = ap (λ o. is_some (seat_after row o)) (sym e) ∙ h.rests idle ∙ ap is_some e in
         let stay : with_legs (vehicle_call w.vehicle) (map (carries []) kp) ≡ kp = ap (with_legs (vehicle_call w.vehicle)) (carries_none kp) ∙ with_legs_kept (vehicle_call w.vehicle) kp (seated_legs (vehicle_call w.vehicle) c (left_by (row p).new) w.calls s.tidy.legs there) in
-        let none : [] ≡ (row p).items = h.items ∙ ap (seat_items row) e in
-        subst (λ items. ((settled (did w items w.vehicle kp)).entries ≡ []) × StandsAt ahead floor new moved (settled (did w items w.vehicle kp)).world) none
+        let nothing : [] ≡ (row p).items = sym none ∙ h.items ∙ ap (seat_items row) e in
+        subst (λ items. ((settled (did w items w.vehicle kp)).entries ≡ []) × StandsAt ahead floor new moved (settled (did w items w.vehicle kp)).world) nothing
         (refl, did_done ahead floor new moved moved w w.vehicle kp (Some c) [] ready refl (subst (CallsLag floor new moved.calls.items) (sym stay) calls))
 
 -- The vehicle's unit tick.
@@ -135,7 +136,7 @@ above_behind n (x ∷ ns) zero d h inside = h.1
 above_behind n (x ∷ ns) (suc i) d h inside = above_behind x ns i d h.1 (omega arith)
 
 -- another clock for the sessions
-pub reclocked : (ahead floor : ℕ) (old new : ℕ → ℕ) (kept : kept_world.World) (w : World) → StandsAt ahead floor old kept w → CallsLag floor new kept.calls.items w.calls → StandsAt ahead floor new kept w
+pub reclocked : (ahead floor : ℕ) (old new : ℕ → ℕ) (kept : kept_channel.Channel) (w : World) → StandsAt ahead floor old kept w → CallsLag floor new kept.calls.items w.calls → StandsAt ahead floor new kept w
 reclocked ahead floor old new kept w s calls =
     record {
       tick = s.tick;
@@ -150,7 +151,7 @@ reclocked ahead floor old new kept w s calls =
     }
 
 -- the vehicle did this at its unit tick
-pub vehicle_passed_ready : (floor before : ℕ) (clock : ℕ → ℕ) (kept moved : kept_world.World) (w : World) (v : Vehicle) (call : Option ℕ)
+pub vehicle_passed_ready : (floor before : ℕ) (clock : ℕ → ℕ) (kept moved : kept_channel.Channel) (w : World) (v : Vehicle) (call : Option ℕ)
     → StandsAt before floor clock kept w
     → before + 1 ≡ kept.tick
     → moved ≡ record kept { vehicle = moved.vehicle; passed = moved.passed }
@@ -177,7 +178,7 @@ vehicle_passed_ready floor before clock kept moved w v call s next same passed s
     }
 
 -- the vehicle did nothing at it
-pub vehicle_rests_stand : (floor before : ℕ) (clock : ℕ → ℕ) (kept : kept_world.World) (w : World)
+pub vehicle_rests_stand : (floor before : ℕ) (clock : ℕ → ℕ) (kept : kept_channel.Channel) (w : World)
     → StandsAt before floor clock kept w
     → before + 1 ≡ kept.tick
     → IfSome (vehicle.due_of w.vehicle) (λ due. 1 < due)

@@ -4,7 +4,8 @@ use Rattle.std.specs.List.{AllByRecursion}
 use Rattle.std.proofs.lemmas.Bool.{eq-eqb}
 use Rattle.std.proofs.lemmas.Bool.Decides.{nat_tests}
 use Rattle.channel_sim.specs.declared.calls.Call.{Call}
-use Rattle.channel_sim.specs.inner.Places.{AreAbove, next_place, place_of}
+use Rattle.channel_sim.specs.inner.Places.{next_place, place_of}
+use Rattle.channel_sim.specs.Tidy.{AreAbove}
 
 abbrev pub numbers : List Call → List ℕ
 numbers xs = map (λ x. x.number) xs

@@ -1,7 +1,6 @@
 -- A session of a call that lags, that hears something, or that acts.
-use Rattle.std.proofs.Common.{◌≡◌, ℕ, ◌-◌, ◌<◌, Bool, Option, Some, None, IfSome, List, [], ◌∷◌, refl, ap, sym, ◌∙◌, subst, arith}
+use Rattle.std.proofs.Common.{◌≡◌, ℕ, ◌-◌, ◌<◌, Bool, true, false, Option, Some, None, IfSome, List, [], ◌∷◌, refl, ap, sym, ◌∙◌, subst, arith}
 use Rattle.std.specs.Option.{is_some}
-use Rattle.arrayvec.specs.ArrayVec.{ArrayVec}
 use Rattle.link_frames.specs.declared.frame.End.TheVariants as «end»
 use Rattle.link_frames.specs.declared.note.Note.{Note}
 use Rattle.link_frames.specs.declared.note.Note.TheVariants as note
@@ -55,14 +54,14 @@ stands_now n kept s e h live =
     }
 
 -- What a session gives that hears something, and the call behind it.
-pub heard_over : (floor : ℕ) (clock : ℕ) (x : kept_call.Call) (k : Call) (row : Point → Row Point) (session new : Session) (items : ArrayVec Note) (over : Bool)
+pub heard_over : (floor : ℕ) (clock : ℕ) (x : kept_call.Call) (k : Call) (row : Point → Row Point) (session new : Session) (items : List Note) (over : Bool)
     → CallLags floor clock x k
     → x.session ≡ Some session
-    → ((s : Point) → SessionLags (clock - x.passed) session s → (items.items ≡ (row s).items) × (left_by (row s).new ≡ None))
-    → CallDid floor clock (Some items) (record x { session = None }) k row
+    → ((s : Point) → SessionLags (clock - x.passed) session s → (items ≡ (row s).items) × (left_by (row s).new ≡ None))
+    → CallDid floor clock true items (record x { session = None }) k row
 heard_over floor clock x k row session new items over h e did = at k.session refl (subst (λ o. SeatLags (clock - x.passed) o k.session) e h.session)
   where
-    at : (o : Option Point) → k.session ≡ o → SeatLags (clock - x.passed) (Some session) o → CallDid floor clock (Some items) (record x { session = None }) k row
+    at : (o : Option Point) → k.session ≡ o → SeatLags (clock - x.passed) (Some session) o → CallDid floor clock true items (record x { session = None }) k row
     at None f seat = absurd seat
     at (Some s) f seat =
         record {
@@ -80,14 +79,14 @@ heard_over floor clock x k row session new items over h e did = at k.session ref
               };
         }
 
-pub heard_on : (floor : ℕ) (clock : ℕ) (x : kept_call.Call) (k : Call) (row : Point → Row Point) (session new : Session) (items : ArrayVec Note)
+pub heard_on : (floor : ℕ) (clock : ℕ) (x : kept_call.Call) (k : Call) (row : Point → Row Point) (session new : Session) (items : List Note)
     → CallLags floor clock x k
     → x.session ≡ Some session
-    → ((s : Point) → SessionLags (clock - x.passed) session s → (items.items ≡ (row s).items) × (left_by (row s).new ≡ Some (row s).new) × SessionLags (clock - x.passed) new (row s).new)
-    → CallDid floor clock (Some items) (record x { session = Some new }) k row
+    → ((s : Point) → SessionLags (clock - x.passed) session s → (items ≡ (row s).items) × (left_by (row s).new ≡ Some (row s).new) × SessionLags (clock - x.passed) new (row s).new)
+    → CallDid floor clock true items (record x { session = Some new }) k row
 heard_on floor clock x k row session new items h e did = at k.session refl (subst (λ o. SeatLags (clock - x.passed) o k.session) e h.session)
   where
-    at : (o : Option Point) → k.session ≡ o → SeatLags (clock - x.passed) (Some session) o → CallDid floor clock (Some items) (record x { session = Some new }) k row
+    at : (o : Option Point) → k.session ≡ o → SeatLags (clock - x.passed) (Some session) o → CallDid floor clock true items (record x { session = Some new }) k row
     at None f seat = absurd seat
     at (Some s) f seat =
         record {
@@ -106,10 +105,10 @@ heard_on floor clock x k row session new items h e did = at k.session refl (subs
         }
 
 -- where there is no session, nobody does anything
-pub none_did : (floor : ℕ) (clock : ℕ) (x : kept_call.Call) (k : Call) (row : Point → Row Point) → CallLags floor clock x k → x.session ≡ None → CallDid floor clock None x k row
+pub none_did : (floor : ℕ) (clock : ℕ) (x : kept_call.Call) (k : Call) (row : Point → Row Point) → CallLags floor clock x k → x.session ≡ None → CallDid floor clock false [] x k row
 none_did floor clock x k row h e = at k.session refl (subst (λ o. SeatLags (clock - x.passed) o k.session) e h.session)
   where
-    at : (o : Option Point) → k.session ≡ o → SeatLags (clock - x.passed) None o → CallDid floor clock None x k row
+    at : (o : Option Point) → k.session ≡ o → SeatLags (clock - x.passed) None o → CallDid floor clock false [] x k row
     at (Some s) f seat = absurd seat
     at None f seat =
         record {

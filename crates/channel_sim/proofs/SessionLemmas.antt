@@ -3,17 +3,15 @@ use Rattle.std.proofs.Common.{◌≡◌, ℕ, ◌-◌, ◌≤◌, ◌==◌, if�
 use Rattle.std.specs.List.{AllByRecursion}
 use Rattle.std.specs.Option.{is_some}
 use Rattle.std.proofs.lemmas.Bool.{eqb-true, eq-eqb}
-use Rattle.arrayvec.specs.ArrayVec.{ArrayVec}
 use Rattle.link_frames.specs.declared.note.Note.{Note}
 use Rattle.link_frames.specs.Row.{Row}
 use Rattle.ivs_machine.specs.Vehicle.{vehicle_call}
 use Rattle.psap_machine.specs.Point.{Point}
-use Rattle.channel_sim.specs.declared.world.World as kept_world
+use Rattle.channel_sim.specs.declared.channel.Channel as kept_channel
 use Rattle.channel_sim.specs.World.{Call, World, quiet_step, did, seated, call_of, session_in, session_of, session_acts, settled}
 use Rattle.channel_sim.specs.inner.Acts.{OtherHasLeg, IsReady, SessionDid, seat_items, seat_after}
 use Rattle.channel_sim.specs.inner.Lag.{VehicleLags, CallsLag, StandsAt}
-use Rattle.channel_sim.specs.inner.Tidy.{HasLeg, CallInTime, numbers_of}
-use Rattle.channel_sim.specs.inner.Places.{AreAbove}
+use Rattle.channel_sim.specs.Tidy.{HasLeg, CallInTime, numbers_of, AreAbove}
 
 pub seated_numbers : (c : ℕ) (new : Option Point) (ks : List Call) → numbers_of (seated c new ks) ≡ numbers_of ks
 seated_numbers c new [] = refl
@@ -47,7 +45,7 @@ seated_others ic c new (k ∷ ks) h = at (k.number == c) refl (seated_others ic 
     at false apart rest = ((λ other. h.0), rest)
 
 -- the session of this call became another, or left
-pub seated_ready : (ahead floor : ℕ) (old new : ℕ → ℕ) (kept moved : kept_world.World) (w : World) (c : ℕ) (after : Option Point)
+pub seated_ready : (ahead floor : ℕ) (old new : ℕ → ℕ) (kept moved : kept_channel.Channel) (w : World) (c : ℕ) (after : Option Point)
     → StandsAt ahead floor old kept w
     → moved ≡ record kept { calls = moved.calls }
     → CallsLag floor new moved.calls.items (seated c after w.calls)
@@ -69,12 +67,12 @@ seated_ready ahead floor old new kept moved w c after s same calls =
     }
 
 -- a session of this call did this
-pub session_ready : (ahead floor : ℕ) (old new : ℕ → ℕ) (kept moved : kept_world.World) (w : World) (c : ℕ) (result : Option (ArrayVec Note)) (row : Point → Row Point)
+pub session_ready : (ahead floor : ℕ) (old new : ℕ → ℕ) (kept moved : kept_channel.Channel) (w : World) (c : ℕ) (done : Bool) (given : List Note) (row : Point → Row Point)
     → StandsAt ahead floor old kept w
     → moved ≡ record kept { calls = moved.calls }
-    → SessionDid floor new result moved.calls.items c row w.calls
+    → SessionDid floor new done given moved.calls.items c row w.calls
     → IsReady ahead floor new moved w w.vehicle (seated c (seat_after row (session_of c w.calls)) w.calls) (Some c)
-session_ready ahead floor old new kept moved w c result row s same did =
+session_ready ahead floor old new kept moved w c done given row s same did =
     seated_ready ahead floor old new kept moved w c (seat_after row (session_of c w.calls)) s same did.stands
 
 -- the step of a session that is there
@@ -110,13 +108,13 @@ seated_same c (k ∷ ks) none = at (k.number == c) refl (seated_same c ks)
         ∙ ap (λ z. k ∷ z) (rest (sym (ap (λ b. session_in (if b then Some k else call_of c ks)) apart) ∙ none))
 
 -- where there is no session, what is kept stands for the same world
-pub nobody_did : (ahead : ℕ) (floor : ℕ) (old new : ℕ → ℕ) (kept moved : kept_world.World) (w : World) (c : ℕ) (row : Point → Row Point)
+pub nobody_did : (ahead : ℕ) (floor : ℕ) (old new : ℕ → ℕ) (kept moved : kept_channel.Channel) (w : World) (c : ℕ) (done : Bool) (given : List Note) (row : Point → Row Point)
     → StandsAt ahead floor old kept w
     → moved ≡ record kept { calls = moved.calls }
     → is_some (session_of c w.calls) ≡ false
-    → SessionDid floor new None moved.calls.items c row w.calls
+    → SessionDid floor new done given moved.calls.items c row w.calls
     → StandsAt ahead floor new moved w
-nobody_did ahead floor old new kept moved w c row s same gone did =
+nobody_did ahead floor old new kept moved w c done given row s same gone did =
     let none = no_one (session_of c w.calls) gone in
     record {
       tick = s.tick ∙ sym (ap (λ x. x.tick) same);

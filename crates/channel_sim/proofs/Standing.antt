@@ -3,14 +3,14 @@ use Rattle.std.proofs.Common.{◌≡◌, ℕ, ◌-◌, ◌≤◌, ◌==◌, if�
 use Rattle.psap_machine.specs.declared.session.Session.{Session}
 use Rattle.psap_machine.specs.Point.{Point}
 use Rattle.channel_sim.specs.declared.calls.Call as kept_call
-use Rattle.channel_sim.specs.declared.world.World as kept_world
-use Rattle.trace_text.specs.declared.event.Event.TheVariants as event
+use Rattle.channel_sim.specs.declared.channel.Channel as kept_channel
+use Rattle.channel_sim.specs.declared.turn.Turn.TheVariants as turn
 use Rattle.channel_sim.specs.World.{Call, World, quiet_step, call_of, session_in, session_of}
-use Rattle.channel_sim.specs.Lines.{step}
+use Rattle.channel_sim.specs.inner.Turns.{does_turn}
 use Rattle.channel_sim.specs.inner.Places.{place_of}
-use Rattle.channel_sim.specs.inner.Tidy.{numbers_of}
+use Rattle.channel_sim.specs.Tidy.{numbers_of}
 use Rattle.channel_sim.proofs.PlaceLemmas.{next_place-some, place_first, place_behind}
-use Rattle.channel_sim.specs.WorldStands.{FoundStandsFor, CallsStandFor, WorldStandsFor}
+use Rattle.channel_sim.specs.WorldStands.{FoundStandsFor, CallsStandFor, ChannelStandsFor}
 use Rattle.channel_sim.specs.inner.Lag.{SeatLags, CallsLag, StandsNow}
 use Rattle.channel_sim.proofs.SeatLemmas.{lag_none, stands_now}
 use Rattle.channel_sim.proofs.VehicleLemmas.{vehicle_lag_none, vehicle_stands_now}
@@ -61,7 +61,7 @@ calls_found tick (x ∷ xs) (k ∷ ks) h =
       calls_found tick xs ks h.1,
     )
 
-pub now_stands : (kept : kept_world.World) (w : World) → WorldStandsFor kept w → StandsNow kept w
+pub now_stands : (kept : kept_channel.Channel) (w : World) → ChannelStandsFor kept w → StandsNow kept w
 now_stands kept w h =
     let passed : kept.passed ≡ kept.tick = h.passed in
     record {
@@ -76,7 +76,7 @@ now_stands kept w h =
       tidy = h.tidy;
     }
 
-pub stands_then : (kept : kept_world.World) (w : World) → StandsNow kept w → WorldStandsFor kept w
+pub stands_then : (kept : kept_channel.Channel) (w : World) → StandsNow kept w → ChannelStandsFor kept w
 stands_then kept w s =
     let low : kept.tick ≤ kept.passed = s.from in
     let high : kept.passed ≤ kept.tick = s.passed in
@@ -92,7 +92,7 @@ stands_then kept w s =
     }
 
 -- a flow is set
-pub flow_stands : (b : Bool) (d : ℕ) (kept moved : kept_world.World) (w : World) → StandsNow kept w → moved ≡ (if b then record kept { up_flow = d } else record kept { down_flow = d }) → ((step w (event.Flow b d)).entries ≡ []) × StandsNow moved (step w (event.Flow b d)).world
+pub flow_stands : (b : Bool) (d : ℕ) (kept moved : kept_channel.Channel) (w : World) → StandsNow kept w → moved ≡ (if b then record kept { up_flow = d } else record kept { down_flow = d }) → ((does_turn (turn.Flow b d) w).entries ≡ []) × StandsNow moved (does_turn (turn.Flow b d) w).world
 flow_stands true d kept moved w s same =
     subst (λ x. ((quiet_step w).entries ≡ []) × StandsNow x (record w { up_flow = d })) (sym same) (
       refl,

@@ -2,7 +2,7 @@
 use Rattle.std.proofs.Common.{◌≡◌, ℕ, zero, suc, ◌<◌, ◌≤◌, List, [], ◌∷◌, length, get_or, take, drop, map, refl, arith}
 use Rattle.std.specs.List.{AllByRecursion}
 use Rattle.channel_sim.specs.declared.sends.SmallSent.{SmallSent}
-use Rattle.channel_sim.specs.inner.Sends.{AreFrom}
+use Rattle.channel_sim.specs.Tidy.{AreFrom}
 
 abbrev pub ticks : List SmallSent → List ℕ
 ticks fs = map (λ s. s.tick) fs

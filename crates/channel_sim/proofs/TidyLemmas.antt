@@ -15,9 +15,8 @@ use Rattle.channel_sim.specs.declared.calls.Call as kept_call
 use Rattle.channel_sim.specs.World.{Call, is_number, with_legs, carries}
 use Rattle.channel_sim.specs.inner.Acts.{OtherHasLeg}
 use Rattle.channel_sim.specs.inner.Lag.{CallsLag}
-use Rattle.channel_sim.specs.inner.Places.{AreAbove, place_of}
-use Rattle.channel_sim.specs.inner.Sends.{AreFrom, ticks_of}
-use Rattle.channel_sim.specs.inner.Tidy.{HasLeg, InTime, CallInTime, numbers_of}
+use Rattle.channel_sim.specs.inner.Places.{place_of}
+use Rattle.channel_sim.specs.Tidy.{AreAbove, AreFrom, ticks_of, HasLeg, InTime, CallInTime, numbers_of}
 use Rattle.channel_sim.proofs.CallsLemmas.{seat_there}
 use Rattle.channel_sim.proofs.PlaceLemmas.{next_place-some, next_place-none, place_first, place_behind, above_nowhere, above_less}
 

@@ -8,11 +8,11 @@ use Rattle.ivs_machine.specs.IvsStands.{IvsStandsFor}
 use Rattle.ivs_machine.specs.Vehicle.{Vehicle, vehicle_call, Phase, Idle, Standby, Arming, Dialling, Pausing, Seeking, InCall, LeftIdle, LeftStandby}
 use Rattle.ivs_machine.specs.VehicleKept.{IsKept, IsKeptIn}
 use Rattle.ivs_machine.specs.VehicleRows.{aged, aged_in, due_of, deadlines}
-use Rattle.channel_sim.specs.declared.world.World as kept_world
+use Rattle.channel_sim.specs.declared.channel.Channel as kept_channel
 use Rattle.channel_sim.specs.World.{Call, World, is_number}
 use Rattle.channel_sim.specs.inner.Acts.{OtherHasLeg, IsReady}
 use Rattle.channel_sim.specs.inner.Lag.{VehicleLags, StandsAt}
-use Rattle.channel_sim.specs.inner.Tidy.{HasLeg}
+use Rattle.channel_sim.specs.Tidy.{HasLeg}
 use Rattle.channel_sim.proofs.Jump.{call_stays}
 use Rattle.channel_sim.proofs.SeatLemmas.{soonest_later}
 
@@ -69,7 +69,7 @@ legs_others was now (k ∷ ks) h = (one, legs_others was now ks h.1)
         ap (λ z. is_number k.number now || z) session ∙ or_true (is_number k.number now)
 
 -- a vehicle that doesn't lag did this
-pub vehicle_ready : (ahead : ℕ) (floor : ℕ) (clock : ℕ → ℕ) (kept : kept_world.World) (w : World) (new : Ivs) (v : Vehicle) (call : Option ℕ)
+pub vehicle_ready : (ahead : ℕ) (floor : ℕ) (clock : ℕ → ℕ) (kept : kept_channel.Channel) (w : World) (new : Ivs) (v : Vehicle) (call : Option ℕ)
     → StandsAt ahead floor clock kept w
     → ahead ≡ kept.passed
     → IvsStandsFor new v
@@ -91,7 +91,7 @@ vehicle_ready ahead floor clock kept w new v call s caught stands e =
       frames = s.tidy.frames;
     }
 
-pub vehicle_is : (ahead : ℕ) (floor : ℕ) (clock : ℕ → ℕ) (kept : kept_world.World) (w : World) → StandsAt ahead floor clock kept w → ahead ≡ kept.passed → IvsStandsFor kept.vehicle w.vehicle
+pub vehicle_is : (ahead : ℕ) (floor : ℕ) (clock : ℕ → ℕ) (kept : kept_channel.Channel) (w : World) → StandsAt ahead floor clock kept w → ahead ≡ kept.passed → IvsStandsFor kept.vehicle w.vehicle
 vehicle_is ahead floor clock kept w s caught = vehicle_lag_none (ahead - kept.passed) kept.vehicle w.vehicle (omega arith) s.vehicle
 
 -- the call of a vehicle that lags is that of the model's

@@ -10,9 +10,10 @@ use Rattle.psap_machine.specs.declared.session.Session.{Session}
 use Rattle.psap_machine.specs.Point.{Point}
 use Rattle.psap_machine.specs.SessionStands.{SessionStandsFor}
 use Rattle.channel_sim.specs.declared.calls.Call as kept_call
+use Rattle.channel_sim.specs.declared.channel.Channel as kept_channel
 use Rattle.channel_sim.specs.declared.world.World as kept_world
 use Rattle.channel_sim.specs.World.{Call, World, Step, left_by}
-use Rattle.channel_sim.specs.inner.Tidy.{IsTidy}
+use Rattle.channel_sim.specs.Tidy.{IsTidy}
 
 -- there is a session on both sides, and it stands for the other, or there is none on either
 abbrev pub FoundStandsFor : Option Session → Option Point → Type 0
@@ -36,7 +37,8 @@ CallsStandFor tick [] (k ∷ ks) = ⊥
 CallsStandFor tick (x ∷ xs) [] = ⊥
 CallsStandFor tick (x ∷ xs) (k ∷ ks) = CallStandsFor tick x k × CallsStandFor tick xs ks
 
-pub record WorldStandsFor (kept : kept_world.World) (w : World) : Type 0 where
+-- What is kept of the world is the world: all but the room that is used again.
+pub record ChannelStandsFor (kept : kept_channel.Channel) (w : World) : Type 0 where
   pub tick : w.tick ≡ kept.tick
   pub drawn : w.drawn ≡ kept.drawn
   pub up_flow : w.up_flow ≡ kept.up_flow
@@ -46,6 +48,9 @@ pub record WorldStandsFor (kept : kept_world.World) (w : World) : Type 0 where
   pub calls : CallsStandFor kept.tick kept.calls.items w.calls
   -- what every world of the definitions keeps
   pub tidy : IsTidy w
+
+abbrev pub WorldStandsFor : kept_world.World → World → Type 0
+WorldStandsFor kept w = ChannelStandsFor kept.channel w
 
 -- lines that may draw a call number
 abbrev pub NeedsCall : Event → Type 0
@@ -60,11 +65,11 @@ TicksIn _ Fits = Unit {0}
 
 -- the last call number drawn, as it is kept
 abbrev pub calls_drawn : kept_world.World → ℕ
-calls_drawn kept = kept.drawn
+calls_drawn kept = kept.channel.drawn
 
 -- the ticks that elapsed so far, as they are kept
 abbrev pub ticks_reached : kept_world.World → ℕ
-ticks_reached kept = kept.tick
+ticks_reached kept = kept.channel.tick
 
 -- What a step came to. Done, the listener grew by exactly the step's entries and the world stands for the one behind
 -- the step; failed, the listener is partly of these entries.
@@ -72,3 +77,14 @@ abbrev pub CameTo :
     {Fault : Type 0} → (Grew Partly : List Entry → Type 0) → Result kept_world.World Fault → Step → Type 0
 CameTo Grew Partly result s =
     MatchResult result (λ kept. Grew s.entries × WorldStandsFor kept s.world) (λ _. Partly s.entries)
+
+-- The same of a world in place.
+abbrev pub CameInPlace :
+    {Done Fault : Type 0}
+    → (Grew Partly : List Entry → Type 0)
+    → Result Done Fault
+    → kept_world.World
+    → Step
+    → Type 0
+CameInPlace Grew Partly result kept s =
+    MatchResult result (λ _. Grew s.entries × WorldStandsFor kept s.world) (λ _. Partly s.entries)

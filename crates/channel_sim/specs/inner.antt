@@ -5,4 +5,4 @@ pub mod Passes
 pub mod Places
 pub mod Quiet
 pub mod Sends
-pub mod Tidy
+pub mod Turns

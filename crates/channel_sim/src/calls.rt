@@ -9,11 +9,10 @@ ghost use Rattle.psap_machine.specs.SessionStands.{SessionStandsFor};
 ghost use Rattle.trace_text.specs.History.{told};
 ghost use Rattle.channel_sim.specs.Lines as lines;
 ghost use Rattle.channel_sim.specs.World as model;
-ghost use Rattle.channel_sim.specs.inner.Acts.{pushed, CallDid, SessionDid, IsCaught, AreSameBut, OtherHasLeg, due_by, due_of, sent_way, items_in};
+ghost use Rattle.channel_sim.specs.inner.Acts.{pushed, CallDid, SessionDid, IsCaught, AreSameBut, OtherHasLeg, due_by, due_of, sent_way};
 ghost use Rattle.channel_sim.specs.inner.Lag.{SessionLags, CallLags, CallsLag};
-ghost use Rattle.channel_sim.specs.inner.Places.{AreAbove, place_of};
-ghost use Rattle.channel_sim.specs.inner.Sends.{AreFrom, ticks_of};
-ghost use Rattle.channel_sim.specs.inner.Tidy.{CallInTime, numbers_of};
+ghost use Rattle.channel_sim.specs.inner.Places.{place_of};
+ghost use Rattle.channel_sim.specs.Tidy.{AreAbove, AreFrom, ticks_of, CallInTime, numbers_of};
 ghost use Rattle.channel_sim.specs.inner.Passes.{once_if};
 
 use crate::sends::Sends;
@@ -198,43 +197,57 @@ pub(crate) fn admit(calls: &mut Vec<Call>, number: u32, session: Session)
     }
 }
 
-/// The session of a call hears this; one that is over is gone. `None` where there is none.
+/// The session of a call hears this, and one that is over is gone: whether it is there. Its items stand in `items`.
 pub(crate) fn hear_session(
     calls: &mut Vec<Call>,
     number: u32,
     event: &PointEvent<'_>,
-) -> Option<Items>
-    ensures variant { (floor : ℕ) (clock : ℕ → ℕ) (ks : List model.Call) → CallsLag floor clock calls.old.items ks →
-        AreAbove 0 (numbers_of ks) → is_some result ≡ is_some (model.session_of number ks) }
+    items: &mut Items,
+) -> bool
+    ensures variant { (floor : ℕ) (clock : ℕ → ℕ) (ks : List model.Call) →
+        CallsLag floor clock calls.old.items ks → AreAbove 0 (numbers_of ks) →
+        result ≡ is_some (model.session_of number ks) }
     ensures did { (floor : ℕ) (clock : ℕ → ℕ) (ks : List model.Call) → CallsLag floor clock calls.old.items ks →
         AreAbove 0 (numbers_of ks) → IsCaught clock number calls.old.items →
-        SessionDid floor clock result calls.new.items number (λ s. point.point_row s (point.heard event.now)) ks }
+        SessionDid floor clock result items.new.items calls.new.items number
+        (λ s. point.point_row s (point.heard event.now)) ks }
     ensures ended { (floor : ℕ) (clock : ℕ → ℕ) (ks : List model.Call) → CallsLag floor clock calls.old.items ks →
         AreAbove 0 (numbers_of ks) → event.now ≡ PointEvent.Ended Why.Release →
-        SessionDid floor clock result calls.new.items number (λ s. point.point_row s (point.Ended Why.Release)) ks }
+        SessionDid floor clock result items.new.items calls.new.items number
+        (λ s. point.point_row s (point.Ended Why.Release)) ks }
 {
-    let i = find(calls, number)?;
-    hear_call(&mut calls[i], event)
+    match find(calls, number) {
+        Some(i) => hear_call(&mut calls[i], event, items),
+        None => {
+            items.clear();
+            false
+        }
+    }
 }
 
-/// The session of this call hears this; one that is over is gone. `None` where there is none.
-fn hear_call(call: &mut Call, event: &PointEvent<'_>) -> Option<Items>
+/// The session of this call hears this, and one that is over is gone: whether it is there. Its items stand in `items`.
+fn hear_call(call: &mut Call, event: &PointEvent<'_>, items: &mut Items) -> bool
     ensures same { call.new ≡ record call.old { session = call.new.session } }
-    ensures variant { is_some result ≡ is_some call.old.session }
-    ensures did { (floor : ℕ) (clock : ℕ) (k : model.Call) → CallLags floor clock call.old k → call.old.passed ≡ clock →
-        CallDid floor clock result call.new k (λ s. point.point_row s (point.heard event.now)) }
-    ensures ended { (floor : ℕ) (clock : ℕ) (k : model.Call) → CallLags floor clock call.old k → event.now ≡ PointEvent.Ended Why.Release →
-        CallDid floor clock result call.new k (λ s. point.point_row s (point.Ended Why.Release)) }
+    ensures variant { result ≡ is_some call.old.session }
+    ensures did { (floor : ℕ) (clock : ℕ) (k : model.Call) → CallLags floor clock call.old k →
+        call.old.passed ≡ clock → CallDid floor clock result items.new.items call.new k
+        (λ s. point.point_row s (point.heard event.now)) }
+    ensures ended { (floor : ℕ) (clock : ℕ) (k : model.Call) → CallLags floor clock call.old k →
+        event.now ≡ PointEvent.Ended Why.Release → CallDid floor clock result items.new.items call.new k
+        (λ s. point.point_row s (point.Ended Why.Release)) }
 {
     match &mut call.session {
         Some(session) => {
-            let items = session.hear(event);
+            session.hear_into(event, items);
             if session.over() {
                 call.session = None;
             }
-            Some(items)
+            true
         }
-        None => None,
+        None => {
+            items.clear();
+            false
+        }
     }
 }
 
@@ -283,47 +296,68 @@ pub(crate) fn catch_up<L: Ledger>(call: &mut Call, tick: u64, moments: &mut Step
     call.passed = tick;
 }
 
-/// Passes a call's session up to this tick, if it does something at it; one that is over is gone. `None` where it
-/// does nothing at this tick.
-pub(crate) fn act_at<L: Ledger>(call: &mut Call, tick: u64, moments: &mut Steps<L>) -> Option<Items>
+/// Passes a call's session up to this tick, if it does something at it, and one that is over is gone: whether it did.
+/// Its items stand in `items`.
+pub(crate) fn act_at<L: Ledger>(
+    call: &mut Call,
+    tick: u64,
+    items: &mut Items,
+    moments: &mut Steps<L>,
+) -> bool
     ensures did { (floor before : ℕ) (k : model.Call) → CallLags floor before call.old k → before + 1 ≡ tick →
-        CallDid floor tick result call.new k point.unit_row }
+        CallDid floor tick result items.new.items call.new k point.unit_row }
+    ensures none { result ≡ false → items.new.items ≡ [] }
     ensures same { call.new ≡ record call.old { session = call.new.session; passed = call.new.passed } }
     ensures passes { (floor before : ℕ) (k : model.Call) → CallLags floor before call.old k →
-        moments.new ≤ moments.old + length (items_in result) }
+        moments.new ≤ moments.old + length items.new.items }
 {
     match &mut call.session {
         Some(session) => match due_at(session, tick.saturating_sub(call.passed)) {
             Some(due) => {
-                let items = session.pass(due, moments);
+                session.pass_into(due, moments, items);
                 if session.over() {
                     call.session = None;
                 }
                 call.passed = tick;
-                Some(items)
+                true
             }
-            None => None,
+            None => {
+                items.clear();
+                false
+            }
         },
-        None => None,
+        None => {
+            items.clear();
+            false
+        }
     }
 }
 
-/// Passes the session of a call up to this tick, if it does something at it; one that is over is gone. `None` where it
-/// does nothing at this tick, or isn't there.
+/// Passes the session of a call up to this tick, if it is there and does something at it, and one that is over is
+/// gone: whether it did. Its items stand in `items`.
 pub(crate) fn act_session<L: Ledger>(
     calls: &mut Vec<Call>,
     number: u32,
     tick: u64,
+    items: &mut Items,
     moments: &mut Steps<L>,
-) -> Option<Items>
-    ensures did { (floor : ℕ) (before after : ℕ → ℕ) (ks : List model.Call) → CallsLag floor before calls.old.items ks →
-        AreAbove 0 (numbers_of ks) → before number + 1 ≡ tick → after number ≡ tick → AreSameBut number before after →
-        SessionDid floor after result calls.new.items number point.unit_row ks }
-    ensures passes { (floor : ℕ) (before : ℕ → ℕ) (ks : List model.Call) → CallsLag floor before calls.old.items ks →
-        AreAbove 0 (numbers_of ks) → moments.new ≤ moments.old + length (items_in result) }
+) -> bool
+    ensures did { (floor : ℕ) (before after : ℕ → ℕ) (ks : List model.Call) →
+        CallsLag floor before calls.old.items ks → AreAbove 0 (numbers_of ks) → before number + 1 ≡ tick →
+        after number ≡ tick → AreSameBut number before after →
+        SessionDid floor after result items.new.items calls.new.items number point.unit_row ks }
+    ensures none { result ≡ false → items.new.items ≡ [] }
+    ensures passes { (floor : ℕ) (before : ℕ → ℕ) (ks : List model.Call) →
+        CallsLag floor before calls.old.items ks → AreAbove 0 (numbers_of ks) →
+        moments.new ≤ moments.old + length items.new.items }
 {
-    let i = find(calls, number)?;
-    act_at(&mut calls[i], tick, moments)
+    match find(calls, number) {
+        Some(i) => act_at(&mut calls[i], tick, items, moments),
+        None => {
+            items.clear();
+            false
+        }
+    }
 }
 
 /// Passes the session of a call up to this tick, up to which it does nothing.
@@ -423,23 +457,34 @@ fn add_all_due(due: &mut Vec<Due>, calls: &[Call], up: bool, tick: u64) -> Resul
     Ok(())
 }
 
-/// The frames of these calls that a flow up, or down, hands over now.
+/// The frames of these calls that a flow up, or down, hands over now, in place of what stood there.
 pub(crate) fn all_due(
     calls: &[Call],
-    alloc: Global,
     up: bool,
     flow: u32,
     now: u64,
-) -> Result<Vec<Due>, AllocError>
+    due: &mut Vec<Due>,
+) -> Result<(), AllocError>
     ensures { (floor : ℕ) (clock : ℕ → ℕ) (ks : List model.Call) → CallsLag floor clock calls.now ks →
         AllByRecursion (CallInTime now) ks →
-        IfOk result (λ due. map due_of due.items ≡ model.due_in (sent_way up) flow now ks) }
+        OnOk result (map due_of due.new.items ≡ model.due_in (sent_way up) flow now ks) }
 {
-    let mut due = Vec::new(alloc);
+    due.clear();
     let delay = u64::from(flow);
     if flow == 0 || now < delay {
-        return Ok(due);
+        return Ok(());
     }
-    add_all_due(&mut due, calls, up, now - delay)?;
-    Ok(due)
+    add_all_due(due, calls, up, now - delay)?;
+    Ok(())
+}
+
+/// The numbers of these calls, in order, in place of what stood there.
+pub(crate) fn list_numbers(calls: &[Call], numbers: &mut Vec<u32>) -> Result<(), AllocError>
+    ensures { OnOk result (numbers.new.items ≡ map (λ k. k.number) calls.now) }
+{
+    numbers.clear();
+    for call in calls {
+        numbers.push(call.number)?;
+    }
+    Ok(())
 }

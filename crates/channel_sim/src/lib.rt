@@ -2,13 +2,16 @@
 #![tactic(auto)]
 
 mod calls;
+mod channel;
 mod consequence;
 mod fault;
 mod laws;
+mod room;
 mod sends;
 mod telling;
 #[cfg(test)]
 mod tests;
+mod turn;
 mod world;
 
 pub use fault::SimFault;

@@ -2,7 +2,8 @@
 
 ghost use Rattle.std.specs.Prelude.{◌≡◌, ◌≤◌, ◌<◌, ◌++◌, ◌∷◌, ◌-◌, ℕ, List, [], true, OnOk, IfOk, length, map, get_or, slice_get};
 ghost use Rattle.std.specs.Option.{option_map};
-ghost use Rattle.channel_sim.specs.inner.Sends.{full, HasSet, ticks_of, AreFrom, IsFirstFrom};
+ghost use Rattle.channel_sim.specs.inner.Sends.{full, HasSet, IsFirstFrom};
+ghost use Rattle.channel_sim.specs.Tidy.{ticks_of, AreFrom};
 
 use link_frames::{Answer, Frame, OCTETS, Request};
 use std::alloc::{AllocError, Global};

@@ -3,7 +3,6 @@
 use Rattle.std.specs.Prelude.{◌≡◌, ◌≤◌, ◌-◌, ℕ, Bool, true, false, List, [], ◌∷◌, ◌++◌, Option, Some, None}
 use Rattle.std.specs.List.{AllByRecursion}
 use Rattle.std.specs.Option.{is_some}
-use Rattle.arrayvec.specs.ArrayVec.{ArrayVec}
 use Rattle.link_frames.specs.declared.frame.End.{End}
 use Rattle.link_frames.specs.declared.frame.End.TheVariants as «end»
 use Rattle.link_frames.specs.declared.frame.Frame.{Frame}
@@ -21,20 +20,15 @@ use Rattle.channel_sim.specs.declared.calls.Call as kept_call
 use Rattle.channel_sim.specs.declared.calls.Due as kept_due
 use Rattle.channel_sim.specs.declared.consequence.Consequence.{Consequence}
 use Rattle.channel_sim.specs.declared.consequence.Consequence.TheVariants as consequence
-use Rattle.channel_sim.specs.declared.world.World as kept_world
-use Rattle.channel_sim.specs.World.{Act, Due, Session, InCall, Call, World, is_number, left_by, seated, session_of}
+use Rattle.channel_sim.specs.declared.channel.Channel as kept_channel
+use Rattle.channel_sim.specs.World.{Act, Due, Session, InCall, Call, World, Step, flows_down, flows_up, is_number, left_by, seated, session_of}
 use Rattle.channel_sim.specs.inner.Lag.{VehicleLags, CallLags, CallsLag}
-use Rattle.channel_sim.specs.inner.Places.{AreAbove}
-use Rattle.channel_sim.specs.inner.Tidy.{HasLeg, CallInTime, numbers_of}
+use Rattle.channel_sim.specs.Tidy.{AreAbove, HasLeg, CallInTime, numbers_of}
 
 -- the call, in which this end sent one frame more
 abbrev pub pushed : End → Sent → kept_call.Call → kept_call.Call
 pushed «end».Vehicle sent k = record k { up = k.up ++ sent ∷ [] }
 pushed «end».Point sent k = record k { down = k.down ++ sent ∷ [] }
-
-abbrev pub items_in : Option (ArrayVec Note) → List Note
-items_in None = []
-items_in (Some items) = items.items
 
 -- what a session gives, if it is there, and what stays of it
 abbrev pub seat_items : (Point → Row Point) → Option Point → List Note
@@ -47,21 +41,21 @@ seat_after row (Some s) = left_by (row s).new
 
 -- the session of this call, if it is there, did this
 pub record CallDid
-    (floor clock : ℕ) (result : Option (ArrayVec Note)) (new : kept_call.Call) (k : Call) (row : Point → Row Point)
+    (floor clock : ℕ) (done : Bool) (given : List Note) (new : kept_call.Call) (k : Call) (row : Point → Row Point)
     : Type 0 where
-  pub items : items_in result ≡ seat_items row k.session
-  pub acts : is_some result ≡ true → is_some k.session ≡ true
-  pub rests : result ≡ None → is_some (seat_after row k.session) ≡ is_some k.session
+  pub items : given ≡ seat_items row k.session
+  pub acts : done ≡ true → is_some k.session ≡ true
+  pub rests : done ≡ false → is_some (seat_after row k.session) ≡ is_some k.session
   pub stands : CallLags floor clock new (record k { session = seat_after row k.session })
 
 -- the session of the call of this number, if it is there, did this
 pub record SessionDid
-    (floor : ℕ) (clock : ℕ → ℕ) (result : Option (ArrayVec Note)) (new : List kept_call.Call) (c : ℕ)
+    (floor : ℕ) (clock : ℕ → ℕ) (done : Bool) (given : List Note) (new : List kept_call.Call) (c : ℕ)
     (row : Point → Row Point) (ks : List Call)
     : Type 0 where
-  pub items : items_in result ≡ seat_items row (session_of c ks)
-  pub acts : is_some result ≡ true → is_some (session_of c ks) ≡ true
-  pub rests : result ≡ None → is_some (seat_after row (session_of c ks)) ≡ is_some (session_of c ks)
+  pub items : given ≡ seat_items row (session_of c ks)
+  pub acts : done ≡ true → is_some (session_of c ks) ≡ true
+  pub rests : done ≡ false → is_some (seat_after row (session_of c ks)) ≡ is_some (session_of c ks)
   pub stands : CallsLag floor clock new (seated c (seat_after row (session_of c ks)) ks)
 
 -- the call of this number was passed up to its clock
@@ -75,7 +69,7 @@ OtherHasLeg in_call concerned k = is_number k.number concerned ≡ false → Has
 -- An end did something: what is kept stands for this world with this vehicle and these calls, before it is told and
 -- posted. Only the call that is concerned may have lost a leg.
 pub record IsReady
-    (ahead floor : ℕ) (clock : ℕ → ℕ) (kept : kept_world.World) (w : World) (v : Vehicle) (ks : List Call)
+    (ahead floor : ℕ) (clock : ℕ → ℕ) (kept : kept_channel.Channel) (w : World) (v : Vehicle) (ks : List Call)
     (concerned : Option ℕ)
     : Type 0 where
   pub tick : w.tick ≡ kept.tick
@@ -120,3 +114,8 @@ due_by c (Some f) = record { call = c; frame = f } ∷ []
 abbrev pub sent_way : (up : Bool) → Call → List Sent
 sent_way true k = k.up
 sent_way false k = k.down
+
+-- what a flow hands over, up or down
+abbrev pub flows_by : (up : Bool) → World → Step
+flows_by true w = flows_up w
+flows_by false w = flows_down w

@@ -13,9 +13,9 @@ use Rattle.psap_machine.specs.Point.{Point}
 use Rattle.psap_machine.specs.PointRows as point
 use Rattle.psap_machine.specs.SessionStands.{SessionStandsFor}
 use Rattle.channel_sim.specs.declared.calls.Call as kept_call
-use Rattle.channel_sim.specs.declared.world.World as kept_world
+use Rattle.channel_sim.specs.declared.channel.Channel as kept_channel
 use Rattle.channel_sim.specs.World.{Call, World, Step, left_by}
-use Rattle.channel_sim.specs.inner.Tidy.{IsTidy}
+use Rattle.channel_sim.specs.Tidy.{IsTidy}
 
 -- the session that is kept is so many ticks behind this one, which did nothing in them and is not over
 pub record SessionLags (n : ℕ) (kept : Session) (s : Point) : Type 0 where
@@ -52,7 +52,7 @@ CallsLag floor clock [] (k ∷ ks) = ⊥
 CallsLag floor clock (x ∷ xs) [] = ⊥
 CallsLag floor clock (x ∷ xs) (k ∷ ks) = CallLags floor (clock k.number) x k × CallsLag floor clock xs ks
 
-pub record StandsAt (ahead floor : ℕ) (clock : ℕ → ℕ) (kept : kept_world.World) (w : World) : Type 0 where
+pub record StandsAt (ahead floor : ℕ) (clock : ℕ → ℕ) (kept : kept_channel.Channel) (w : World) : Type 0 where
   pub tick : w.tick ≡ kept.tick
   pub drawn : w.drawn ≡ kept.drawn
   pub up_flow : w.up_flow ≡ kept.up_flow
@@ -64,7 +64,7 @@ pub record StandsAt (ahead floor : ℕ) (clock : ℕ → ℕ) (kept : kept_world
   pub tidy : IsTidy w
 
 -- Between lines no end lags.
-abbrev pub StandsNow : kept_world.World → World → Type 0
+abbrev pub StandsNow : kept_channel.Channel → World → Type 0
 StandsNow kept w = StandsAt kept.tick kept.tick (λ c. kept.tick) kept w
 
 -- What a part of a step came to, with the ends passed up to these clocks.
@@ -73,7 +73,7 @@ abbrev pub Came :
     → (Grew Partly : List Entry → Type 0)
     → Result (Unit {0}) Fault
     → (ahead floor : ℕ) (clock : ℕ → ℕ)
-    → kept_world.World
+    → kept_channel.Channel
     → Step
     → Type 0
 Came Grew Partly result ahead floor clock kept s =
@@ -84,7 +84,7 @@ abbrev pub CameNow :
     {Fault : Type 0}
     → (Grew Partly : List Entry → Type 0)
     → Result (Unit {0}) Fault
-    → kept_world.World
+    → kept_channel.Channel
     → Step
     → Type 0
 CameNow Grew Partly result kept s =

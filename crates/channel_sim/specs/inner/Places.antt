@@ -1,11 +1,6 @@
 -- The place of a number among others, and a list with one element changed. Cited by the private functions on the calls
 -- of a `World` alone.
-use Rattle.std.specs.Prelude.{ℕ, zero, suc, ◌<◌, ◌==◌, List, [], ◌∷◌, Option, Some, None, if◌then◌else◌}
-
--- each is above the one before it
-abbrev pub AreAbove : ℕ → List ℕ → Type 0
-AreAbove n [] = Unit {0}
-AreAbove n (x ∷ xs) = (n < x) × AreAbove x xs
+use Rattle.std.specs.Prelude.{ℕ, zero, suc, ◌==◌, List, [], ◌∷◌, Option, Some, None, if◌then◌else◌}
 
 -- the place one further on
 abbrev pub next_place : Option ℕ → Option ℕ

@@ -1,7 +1,7 @@
 -- Which frames the small frames of a `Sends` stand for: a set is kept aside, and its place is in the frame. And where
 -- among ticks that rise those from a tick on begin. This project's profile. Cited by the model of `Sends` and by its
 -- private functions.
-use Rattle.std.specs.Prelude.{ℕ, ◌<◌, ◌≤◌, List, [], ◌∷◌, get_or, take, drop, map}
+use Rattle.std.specs.Prelude.{ℕ, ◌<◌, ◌≤◌, List, [], get_or, take, drop}
 use Rattle.std.specs.List.{AllByRecursion}
 use Rattle.link_frames.specs.declared.frame.Frame.{Frame}
 use Rattle.link_frames.specs.declared.frame.Frame.TheVariants as frame
@@ -29,15 +29,6 @@ HasSet count _ = Unit {0}
 
 abbrev pub HaveSets : ℕ → List SmallSent → Type 0
 HaveSets count frames = AllByRecursion (λ s. HasSet count s.frame) frames
-
--- the ticks at which frames were sent
-abbrev pub ticks_of : List Sent → List ℕ
-ticks_of sends = map (λ s. s.tick) sends
-
--- none of these is lower than the one before it
-abbrev pub AreFrom : ℕ → List ℕ → Type 0
-AreFrom n [] = Unit {0}
-AreFrom n (x ∷ xs) = (n ≤ x) × AreFrom x xs
 
 -- in front of a place stand those below a tick, and from it on those that are not
 pub record IsFirstFrom (tick place : ℕ) (ticks : List ℕ) : Type 0 where

@@ -2,7 +2,7 @@ use Rattle.std.proofs.Common.{◌+◌, ◌++◌, ◌<◌, ◌≤◌, suc, length
 use Rattle.channel_sim.specs.World.{due_in, due_frames}
 use Rattle.channel_sim.specs.inner.Acts.{due_of, sent_way}
 use Rattle.channel_sim.specs.inner.Lag.{CallLags}
-use Rattle.channel_sim.specs.inner.Sends.{AreFrom, ticks_of}
+use Rattle.channel_sim.specs.Tidy.{AreFrom, ticks_of}
 use Rattle.channel_sim.proofs.ChangeLemmas.{lag_at, same_lengths}
 use Rattle.channel_sim.proofs.DueLemmas.{due_call, way_kept, way_rises}
 use Rattle.channel_sim.proofs.StepLemmas.{take_all}

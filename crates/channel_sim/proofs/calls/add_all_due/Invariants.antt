@@ -3,7 +3,7 @@ use Rattle.std.specs.List.{AllByRecursion}
 use Rattle.channel_sim.specs.World.{Call, due_in}
 use Rattle.channel_sim.specs.inner.Acts.{due_of, sent_way}
 use Rattle.channel_sim.specs.inner.Lag.{CallsLag}
-use Rattle.channel_sim.specs.inner.Tidy.{CallInTime}
+use Rattle.channel_sim.specs.Tidy.{CallInTime}
 use Rattle.channel_sim.proofs.calls.add_all_due.Given as goal
 
 -- the frames of the calls so far stand behind those that were there

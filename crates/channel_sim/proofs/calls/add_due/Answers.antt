@@ -2,7 +2,7 @@ use Rattle.std.proofs.Common.{◌≡◌, ◌≤◌, ◌<◌, ◌+◌, ◌++◌, 
 use Rattle.std.specs.List.{AllByRecursion}
 use Rattle.channel_sim.specs.World.{due_frames}
 use Rattle.channel_sim.specs.inner.Acts.{due_by, due_of}
-use Rattle.channel_sim.specs.inner.Sends.{ticks_of}
+use Rattle.channel_sim.specs.Tidy.{ticks_of}
 use Rattle.channel_sim.proofs.DueLemmas.{none_before, take_ticks, due_more, due_enough, tick_there, behind_later, eq_some, ne_some}
 use Rattle.channel_sim.proofs.StepLemmas.{take_all}
 use Rattle.channel_sim.proofs.VehicleLemmas.{not_is_true, not_is_false}

@@ -1,7 +1,7 @@
 use Rattle.std.proofs.Common.{◌≡◌, ◌+◌, ◌++◌, ℕ, map, take}
 use Rattle.channel_sim.specs.World.{due_frames}
 use Rattle.channel_sim.specs.inner.Acts.{due_of}
-use Rattle.channel_sim.specs.inner.Sends.{AreFrom, ticks_of}
+use Rattle.channel_sim.specs.Tidy.{AreFrom, ticks_of}
 use Rattle.channel_sim.proofs.calls.add_due.Given as goal
 
 -- the frames so far that were sent at this tick stand behind those that were there

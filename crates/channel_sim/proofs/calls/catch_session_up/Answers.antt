@@ -2,7 +2,8 @@ use Rattle.channel_sim.proofs.BoundLemmas.{call_at}
 use Rattle.channel_sim.specs.inner.Passes.{once_if}
 use Rattle.std.proofs.Common.{ℕ, ◌<◌, length, ap, sym, ◌∙◌, subst, arith, ◌+◌, ◌≤◌}
 use Rattle.channel_sim.specs.inner.Lag.{CallLags}
-use Rattle.channel_sim.specs.inner.Places.{AreAbove, place_of}
+use Rattle.channel_sim.specs.inner.Places.{place_of}
+use Rattle.channel_sim.specs.Tidy.{AreAbove}
 use Rattle.channel_sim.proofs.CallsLemmas.{found_at, none_of, number_found, same_numbers}
 use Rattle.channel_sim.proofs.ChangeLemmas.{set_at, caught_set, nowhere_caught}
 use Rattle.channel_sim.proofs.calls.catch_session_up.Goals as goal

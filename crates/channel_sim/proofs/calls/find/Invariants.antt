@@ -1,6 +1,6 @@
 use Rattle.std.proofs.Common.{◌<◌, ◌≤◌, ◌-◌, length, take, drop}
 use Rattle.std.specs.List.{AllByRecursion}
-use Rattle.channel_sim.specs.inner.Places.{AreAbove}
+use Rattle.channel_sim.specs.Tidy.{AreAbove}
 use Rattle.channel_sim.proofs.PlaceLemmas.{numbers}
 use Rattle.channel_sim.proofs.calls.find.Given as goal
 

@@ -2,7 +2,7 @@ use Rattle.std.proofs.Common.{◌≡◌, ◌+◌, [], ◌∷◌, ◌++◌, take,
 use Rattle.trace_text.specs.History.{told}
 use Rattle.channel_sim.specs.World.{carries}
 use Rattle.channel_sim.specs.inner.Lag.{CallsLag}
-use Rattle.channel_sim.specs.inner.Places.{AreAbove}
+use Rattle.channel_sim.specs.Tidy.{AreAbove}
 use Rattle.channel_sim.proofs.CallsLemmas.{all_carry, carried_numbers, carries_none}
 use Rattle.channel_sim.proofs.TellingLemmas.{told-take_more}
 use Rattle.channel_sim.proofs.calls.post.Goals as goal

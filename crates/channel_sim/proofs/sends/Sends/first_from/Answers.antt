@@ -1,5 +1,6 @@
 use Rattle.std.proofs.Common.{◌≡◌, map, ap, sym, ◌∙◌, subst}
-use Rattle.channel_sim.specs.inner.Sends.{ticks_of, AreFrom, IsFirstFrom}
+use Rattle.channel_sim.specs.inner.Sends.{IsFirstFrom}
+use Rattle.channel_sim.specs.Tidy.{ticks_of, AreFrom}
 use Rattle.channel_sim.proofs.SendsLemmas.{same_ticks}
 use Rattle.channel_sim.proofs.sends.Sends.first_from.Goals as goal
 

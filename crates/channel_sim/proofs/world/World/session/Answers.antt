@@ -9,7 +9,7 @@ use Rattle.channel_sim.proofs.world.World.session.Goals as goal
 pub returns-in_err-i : goal.returns-in_err-i
 returns-in_err-i c =
     λ w h.
-    let kept = c.args.self.now in
+    let kept = c.args.self.now.channel in
     let s = now_stands kept w h in
     let place = found_at kept.tick (λ d. kept.tick) c.args.call c.deref.result.now kept.calls.items w.calls _ c.deref.ensures.value c.in_err-i.ensures.place s.calls s.tidy.numbers in
     subst (λ r. FoundStandsFor (option_copied r) (session_of c.args.call w.calls)) (sym c.from_residual.ensures)
@@ -18,7 +18,7 @@ returns-in_err-i c =
 pub returns : goal.returns
 returns c =
     λ w h.
-    let kept = c.args.self.now in
+    let kept = c.args.self.now.channel in
     let s = now_stands kept w h in
     let place = found_at kept.tick (λ d. kept.tick) c.args.call c.deref.result.now kept.calls.items w.calls _ c.deref.ensures.value c.in_ok-i.ensures.place s.calls s.tidy.numbers in
     subst (λ o. FoundStandsFor o (session_of c.args.call w.calls)) (sym (c.as_ref.ensures.value ∙ ap (λ x. x.session) c.index.ensures))

@@ -1,0 +1,17 @@
+use Rattle.std.proofs.Common.{◌≡◌, true, OnOk, map, sym, subst}
+use Rattle.std.specs.List.{AllByRecursion}
+use Rattle.channel_sim.specs.World.{due_in}
+use Rattle.channel_sim.specs.inner.Acts.{due_of, sent_way}
+use Rattle.channel_sim.specs.inner.Lag.{CallsLag}
+use Rattle.channel_sim.specs.Tidy.{CallInTime}
+use Rattle.channel_sim.proofs.channel.Channel.due_up.Goals as goal
+
+pub returns : goal.returns
+returns c =
+    λ ahead floor w s.
+    let kept = c.args.self.now in
+    let calls = subst (λ xs. CallsLag floor (λ d. ahead) xs w.calls) (sym c.deref.ensures.value) s.calls in
+    let in_time = subst (λ t. AllByRecursion (CallInTime t) w.calls) s.tick s.tidy.frames in
+    let due = c.all_due.ensures floor (λ d. ahead) w.calls calls in_time in
+    subst (λ t. OnOk c.all_due.result (map due_of c.all_due.new.due.items ≡ due_in (sent_way true) w.up_flow t w.calls)) (sym s.tick)
+    (subst (λ f. OnOk c.all_due.result (map due_of c.all_due.new.due.items ≡ due_in (sent_way true) f kept.tick w.calls)) (sym s.up_flow) due)

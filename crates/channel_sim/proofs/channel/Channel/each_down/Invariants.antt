@@ -1,0 +1,19 @@
+use Rattle.channel_sim.specs.inner.Passes.{passes_of}
+use Rattle.std.proofs.Common.{◌≡◌, ℕ, take, map, ◌+◌, ◌≤◌, ◌<◌, ◌^◌}
+use Rattle.channel_sim.specs.World.{World, each, hands_down}
+use Rattle.channel_sim.specs.inner.Acts.{due_of}
+use Rattle.channel_sim.specs.inner.Lag.{StandsAt}
+use Rattle.channel_sim.proofs.channel.Channel.each_down.Given as goal
+
+-- the frames so far were handed over
+abbrev pub invariant-loop-one : goal.invariant-loop-one
+invariant-loop-one g l =
+    record {
+      tick : l.self.tick ≡ l.initial.self.tick;
+      stood : g.H.Listener.faults l.to ≡ g.H.Listener.faults l.initial.to;
+      passes : (ahead floor : ℕ) (w : World) → StandsAt ahead floor (λ c. ahead) l.initial.self w → ahead ≡ l.initial.self.tick → l.initial.self.tick < floor + 2 ^ 32 →
+          l.moments ≤ l.initial.moments + passes_of (each hands_down (take l.one-index (map due_of l.due)) w);
+      came : (ahead floor : ℕ) (w : World) → StandsAt ahead floor (λ c. ahead) l.initial.self w → ahead ≡ l.initial.self.tick →
+          g.H.Listener.grew l.initial.to l.to (each hands_down (take l.one-index (map due_of l.due)) w).entries
+          × StandsAt ahead floor (λ c. ahead) l.self (each hands_down (take l.one-index (map due_of l.due)) w).world;
+    }

@@ -1,0 +1,118 @@
+use Rattle.channel_sim.proofs.BoundLemmas.{passes_more, units_ends, ends_more}
+use Rattle.channel_sim.specs.inner.Passes.{passes_of}
+use Rattle.std.proofs.Common.{◌≡◌, ◌≤◌, ◌+◌, ◌-◌, refl, ap, sym, ◌∙◌, subst, arith, ◌<◌, ◌^◌}
+use Rattle.std.proofs.lemmas.Result.{err_from_is_err_and}
+use Rattle.channel_sim.specs.World.{World, Step, units, and_then, ends}
+use Rattle.channel_sim.specs.inner.Lag.{StandsAt, StandsNow}
+use Rattle.channel_sim.proofs.Jump.{units_add}
+use Rattle.channel_sim.proofs.MomentLemmas.{moment_quiet}
+use Rattle.channel_sim.proofs.channel.Channel.elapses.Goals as goal
+
+pub loop-self-init : goal.loop-self-init
+loop-self-init g c =
+    record {
+      began = omega arith;
+      within = omega arith;
+      stood = refl;
+      passes = λ w s. omega arith;
+      came =
+          λ w s.
+          let kept = c.args.self.now in
+          let none : 0 ≡ kept.tick - kept.tick = omega arith in
+          subst (λ n. g.H.Listener.grew c.args.to.now c.args.to.now (units n w).entries × StandsAt kept.tick kept.tick (λ d. kept.tick) kept (units n w).world) none
+          (g.met.H.Listener.unchanged _, s);
+    }
+
+pub loop-self-preserved : goal.loop-self-preserved
+loop-self-preserved g c =
+    let start = c.args.self.now.tick in
+    let now = c.loop-self.self.tick in
+    let began : start ≤ now = c.loop-self.invariant.began in
+    let within : now ≤ (c.args.self.now.tick + c.from.result) = c.loop-self.invariant.within in
+    record {
+      began = omega (arith, c.moment.ensures.tick, c.max-next.ensures);
+      within = omega (arith, c.moment.ensures.tick, c.max-next.ensures, c.next_moment.ensures.most, c.loop-self-test.true);
+      stood = c.in_ok-moment.ensures.stood ∙ c.loop-self.invariant.stood;
+      passes =
+          λ w s.
+          let so_far = c.loop-self.invariant.came w s in
+          let k = now - start in
+          let front : Step = units k w in
+          let quiet = moment_quiet start now c.next_moment.result c.loop-self.self front.world so_far.1 (λ n low. c.next_moment.ensures.quiet start n front.world so_far.1 low) in
+          let n = quiet.0 in
+          let next : now + n + 1 ≡ c.max-next.result = quiet.1 ∙ sym c.max-next.ensures in
+          let few : c.args.n < 2 ^ 32 = c.ranges.n.fits in
+          let small : c.max-next.result < start + 2 ^ 32 = omega (arith, c.max-next.ensures, c.next_moment.ensures.most, c.loop-self-test.true, c.from.ensures) in
+          let did = c.in_ok-moment.ensures.passes start n front.world so_far.1 next quiet.2 small in
+          let e : c.moment.new.self.tick - start ≡ k + (n + 1) = omega (arith, c.moment.ensures.tick) in
+          let same : units (c.moment.new.self.tick - start) w ≡ and_then front (units (n + 1)) = ap (λ m. units m w) e ∙ units_add k (n + 1) w in
+          subst (λ (z : Step). c.moment.new.moments ≤ c.args.moments.now + passes_of z) (sym same)
+          (passes_more front (units (n + 1)) c.args.moments.now c.loop-self.moments c.moment.new.moments (c.loop-self.invariant.passes w s) did);
+      came =
+          λ w s.
+          let so_far = c.loop-self.invariant.came w s in
+          let k = now - start in
+          let u : World = (units k w).world in
+          let quiet = moment_quiet start now c.next_moment.result c.loop-self.self u so_far.1 (λ n low. c.next_moment.ensures.quiet start n u so_far.1 low) in
+          let n = quiet.0 in
+          let next : now + n + 1 ≡ c.max-next.result = quiet.1 ∙ sym c.max-next.ensures in
+          let did = c.in_ok-moment.ensures.step start n u so_far.1 next quiet.2 in
+          let e : c.moment.new.self.tick - start ≡ k + (n + 1) = omega (arith, c.moment.ensures.tick) in
+          let same : units (c.moment.new.self.tick - start) w ≡ and_then (units k w) (units (n + 1)) = ap (λ m. units m w) e ∙ units_add k (n + 1) w in
+          subst (λ (z : Step). g.H.Listener.grew c.args.to.now c.moment.new.to z.entries × StandsAt c.moment.new.self.tick start (λ d. c.moment.new.self.tick) c.moment.new.self z.world) (sym same) (
+            g.met.H.Listener.twice _ _ _ _ _ so_far.0 did.0,
+            subst (λ t. StandsAt t start (λ d. t) c.moment.new.self (units (n + 1) u).world) (sym c.moment.ensures.tick) did.1,
+          );
+    }
+
+pub returns-in_err-moment-clause-step : goal.returns-in_err-moment-clause-step
+returns-in_err-moment-clause-step g c =
+    λ w s.
+    let failed = err_from_is_err_and c.from_residual.result c.from_residual.ensures.1 in
+    let law = g.met.H.Listener in
+    let start = c.args.self.now.tick in
+    let now = c.loop-self.self.tick in
+    let began : start ≤ now = c.loop-self.invariant.began in
+    let so_far = c.loop-self.invariant.came w s in
+    let k = now - start in
+    let u : World = (units k w).world in
+    let quiet = moment_quiet start now c.next_moment.result c.loop-self.self u so_far.1 (λ n low. c.next_moment.ensures.quiet start n u so_far.1 low) in
+    let n = quiet.0 in
+    let next : now + n + 1 ≡ c.max-next.result = quiet.1 ∙ sym c.max-next.ensures in
+    let part = c.in_err-moment.ensures.step start n u so_far.1 next quiet.2 in
+    let within : c.max-next.result ≤ start + c.from.result = omega (arith, c.max-next.ensures, c.next_moment.ensures.most, c.loop-self-test.true) in
+    let rest = (start + c.from.result) - c.max-next.result in
+    let e : c.args.n ≡ (k + (n + 1)) + rest = omega (arith, c.from.ensures) in
+    let Partly = g.H.Listener.partly c.args.to.now c.moment.new.to in
+    let front : Partly (units (k + (n + 1)) w).entries = subst (λ (z : Step). Partly z.entries) (sym (units_add k (n + 1) w)) (law.then_partly _ _ _ _ _ so_far.0 part) in
+    let whole = subst (λ (z : Step). Partly z.entries) (sym (ap (λ m. units m w) e ∙ units_add (k + (n + 1)) rest w)) (law.longer _ _ _ _ front) in
+    rw failed.1 whole
+
+pub returns-clause-step : goal.returns-clause-step
+returns-clause-step g c =
+    λ w s.
+    let start = c.args.self.now.tick in
+    let now = c.loop-self.self.tick in
+    let began : start ≤ now = c.loop-self.invariant.began in
+    let within : now ≤ start + c.from.result = c.loop-self.invariant.within in
+    let past : start + c.from.result ≤ now = c.loop-self-test.false in
+    let so_far = c.loop-self.invariant.came w s in
+    let e : now - start ≡ c.args.n = omega (arith, c.from.ensures) in
+    subst (λ m. g.H.Listener.grew c.args.to.now c.loop-self.to (units m w).entries × StandsNow c.catch_all_up.new.self (units m w).world) e
+    (so_far.0, c.catch_all_up.ensures.caught start (units (now - start) w).world so_far.1)
+
+pub returns-clause-passes : goal.returns-clause-passes
+returns-clause-passes g c =
+    λ w s.
+    let start = c.args.self.now.tick in
+    let now = c.loop-self.self.tick in
+    let began : start ≤ now = c.loop-self.invariant.began in
+    let within : now ≤ start + c.from.result = c.loop-self.invariant.within in
+    let past : start + c.from.result ≤ now = c.loop-self-test.false in
+    let few : c.args.n < 2 ^ 32 = c.ranges.n.fits in
+    let so_far = c.loop-self.invariant.came w s in
+    let e : now - start ≡ c.args.n = omega (arith, c.from.ensures) in
+    let caught = c.catch_all_up.ensures.passes start (units (now - start) w).world so_far.1 (omega (arith, c.from.ensures)) in
+    let fall = units_ends (now - start) w in
+    subst (λ m. c.catch_all_up.new.moments ≤ c.args.moments.now + (passes_of (units m w) + ends w)) e
+    (ends_more (passes_of (units (now - start) w)) (ends (units (now - start) w).world) (ends w) c.args.moments.now c.loop-self.moments c.catch_all_up.new.moments (c.loop-self.invariant.passes w s) caught fall)

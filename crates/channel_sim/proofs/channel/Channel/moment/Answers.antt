@@ -1,0 +1,92 @@
+use Rattle.channel_sim.proofs.BoundLemmas.{passes_more, then_ok}
+use Rattle.channel_sim.specs.inner.Passes.{passes_of}
+use Rattle.std.proofs.Common.{◌+◌, sym, ◌∙◌, subst, ◌≡◌, ℕ, ◌≤◌, ◌<◌, ◌^◌, OnOk}
+use Rattle.std.proofs.lemmas.Result.{err_from_is_err_and}
+use Rattle.channel_sim.specs.World as model
+use Rattle.channel_sim.specs.inner.Lag.{Came}
+use Rattle.channel_sim.specs.inner.Quiet.{aged_world}
+use Rattle.channel_sim.proofs.ActLemmas.{came_after}
+use Rattle.channel_sim.proofs.MomentLemmas.{jumped, units_jump}
+use Rattle.channel_sim.proofs.channel.Channel.moment.Goals as goal
+
+pub returns-in_err-vehicle_passes-clause-step : goal.returns-in_err-vehicle_passes-clause-step
+returns-in_err-vehicle_passes-clause-step g c =
+    λ floor n w s next quiet.
+    let failed = err_from_is_err_and c.from_residual.result c.from_residual.ensures.1 in
+    let kept = c.args.self.now in
+    let law = g.met.H.Listener in
+    let w1 : model.World = record (aged_world n w) { tick = (aged_world n w).tick + 1 } in
+    let p1 = c.in_err-vehicle_passes.ensures.step floor (kept.tick + n) w1 (jumped floor n c.args.tick kept w s quiet next) next in
+    rw failed.1 (subst (λ (z : model.Step). g.H.Listener.partly c.args.to.now c.vehicle_passes.new.to z.entries) (sym (units_jump floor n kept w s quiet))
+    (law.longer _ _ _ _ (law.longer _ _ _ _ (law.longer _ _ _ _ p1))))
+
+pub returns-in_err-sessions_pass-clause-step : goal.returns-in_err-sessions_pass-clause-step
+returns-in_err-sessions_pass-clause-step g c =
+    λ floor n w s next quiet.
+    let failed = err_from_is_err_and c.from_residual-in_err-sessions_pass.result c.from_residual-in_err-sessions_pass.ensures.1 in
+    let kept = c.args.self.now in
+    let law = g.met.H.Listener in
+    let w1 : model.World = record (aged_world n w) { tick = (aged_world n w).tick + 1 } in
+    let d1 = c.in_ok-vehicle_passes.ensures.step floor (kept.tick + n) w1 (jumped floor n c.args.tick kept w s quiet next) next in
+    let p2 = c.in_err-sessions_pass.ensures.step c.args.tick floor (kept.tick + n) (model.vehicle_passes w1).world d1.1 (sym c.vehicle_passes.ensures.tick) next in
+    rw failed.1 (subst (λ (z : model.Step). g.H.Listener.partly c.args.to.now c.sessions_pass.new.to z.entries) (sym (units_jump floor n kept w s quiet))
+    (law.longer _ _ _ _ (law.longer _ _ _ _ (law.then_partly _ _ _ _ _ d1.0 p2))))
+
+pub returns-in_err-flows-clause-step : goal.returns-in_err-flows-clause-step
+returns-in_err-flows-clause-step g c =
+    λ floor n w s next quiet.
+    let failed = err_from_is_err_and c.from_residual-in_err-flows.result c.from_residual-in_err-flows.ensures.1 in
+    let kept = c.args.self.now in
+    let law = g.met.H.Listener in
+    let w1 : model.World = record (aged_world n w) { tick = (aged_world n w).tick + 1 } in
+    let d1 = c.in_ok-vehicle_passes.ensures.step floor (kept.tick + n) w1 (jumped floor n c.args.tick kept w s quiet next) next in
+    let u1 : model.World = (model.vehicle_passes w1).world in
+    let d2 = c.in_ok-sessions_pass.ensures.step c.args.tick floor (kept.tick + n) u1 d1.1 (sym c.vehicle_passes.ensures.tick) next in
+    let p3 = c.in_err-flows.ensures.step c.args.tick floor (model.sessions_pass u1).world d2.1 (sym (c.sessions_pass.ensures.tick ∙ c.vehicle_passes.ensures.tick)) in
+    rw failed.1 (subst (λ (z : model.Step). g.H.Listener.partly c.args.to.now c.flows.new.to z.entries) (sym (units_jump floor n kept w s quiet))
+    (law.longer _ _ _ _ (law.then_partly _ _ _ _ _ (law.twice _ _ _ _ _ d1.0 d2.0) p3)))
+
+pub returns-clause-step : goal.returns-clause-step
+returns-clause-step g c =
+    λ floor n w s next quiet.
+    let kept = c.args.self.now in
+    let law = g.met.H.Listener in
+    let w1 : model.World = record (aged_world n w) { tick = (aged_world n w).tick + 1 } in
+    let d1 = c.in_ok-vehicle_passes.ensures.step floor (kept.tick + n) w1 (jumped floor n c.args.tick kept w s quiet next) next in
+    let u1 : model.World = (model.vehicle_passes w1).world in
+    let d2 = c.in_ok-sessions_pass.ensures.step c.args.tick floor (kept.tick + n) u1 d1.1 (sym c.vehicle_passes.ensures.tick) next in
+    let u2 : model.World = (model.sessions_pass u1).world in
+    let t2 = c.sessions_pass.ensures.tick ∙ c.vehicle_passes.ensures.tick in
+    let d3 = c.in_ok-flows.ensures.step c.args.tick floor u2 d2.1 (sym t2) in
+    let u3 : model.World = (model.flows_up u2).world in
+    let came = c.flows-2.ensures.step c.args.tick floor u3 d3.1 (sym (c.flows.ensures.tick ∙ t2)) in
+    let first : model.Step = model.and_then (model.and_then (model.vehicle_passes w1) model.sessions_pass) model.flows_up in
+    subst (Came (g.H.Listener.grew c.args.to.now c.flows-2.new.to) (g.H.Listener.partly c.args.to.now c.flows-2.new.to) c.flows-2.result c.args.tick floor (λ d. c.args.tick) c.flows-2.new.self) (sym (units_jump floor n kept w s quiet))
+    (came_after g.H.Listener.grew g.H.Listener.partly law.twice law.then_partly c.args.to.now c.flows.new.to c.flows-2.new.to c.flows-2.result c.args.tick floor (λ d. c.args.tick) c.flows-2.new.self first model.flows_down
+    (law.twice _ _ _ _ _ (law.twice _ _ _ _ _ d1.0 d2.0) d3.0) came)
+
+pub returns-clause-passes : goal.returns-clause-passes
+returns-clause-passes g c =
+    λ floor n w s next quiet small.
+    let kept = c.args.self.now in
+    let m0 = c.args.moments.now in
+    let at = λ (t : ℕ) (e : t ≡ c.args.tick). subst (λ u. u < floor + 2 ^ 32) (sym e) small in
+    let w1 : model.World = record (aged_world n w) { tick = (aged_world n w).tick + 1 } in
+    let stands = jumped floor n c.args.tick kept w s quiet next in
+    let s1 : model.Step = model.vehicle_passes w1 in
+    let d1 = c.in_ok-vehicle_passes.ensures.step floor (kept.tick + n) w1 stands next in
+    let p1 = c.in_ok-vehicle_passes.ensures.passes floor (kept.tick + n) w1 stands next small in
+    let t1 = c.vehicle_passes.ensures.tick in
+    let d2 = c.in_ok-sessions_pass.ensures.step c.args.tick floor (kept.tick + n) s1.world d1.1 (sym t1) next in
+    let p2 = c.in_ok-sessions_pass.ensures.passes c.args.tick floor (kept.tick + n) s1.world d1.1 (sym t1) next (at _ t1) in
+    let s2 : model.Step = model.and_then s1 model.sessions_pass in
+    let m2 = passes_more s1 model.sessions_pass m0 c.vehicle_passes.new.moments c.sessions_pass.new.moments p1 p2 in
+    let t2 = c.sessions_pass.ensures.tick ∙ t1 in
+    let d3 = c.in_ok-flows.ensures.step c.args.tick floor s2.world d2.1 (sym t2) in
+    let p3 = c.in_ok-flows.ensures.passes c.args.tick floor s2.world d2.1 (sym t2) (at _ t2) in
+    let s3 : model.Step = model.and_then s2 model.flows_up in
+    let m3 = passes_more s2 model.flows_up m0 c.sessions_pass.new.moments c.flows.new.moments m2 p3 in
+    let t3 = c.flows.ensures.tick ∙ t2 in
+    let p4 = c.flows-2.ensures.passes c.args.tick floor s3.world d3.1 (sym t3) (at _ t3) in
+    subst (λ (z : model.Step). OnOk c.flows-2.result (c.flows-2.new.moments ≤ m0 + passes_of z)) (sym (units_jump floor n kept w s quiet))
+    (then_ok c.flows-2.result s3 model.flows_down m0 c.flows.new.moments c.flows-2.new.moments m3 p4)

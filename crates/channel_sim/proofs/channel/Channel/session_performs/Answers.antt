@@ -1,0 +1,51 @@
+use Rattle.channel_sim.proofs.BoundLemmas.{fewer_ok}
+use Rattle.channel_sim.specs.inner.Passes.{passes_of}
+use Rattle.std.proofs.Common.{◌≡◌, true, false, refl, ap, sym, ◌∙◌, subst, ◌+◌, ◌≤◌, OnOk, length}
+use Rattle.std.specs.Option.{is_some}
+use Rattle.psap_machine.specs.Point.{Point}
+use Rattle.psap_machine.specs.PointRows as point
+use Rattle.channel_sim.specs.World as model
+use Rattle.channel_sim.specs.inner.Acts.{seat_after}
+use Rattle.channel_sim.specs.inner.Lag.{Came, StandsAt}
+use Rattle.channel_sim.proofs.SessionLemmas.{session_ready, session_step, no_session_step, nobody_did, settled_quiet}
+use Rattle.channel_sim.proofs.channel.Channel.session_performs.Goals as goal
+
+pub returns-then-hear_session-clause-step : goal.returns-then-hear_session-clause-step
+returns-then-hear_session-clause-step g c =
+    λ ahead floor clock w s now caught.
+    let row = λ (p : Point). point.point_row p (point.heard c.args.event.now) in
+    let kept = c.args.self.now in
+    let heard = c.hear_session.ensures.did floor clock w.calls s.calls s.tidy.numbers caught in
+    let there : is_some (model.session_of c.args.number w.calls) ≡ true = sym (c.hear_session.ensures.variant floor clock w.calls s.calls s.tidy.numbers) ∙ c.if-hear_session.true in
+    let after = model.seated c.args.number (seat_after row (model.session_of c.args.number w.calls)) w.calls in
+    let Step = λ (z : model.Step). Came (g.H.Listener.grew c.args.to.now c.settles.new.to) (g.H.Listener.partly c.args.to.now c.settles.new.to) c.settles.result ahead floor clock c.settles.new.self (model.settled z) in
+    subst Step (sym (session_step c.args.number w row there))
+    (subst (λ items. Step (model.did w items w.vehicle after)) (c.as_slice-items.ensures.value ∙ heard.items)
+    (c.settles.ensures.step ahead floor clock w w.vehicle after
+    (session_ready ahead floor clock clock kept (record kept { calls = c.hear_session.new.calls }) w c.args.number _ _ row s refl heard) now))
+
+pub returns-else-hear_session-clause-step : goal.returns-else-hear_session-clause-step
+returns-else-hear_session-clause-step g c =
+    λ ahead floor clock w s now caught.
+    let row = λ (p : Point). point.point_row p (point.heard c.args.event.now) in
+    let kept = c.args.self.now in
+    let did = c.hear_session.ensures.did floor clock w.calls s.calls s.tidy.numbers caught in
+    let gone : is_some (model.session_of c.args.number w.calls) ≡ false = sym (c.hear_session.ensures.variant floor clock w.calls s.calls s.tidy.numbers) ∙ c.if-hear_session.false in
+    let moved = record kept { calls = c.hear_session.new.calls } in
+    subst (λ (z : model.Step). g.H.Listener.grew c.args.to.now c.args.to.now z.entries × StandsAt ahead floor clock moved z.world) (sym (ap model.settled (no_session_step c.args.number w row gone) ∙ settled_quiet w))
+    (g.met.H.Listener.unchanged _, nobody_did ahead floor clock clock kept moved w c.args.number _ _ row s refl gone did)
+
+pub returns-then-hear_session-clause-passes : goal.returns-then-hear_session-clause-passes
+returns-then-hear_session-clause-passes g c =
+    λ ahead floor clock w s now caught small.
+    let row = λ (p : Point). point.point_row p (point.heard c.args.event.now) in
+    let kept = c.args.self.now in
+    let heard = c.hear_session.ensures.did floor clock w.calls s.calls s.tidy.numbers caught in
+    let there : is_some (model.session_of c.args.number w.calls) ≡ true = sym (c.hear_session.ensures.variant floor clock w.calls s.calls s.tidy.numbers) ∙ c.if-hear_session.true in
+    let after = model.seated c.args.number (seat_after row (model.session_of c.args.number w.calls)) w.calls in
+    let Step = λ (z : model.Step). OnOk c.settles.result (c.settles.new.moments ≤ c.args.moments.now + passes_of (model.settled z)) in
+    subst Step (sym (session_step c.args.number w row there))
+    (subst (λ items. Step (model.did w items w.vehicle after)) (c.as_slice-items.ensures.value ∙ heard.items)
+    (fewer_ok c.settles.result c.settles.new.moments (length c.as_slice-items.result.now) (c.args.moments.now + passes_of (model.settled (model.did w c.as_slice-items.result.now w.vehicle after)))
+    (c.settles.ensures.passes ahead floor clock w w.vehicle after
+    (session_ready ahead floor clock clock kept (record kept { calls = c.hear_session.new.calls }) w c.args.number _ _ row s refl heard) now small)))

@@ -1,0 +1,110 @@
+//! What is kept of the world, and what one turn does in it.
+
+mod acts;
+mod deeds;
+mod flows;
+mod moments;
+
+use crate::calls::Call;
+use crate::fault::SimFault;
+use crate::room::Room;
+use crate::turn::Turn;
+use ivs_machine::Ivs;
+use link_frames::Steps;
+use msd_fit::Facts;
+use std::alloc::Global;
+use std::sync::ledger::Ledger;
+use trace_text::Listener;
+
+/// A vehicle, the calls with a leg up, and all that was ever sent in them.
+#[derive(Drop)]
+pub(crate) struct Channel {
+    pub(crate) tick: u64,
+    pub(crate) vehicle: Ivs,
+    /// The tick up to which the vehicle was passed.
+    passed: u64,
+    pub(crate) drawn: u32,
+    pub(crate) calls: Vec<Call>,
+    /// After how many ticks a flow hands a frame over; 0 is off.
+    up_flow: u32,
+    down_flow: u32,
+}
+
+impl Channel {
+    ghost use Rattle.std.specs.Prelude.{◌≡◌, ◌+◌, ◌^◌, ◌<◌, ◌≤◌, ℕ, OnOk, OnErr, IfOk, IfErr, if◌then◌else◌};
+    ghost use Rattle.channel_sim.specs.World as model;
+    ghost use Rattle.channel_sim.specs.SimFault.{SimFaultCause};
+    ghost use Rattle.channel_sim.specs.WorldStands.{ChannelStandsFor};
+    ghost use Rattle.channel_sim.specs.inner.Lag.{CameNow, StandsNow};
+    ghost use Rattle.channel_sim.specs.inner.Turns.{DrawsCall, does_turn, turn_passes};
+
+    /// The world before anything happened, with a vehicle that knows these facts. It takes no memory.
+    pub(crate) fn new(alloc: Global, facts: Facts) -> Channel
+        ensures stands { ChannelStandsFor result (model.first_world facts) }
+        ensures calls { result.drawn ≡ 0 }
+        ensures reached { result.tick ≡ 0 }
+    {
+        Channel {
+            tick: 0,
+            vehicle: Ivs::new(facts),
+            passed: 0,
+            drawn: 0,
+            calls: Vec::new(alloc),
+            up_flow: 0,
+            down_flow: 0,
+        }
+    }
+
+    /// What one turn does.
+    pub(crate) fn plays<H: Listener, L: Ledger>(
+        &mut self,
+        alloc: Global,
+        turn: &Turn<'_>,
+        room: &mut Room,
+        to: &mut H,
+        moments: &mut Steps<L>,
+    ) -> Result<(), SimFault>
+        requires calls { DrawsCall turn.now → self.old.drawn < 4294967295 }
+        requires ticks { (n : ℕ) → turn.now ≡ Turn.Elapse n → self.old.tick + n < 2 ^ 64 }
+        ensures step { (w : model.World) → StandsNow self.old w →
+            CameNow (H.grew to.old to.new) (H.partly to.old to.new) result self.new (does_turn turn.now w) }
+        ensures stood { OnOk result (H.faults to.new ≡ H.faults to.old) }
+        ensures cause { IfErr result (λ e. SimFaultCause e (H.faults to.old) (H.faults to.new)) }
+        ensures counted { H.faults to.old ≤ H.faults to.new }
+        ensures passes { (w : model.World) → StandsNow self.old w →
+            OnOk result (moments.new ≤ moments.old + turn_passes turn.now w) }
+    {
+        let given = &mut room.given;
+        match turn {
+            Turn::Vehicle(event) => self.vehicle_line(alloc, event, given, to, moments),
+            Turn::Point(call, event) => self.point_line(alloc, *call, event, given, to, moments),
+            Turn::DropVehicle => self.drop_vehicle(alloc, given, to, moments),
+            Turn::DropBoth(call) => self.drop_both(alloc, *call, given, to, moments),
+            Turn::Answer => self.answer(alloc, given, to),
+            Turn::Callback => self.callback(alloc, given, to),
+            Turn::Deliver { up, call, place } => {
+                if *up {
+                    self.deliver_up(alloc, *call, *place, given, to, moments)
+                } else {
+                    self.deliver_down(alloc, *call, *place, given, to, moments)
+                }
+            }
+            Turn::Flow { up, delay } => {
+                self.set_flow(*up, *delay);
+                Ok(())
+            }
+            Turn::Elapse(n) => self.elapses(alloc, *n, room, to, moments),
+        }
+    }
+
+    /// Sets the flow of a direction.
+    fn set_flow(&mut self, up: bool, delay: u32)
+        ensures { self.new ≡ (if up then record self.old { up_flow = delay } else record self.old { down_flow = delay }) }
+    {
+        if up {
+            self.up_flow = delay;
+        } else {
+            self.down_flow = delay;
+        }
+    }
+}

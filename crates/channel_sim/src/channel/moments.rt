@@ -1,0 +1,341 @@
+//! Elapsed time: from one tick at which something happens to the next.
+ghost use Rattle.std.specs.Prelude.{◌≡◌, ◌≤◌, ◌+◌, ◌-◌, ◌^◌, ◌<◌, ℕ, Some, None, IfSome};
+ghost use Rattle.channel_sim.specs.inner.Quiet.{FramesRest};
+ghost use Rattle.channel_sim.specs.Tidy.{AreFrom, ticks_of};
+ghost use Rattle.ivs_machine.specs.IvsStands.{IvsStandsFor};
+ghost use Rattle.ivs_machine.specs.Vehicle.{Vehicle};
+ghost use Rattle.ivs_machine.specs.VehicleRows as vehicle;
+ghost use Rattle.channel_sim.specs.inner.Lag.{VehicleLags};
+
+use super::Channel;
+use crate::calls::{Call, act_session, catch_each_up, list_numbers, ticks_at_once};
+use crate::fault::SimFault;
+use crate::room::{Given, Room};
+use crate::sends::Sends;
+use ivs_machine::Ivs;
+use link_frames::{Items, Steps};
+use std::alloc::Global;
+use std::sync::ledger::Ledger;
+use trace_text::Listener;
+
+/// The tick at which an end acts that was passed up to here; at most `end`.
+fn acts_at(passed: u64, due: Option<u32>, end: u64) -> u64
+    ensures most { result ≤ end }
+    ensures due { IfSome due (λ d. result ≤ passed + d) }
+{
+    match due {
+        Some(ticks) => passed.saturating_add(u64::from(ticks)).min(end),
+        None => end,
+    }
+}
+
+/// The tick behind `now` at which a flow hands the next of these frames over; at most `end`.
+fn hands_at(sends: &Sends, flow: u32, now: u64, end: u64) -> u64
+    ensures most { result ≤ end }
+    ensures quiet { (n : ℕ) → AreFrom 0 (ticks_of sends.now) → now + n < result → FramesRest n flow now sends.now }
+{
+    if flow == 0 {
+        return end;
+    }
+    let delay = u64::from(flow);
+    let place = sends.first_from(now.saturating_add(1).saturating_sub(delay));
+    match sends.tick(place) {
+        Some(tick) => tick.saturating_add(delay).min(end),
+        None => end,
+    }
+}
+
+/// Passes the vehicle by ticks in which it does nothing.
+fn pass_vehicle_quietly<L: Ledger>(ivs: &mut Ivs, lag: u64, moments: &mut Steps<L>)
+    ensures lags { (v : Vehicle) → VehicleLags lag ivs.old v → VehicleLags 0 ivs.new v }
+    ensures passes { (v : Vehicle) → VehicleLags lag ivs.old v → lag < 2 ^ 32 → moments.new ≤ moments.old + 1 }
+    ensures still { lag ≡ 0 → moments.new ≡ moments.old }
+{
+    let mut left = lag;
+    while left > 0 {
+        let n = ticks_at_once(left, ivs.due());
+        if n == 0 {
+            return;
+        }
+        ivs.pass(n, moments);
+        left -= u64::from(n);
+    }
+}
+
+/// What is due at the vehicle, if that is not later than so many ticks.
+fn vehicle_due_at(ivs: &Ivs, lag: u64) -> Option<u32>
+    ensures some { IfSome result (λ due. (0 < due) × (due ≤ lag)) }
+    ensures due { (v : Vehicle) → IvsStandsFor ivs.now v → IfSome result (λ due. vehicle.due_of v ≡ Some due) }
+    ensures later { (v : Vehicle) → IvsStandsFor ivs.now v → result ≡ None → IfSome (vehicle.due_of v) (λ due. lag < due) }
+{
+    let due = ivs.due()?;
+    if due > 0 && u64::from(due) <= lag {
+        Some(due)
+    } else {
+        None
+    }
+}
+
+impl Channel {
+    ghost use Rattle.std.specs.Option.{is_some};
+    ghost use Rattle.ivs_machine.specs.IvsStands.{IvsStandsFor};
+    ghost use Rattle.ivs_machine.specs.Vehicle.{Vehicle};
+    ghost use Rattle.ivs_machine.specs.VehicleRows as vehicle;
+    ghost use Rattle.channel_sim.specs.inner.Lag.{VehicleLags};
+    ghost use Rattle.std.specs.Prelude.{true, false, IfSome, ◌≡◌, ◌+◌, ◌-◌, ◌^◌, ◌<◌, ◌≤◌, ℕ, List, [], ◌∷◌, Some, None, map, OnOk, OnErr, IfOk, IfErr, length};
+    ghost use Rattle.channel_sim.specs.World as model;
+    ghost use Rattle.channel_sim.specs.SimFault.{SimFaultCause};
+    ghost use Rattle.channel_sim.specs.inner.Acts.{AreSameBut};
+    ghost use Rattle.channel_sim.specs.inner.Lag.{CallLags, Came, CameNow, StandsAt, StandsNow};
+    ghost use Rattle.channel_sim.specs.inner.Quiet.{QuietFor, IsQuietCall};
+    ghost use Rattle.channel_sim.specs.Tidy.{CallInTime, numbers_of};
+    ghost use Rattle.channel_sim.specs.inner.Passes.{passes_of};
+
+    /// Passes the vehicle up to this tick, up to which it does nothing.
+    pub(super) fn catch_vehicle_up<L: Ledger>(&mut self, moments: &mut Steps<L>)
+        ensures same { self.new ≡ record self.old { vehicle = self.new.vehicle; passed = self.old.tick } }
+        ensures caught { (ahead : ℕ) (floor : ℕ) (clock : ℕ → ℕ) (w : model.World) → StandsAt ahead floor clock self.old w →
+            ahead ≡ self.old.tick → StandsAt ahead floor clock self.new w }
+        ensures passes { (ahead floor : ℕ) (clock : ℕ → ℕ) (w : model.World) → StandsAt ahead floor clock self.old w →
+            ahead ≡ self.old.tick → self.old.tick < floor + 2 ^ 32 → moments.new ≤ moments.old + 1 }
+        ensures still { self.old.passed ≡ self.old.tick → moments.new ≡ moments.old }
+    {
+        pass_vehicle_quietly(
+            &mut self.vehicle,
+            self.tick.saturating_sub(self.passed),
+            moments,
+        );
+        self.passed = self.tick;
+    }
+
+    /// The tick at which something happens in a call; at most `end`.
+    fn call_moment(&self, call: &Call, end: u64) -> u64
+        ensures most { result ≤ end }
+        ensures quiet { (floor n : ℕ) (k : model.Call) → CallLags floor self.now.tick call.now k → CallInTime self.now.tick k →
+            self.now.tick + n < result → IsQuietCall n self.now.up_flow self.now.down_flow self.now.tick k }
+    {
+        let due = match &call.session {
+            Some(session) => session.due(),
+            None => None,
+        };
+        let acts = acts_at(call.passed, due, end);
+        let up = hands_at(&call.up, self.up_flow, self.tick, acts);
+        hands_at(&call.down, self.down_flow, self.tick, up)
+    }
+
+    /// The next tick at which something happens; at most `end`.
+    fn next_moment(&self, end: u64) -> u64
+        ensures most { result ≤ end }
+        ensures quiet { (floor n : ℕ) (w : model.World) → StandsAt self.now.tick floor (λ c. self.now.tick) self.now w →
+            self.now.tick + n < result → QuietFor n w }
+    {
+        let mut next = acts_at(self.passed, self.vehicle.due(), end);
+        for call in &self.calls {
+            next = self.call_moment(call, next);
+        }
+        next
+    }
+
+    /// Passes the vehicle up to this tick, if it does something at it: whether it did.
+    fn vehicle_act<L: Ledger>(&mut self, items: &mut Items, moments: &mut Steps<L>) -> bool
+        ensures same { self.new ≡ record self.old { vehicle = self.new.vehicle; passed = self.new.passed } }
+        ensures some { result ≡ true → self.new.passed ≡ self.old.tick }
+        ensures none { result ≡ false → (self.new ≡ self.old) × (moments.new ≡ moments.old) }
+        ensures acts { (before : ℕ) (v : Vehicle) → VehicleLags (before - self.old.passed) self.old.vehicle v →
+            self.old.passed ≤ before → before + 1 ≡ self.old.tick → result ≡ true →
+            (items.new.items ≡ (vehicle.unit_row v).items)
+            × IvsStandsFor self.new.vehicle (vehicle.unit_row v).new }
+        ensures rests { (before : ℕ) (v : Vehicle) → VehicleLags (before - self.old.passed) self.old.vehicle v →
+            self.old.passed ≤ before → before + 1 ≡ self.old.tick → result ≡ false →
+            IfSome (vehicle.due_of v) (λ due. 1 < due)
+            × VehicleLags (self.old.tick - self.old.passed) self.old.vehicle (vehicle.aged 1 v) }
+        ensures passes { (n : ℕ) (v : Vehicle) → VehicleLags n self.old.vehicle v → result ≡ true →
+            moments.new ≤ moments.old + length items.new.items }
+    {
+        match vehicle_due_at(&self.vehicle, self.tick.saturating_sub(self.passed)) {
+            Some(due) => {
+                self.passed = self.tick;
+                self.vehicle.pass_into(due, moments, items);
+                true
+            }
+            None => false,
+        }
+    }
+
+    /// The vehicle's unit tick.
+    fn vehicle_passes<H: Listener, L: Ledger>(
+        &mut self,
+        alloc: Global,
+        given: &mut Given,
+        to: &mut H,
+        moments: &mut Steps<L>,
+    ) -> Result<(), SimFault>
+        ensures step { (floor before : ℕ) (w : model.World) → StandsAt before floor (λ c. before) self.old w →
+            before + 1 ≡ self.old.tick →
+            Came (H.grew to.old to.new) (H.partly to.old to.new) result self.old.tick floor (λ c. before) self.new
+            (model.vehicle_passes w) }
+        ensures tick { self.new.tick ≡ self.old.tick }
+        ensures stood { OnOk result (H.faults to.new ≡ H.faults to.old) }
+        ensures cause { IfErr result (λ e. SimFaultCause e (H.faults to.old) (H.faults to.new)) }
+        ensures counted { H.faults to.old ≤ H.faults to.new }
+        ensures passes { (floor before : ℕ) (w : model.World) → StandsAt before floor (λ c. before) self.old w →
+            before + 1 ≡ self.old.tick → self.old.tick < floor + 2 ^ 32 → OnOk result
+            (moments.new ≤ moments.old + passes_of (model.vehicle_passes w)) }
+    {
+        let call = self.vehicle.call();
+        if self.vehicle_act(&mut given.own, moments) {
+            let items = given.own.as_slice();
+            self.settles(alloc, items, &mut given.other, call, to, moments)
+        } else {
+            Ok(())
+        }
+    }
+
+    /// The unit tick of the session of a call.
+    fn session_passes<H: Listener, L: Ledger>(
+        &mut self,
+        alloc: Global,
+        number: u32,
+        given: &mut Given,
+        to: &mut H,
+        moments: &mut Steps<L>,
+    ) -> Result<(), SimFault>
+        ensures step { (ahead floor : ℕ) (before after : ℕ → ℕ) (w : model.World) → StandsAt ahead floor before self.old w →
+            ahead ≡ self.old.tick → before number + 1 ≡ ahead → after number ≡ ahead → AreSameBut number before after →
+            Came (H.grew to.old to.new) (H.partly to.old to.new) result ahead floor after self.new
+            (model.session_passes number w) }
+        ensures tick { self.new.tick ≡ self.old.tick }
+        ensures stood { OnOk result (H.faults to.new ≡ H.faults to.old) }
+        ensures cause { IfErr result (λ e. SimFaultCause e (H.faults to.old) (H.faults to.new)) }
+        ensures counted { H.faults to.old ≤ H.faults to.new }
+        ensures passes { (ahead floor : ℕ) (before after : ℕ → ℕ) (w : model.World) → StandsAt ahead floor before self.old w →
+            ahead ≡ self.old.tick → before number + 1 ≡ ahead → after number ≡ ahead → AreSameBut number before after →
+            self.old.tick < floor + 2 ^ 32 → OnOk result (moments.new ≤ moments.old + passes_of (model.session_passes number w)) }
+    {
+        if act_session(&mut self.calls, number, self.tick, &mut given.own, moments) {
+            let items = given.own.as_slice();
+            self.settles(alloc, items, &mut given.other, Some(number), to, moments)
+        } else {
+            Ok(())
+        }
+    }
+
+    /// The unit tick of each of these sessions, which are those of all calls.
+    fn each_session_passes<H: Listener, L: Ledger>(
+        &mut self,
+        alloc: Global,
+        numbers: &[u32],
+        given: &mut Given,
+        to: &mut H,
+        moments: &mut Steps<L>,
+    ) -> Result<(), SimFault>
+        ensures step { (ahead floor before : ℕ) (w : model.World) → StandsAt ahead floor (λ c. before) self.old w →
+            ahead ≡ self.old.tick → before + 1 ≡ ahead → numbers.now ≡ numbers_of w.calls →
+            Came (H.grew to.old to.new) (H.partly to.old to.new) result ahead floor (λ c. ahead) self.new
+            (model.sessions_pass w) }
+        ensures tick { self.new.tick ≡ self.old.tick }
+        ensures stood { OnOk result (H.faults to.new ≡ H.faults to.old) }
+        ensures cause { IfErr result (λ e. SimFaultCause e (H.faults to.old) (H.faults to.new)) }
+        ensures counted { H.faults to.old ≤ H.faults to.new }
+        ensures passes { (ahead floor before : ℕ) (w : model.World) → StandsAt ahead floor (λ c. before) self.old w →
+            ahead ≡ self.old.tick → before + 1 ≡ ahead → numbers.now ≡ numbers_of w.calls →
+            self.old.tick < floor + 2 ^ 32 → OnOk result
+            (moments.new ≤ moments.old + passes_of (model.sessions_pass w)) }
+    {
+        for number in numbers {
+            self.session_passes(alloc, *number, given, to, moments)?;
+        }
+        Ok(())
+    }
+
+    /// The unit tick of each session, by call.
+    fn sessions_pass<H: Listener, L: Ledger>(
+        &mut self,
+        alloc: Global,
+        room: &mut Room,
+        to: &mut H,
+        moments: &mut Steps<L>,
+    ) -> Result<(), SimFault>
+        ensures step { (ahead floor before : ℕ) (w : model.World) → StandsAt ahead floor (λ c. before) self.old w →
+            ahead ≡ self.old.tick → before + 1 ≡ ahead →
+            Came (H.grew to.old to.new) (H.partly to.old to.new) result ahead floor (λ c. ahead) self.new
+            (model.sessions_pass w) }
+        ensures tick { self.new.tick ≡ self.old.tick }
+        ensures stood { OnOk result (H.faults to.new ≡ H.faults to.old) }
+        ensures cause { IfErr result (λ e. SimFaultCause e (H.faults to.old) (H.faults to.new)) }
+        ensures counted { H.faults to.old ≤ H.faults to.new }
+        ensures passes { (ahead floor before : ℕ) (w : model.World) → StandsAt ahead floor (λ c. before) self.old w →
+            ahead ≡ self.old.tick → before + 1 ≡ ahead → self.old.tick < floor + 2 ^ 32 → OnOk result
+            (moments.new ≤ moments.old + passes_of (model.sessions_pass w)) }
+    {
+        list_numbers(&self.calls, &mut room.numbers)?;
+        self.each_session_passes(alloc, &room.numbers, &mut room.given, to, moments)
+    }
+
+    /// The world jumps to this tick: nothing happens before it, and then its unit tick is played.
+    fn moment<H: Listener, L: Ledger>(
+        &mut self,
+        alloc: Global,
+        tick: u64,
+        room: &mut Room,
+        to: &mut H,
+        moments: &mut Steps<L>,
+    ) -> Result<(), SimFault>
+        ensures step { (floor n : ℕ) (w : model.World) → StandsAt self.old.tick floor (λ c. self.old.tick) self.old w →
+            self.old.tick + n + 1 ≡ tick → QuietFor n w →
+            Came (H.grew to.old to.new) (H.partly to.old to.new) result tick floor (λ c. tick) self.new
+            (model.units (n + 1) w) }
+        ensures tick { self.new.tick ≡ tick }
+        ensures stood { OnOk result (H.faults to.new ≡ H.faults to.old) }
+        ensures cause { IfErr result (λ e. SimFaultCause e (H.faults to.old) (H.faults to.new)) }
+        ensures counted { H.faults to.old ≤ H.faults to.new }
+        ensures passes { (floor n : ℕ) (w : model.World) → StandsAt self.old.tick floor (λ c. self.old.tick) self.old w →
+            self.old.tick + n + 1 ≡ tick → QuietFor n w → tick < floor + 2 ^ 32 → OnOk result
+            (moments.new ≤ moments.old + passes_of (model.units (n + 1) w)) }
+    {
+        self.tick = tick;
+        self.vehicle_passes(alloc, &mut room.given, to, moments)?;
+        self.sessions_pass(alloc, room, to, moments)?;
+        self.flows(alloc, true, room, to, moments)?;
+        self.flows(alloc, false, room, to, moments)
+    }
+
+    /// Passes each end that lags up to this tick.
+    fn catch_all_up<L: Ledger>(&mut self, moments: &mut Steps<L>)
+        ensures tick { self.new.tick ≡ self.old.tick }
+        ensures caught { (floor : ℕ) (w : model.World) → StandsAt self.old.tick floor (λ c. self.old.tick) self.old w →
+            StandsNow self.new w }
+        ensures passes { (floor : ℕ) (w : model.World) → StandsAt self.old.tick floor (λ c. self.old.tick) self.old w →
+            self.old.tick < floor + 2 ^ 32 → moments.new ≤ moments.old + model.ends w }
+    {
+        self.catch_vehicle_up(moments);
+        catch_each_up(&mut self.calls, self.tick, moments);
+    }
+
+    /// So many ticks elapse.
+    pub(super) fn elapses<H: Listener, L: Ledger>(
+        &mut self,
+        alloc: Global,
+        n: u32,
+        room: &mut Room,
+        to: &mut H,
+        moments: &mut Steps<L>,
+    ) -> Result<(), SimFault>
+        requires { self.old.tick + n < 2 ^ 64 }
+        ensures step { (w : model.World) → StandsNow self.old w →
+            CameNow (H.grew to.old to.new) (H.partly to.old to.new) result self.new (model.units n w) }
+        ensures stood { OnOk result (H.faults to.new ≡ H.faults to.old) }
+        ensures cause { IfErr result (λ e. SimFaultCause e (H.faults to.old) (H.faults to.new)) }
+        ensures counted { H.faults to.old ≤ H.faults to.new }
+        ensures passes { (w : model.World) → StandsNow self.old w → OnOk result
+            (moments.new ≤ moments.old + (passes_of (model.units n w) + model.ends w)) }
+    {
+        let end = self.tick + u64::from(n);
+        while self.tick < end {
+            let next = self.next_moment(end).max(self.tick + 1);
+            self.moment(alloc, next, room, to, moments)?;
+        }
+        self.catch_all_up(moments);
+        Ok(())
+    }
+}

@@ -1,0 +1,36 @@
+//! Room that is used again from line to line.
+
+ghost use Rattle.std.specs.Prelude.{◌≡◌};
+
+use crate::calls::Due;
+use link_frames::Items;
+use std::alloc::Global;
+
+/// What the ends gave last: the one that acted, and the other one by consequence.
+#[derive(Drop)]
+pub(crate) struct Given {
+    pub(crate) own: Items,
+    pub(crate) other: Items,
+}
+
+/// The room of a world: for what ends give, for the numbers of calls, and for frames that are due.
+#[derive(Drop)]
+pub(crate) struct Room {
+    pub(crate) given: Given,
+    pub(crate) numbers: Vec<u32>,
+    pub(crate) due: Vec<Due>,
+}
+
+impl Room {
+    /// Empty room. It takes no memory.
+    pub(crate) fn new(alloc: Global) -> Room {
+        Room {
+            given: Given {
+                own: Items::new(),
+                other: Items::new(),
+            },
+            numbers: Vec::new(alloc),
+            due: Vec::new(alloc),
+        }
+    }
+}
