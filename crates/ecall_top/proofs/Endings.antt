@@ -23,8 +23,8 @@ use Rattle.msd_fit.specs.declared.facts.Facts.{Facts}
 use Rattle.trace_text.specs.Facts.{facts_in}
 use Rattle.ecall_top.specs.declared.command.Command.TheVariants as command
 use Rattle.ecall_top.specs.declared.status.Status.TheVariants as status
-use Rattle.trace_text.specs.Lines.{most_bytes}
-use Rattle.ecall_top.specs.Outcome.{Streams, CutShort, IsSettled, IsWhole, Outcome}
+use Rattle.trace_text.specs.Lines.{IsWhole, most_bytes}
+use Rattle.ecall_top.specs.Outcome.{Streams, CutShort, IsSettled, Outcome}
 use Rattle.ecall_top.specs.inner.Progress.{ReadSoFar, events_before, event_of, entries_of, entries_in, passes_by, world_left}
 use Rattle.ecall_top.specs.Run.{played, most_passes, script_trace, ended, run_reply}
 use Rattle.ecall_top.specs.Refusals.{refusal_line}

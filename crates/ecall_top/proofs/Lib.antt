@@ -1,4 +1,3 @@
-mod WholeLines
 mod Sets
 mod ReplyLaws
 mod Takings

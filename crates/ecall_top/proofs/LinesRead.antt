@@ -11,12 +11,12 @@ use Rattle.trace_text.specs.declared.reason.BadLine.{BadLine}
 use Rattle.trace_text.specs.declared.fault.LineFault.{LineFault}
 use Rattle.trace_text.specs.declared.fault.LineFault.TheVariants as fault
 use Rattle.trace_text.specs.Feed.{Draws, IsDone}
-use Rattle.trace_text.specs.Lines.{lines_of, line_fault, IsPassedOver, most_bytes}
+use Rattle.trace_text.specs.Lines.{IsWhole, lines_of, line_fault, IsPassedOver, most_bytes}
 use Rattle.trace_text.specs.Reading.{Reading, MayFollow, first_reading, FindsLine, FindsEnd, FindsBad, FindsTooMany, ReadsLine}
 use Rattle.ecall_top.specs.declared.status.Status.{Status}
 use Rattle.ecall_top.specs.declared.status.Status.TheVariants as status
 use Rattle.ecall_top.specs.inner.Ends.{FailsWith, EndsReading, by_line, in_front}
-use Rattle.ecall_top.specs.Outcome.{Streams, CutShort, IsSettled, IsWhole, Outcome}
+use Rattle.ecall_top.specs.Outcome.{Streams, CutShort, IsSettled, Outcome}
 use Rattle.ecall_top.specs.Refusals.{Reply, refusal_line, refusal_reply, in_front_of}
 use Rattle.ecall_top.specs.declared.refusal.Refused.{Refused}
 use Rattle.ecall_top.specs.declared.refusal.Refused.TheVariants as refused

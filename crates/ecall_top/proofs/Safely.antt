@@ -5,7 +5,7 @@ use Rattle.msd_fit.specs.declared.facts.Facts.{Facts}
 use Rattle.trace_text.specs.Safety.{Finished, Safe}
 use Rattle.trace_text.specs.Script.{Script}
 use Rattle.channel_sim.proofs.Whole.{trace_fits}
-use Rattle.ecall_top.specs.Run.{last_tick, played, script_tick, script_trace}
+use Rattle.ecall_top.specs.Run.{tick_after, played, script_tick, script_trace}
 
 -- nothing is safe
 nothing_safe : Safe [] 0
@@ -19,7 +19,7 @@ nothing_safe =
 pub script_safe : (script : Script) → Safe (script_trace script) (script_tick script)
 script_safe script = by_facts script.facts
   where
-    by_facts : (o : Option Facts) → Safe (played o script.events) (last_tick o script.events)
+    by_facts : (o : Option Facts) → Safe (played o script.events) (tick_after o script.events)
     by_facts None = nothing_safe
     by_facts (Some known) = (trace_fits known script.events).safe
 

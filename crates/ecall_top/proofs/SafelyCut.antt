@@ -7,10 +7,11 @@ use Rattle.call_io.specs.Bytes.{Grew, GrewPartly}
 use Rattle.trace_text.specs.EntryLine.{line_of, text_of}
 use Rattle.trace_text.specs.Safety.{Safe}
 use Rattle.trace_text.specs.Script.{script_of}
+use Rattle.trace_text.specs.Tallies.{last_tick}
 use Rattle.trace_text.specs.declared.entry.Entry.{Entry}
 use Rattle.trace_text.specs.declared.reason.BadLine.{BadLine}
 use Rattle.trace_text.proofs.Fronts.{nothing_safe, safe_front}
-use Rattle.ecall_top.specs.CutTraces.{AreRefusedLines, AreSafeLines, IsPartOfLine, IsSafelyCut, tick_behind}
+use Rattle.ecall_top.specs.CutTraces.{AreRefusedLines, AreSafeLines, IsPartOfLine, IsSafelyCut}
 use Rattle.ecall_top.specs.Outcome.{CutShort, Outcome, Streams}
 use Rattle.ecall_top.specs.Refusals.{Reply, refusal_line}
 use Rattle.ecall_top.specs.Run.{ended, run_reply, script_tick, script_trace}
@@ -34,7 +35,7 @@ cut_twice (x ∷ a) b (y ∷ c) d h = behind (ap (λ l. get_or l 0 0) h) (cut_tw
     behind same (further e p q) = further e (ap (λ z. z ∷ c) (sym same) ∙ ap (λ l. x ∷ l) p) q
     behind same (nearer e some p) = nearer e some (ap (λ z. z ∷ a) same ∙ ap (λ l. y ∷ l) p)
 
-tick_last : (xs : List Entry) (x : Entry) → tick_behind (xs ++ x ∷ []) ≡ x.tick
+tick_last : (xs : List Entry) (x : Entry) → last_tick (xs ++ x ∷ []) ≡ x.tick
 tick_last [] x = refl
 tick_last (y ∷ []) x = refl
 tick_last (y ∷ z ∷ xs) x = tick_last (z ∷ xs) x
@@ -48,11 +49,11 @@ abbrev tail_of : Option BadLine → List ℕ
 tail_of None = []
 tail_of (Some bad) = refusal_line (refused.Line bad)
 
-safe_lines : (done : List Entry) → Safe done (tick_behind done) → AreSafeLines (text_of done)
+safe_lines : (done : List Entry) → Safe done (last_tick done) → AreSafeLines (text_of done)
 safe_lines done h = record { entries = done; safe = h; says = refl }
 
 -- behind all entries: nothing more, the refusal, or a part of it
-cut_last : (done : List Entry) → Safe done (tick_behind done) → (o : Option BadLine) → (front rest : List ℕ)
+cut_last : (done : List Entry) → Safe done (last_tick done) → (o : Option BadLine) → (front rest : List ℕ)
     → tail_of o ≡ front ++ rest → IsSafelyCut (text_of done ++ front)
 cut_last done safe None [] rest h = record {
   lines = text_of done;
@@ -83,7 +84,7 @@ cut_last done safe (Some bad) front (x ∷ rest) h = record {
   part = inr (record { rest = x ∷ rest; some = omega arith; line = inr (bad, sym h) });
 }
 
-cut_from : (done es : List Entry) (now : ℕ) → Safe (done ++ es) now → Safe done (tick_behind done) → (o : Option BadLine)
+cut_from : (done es : List Entry) (now : ℕ) → Safe (done ++ es) now → Safe done (last_tick done) → (o : Option BadLine)
     → (front rest : List ℕ) → text_of es ++ tail_of o ≡ front ++ rest → IsSafelyCut (text_of done ++ front)
 cut_from done [] now all safe o front rest h = cut_last done safe o front rest h
 cut_from done (x ∷ es) now all safe o front rest h =
@@ -94,7 +95,7 @@ cut_from done (x ∷ es) now all safe o front rest h =
     more : List Entry
     more = done ++ x ∷ []
 
-    more_safe : Safe more (tick_behind more)
+    more_safe : Safe more (last_tick more)
     more_safe = subst (λ now. Safe more now) (sym (tick_last done x)) (safe_front done es x now all)
 
     by_cut : ((e : List ℕ) → text_of es ++ tail_of o ≡ e ++ rest → IsSafelyCut (text_of more ++ e))

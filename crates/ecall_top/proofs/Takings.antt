@@ -8,10 +8,10 @@ use Rattle.call_io.specs.Bytes.{Took}
 use Rattle.call_io.proofs.BytesLemmas.{Took-append, Took-nothing}
 use Rattle.trace_text.specs.Feed.{Draws, IsDone}
 use Rattle.trace_text.specs.Reading.{Reading, MayFollow, first_reading, FindsLine, FindsEnd, FindsTooMany, ReadsLine}
-use Rattle.trace_text.specs.Lines.{lines_of, most_bytes}
-use Rattle.ecall_top.specs.Outcome.{Streams, AreWholeLines, IsWhole}
+use Rattle.trace_text.specs.Lines.{AreWholeLines, IsWhole, lines_of, most_bytes}
+use Rattle.ecall_top.specs.Outcome.{Streams}
 use Rattle.ecall_top.specs.inner.Taken.{TakenSoFar}
-use Rattle.ecall_top.proofs.WholeLines.{whole_lines, whole_append}
+use Rattle.trace_text.proofs.WholeLines.{whole_lines, whole_append}
 
 -- nothing was taken yet
 pub taken_first : (start : Streams) → TakenSoFar start start first_reading []

@@ -4,21 +4,16 @@
 use Rattle.std.specs.Prelude.{◌≡◌, ℕ, ◌<◌, ◌⊎◌, List, [], ◌∷◌, ◌++◌, length}
 use Rattle.trace_text.specs.EntryLine.{line_of, text_of}
 use Rattle.trace_text.specs.Safety.{Safe}
+use Rattle.trace_text.specs.Tallies.{last_tick}
 use Rattle.trace_text.specs.declared.entry.Entry.{Entry}
 use Rattle.trace_text.specs.declared.reason.BadLine.{BadLine}
 use Rattle.ecall_top.specs.Refusals.{refusal_line}
 use Rattle.ecall_top.specs.declared.refusal.Refused.TheVariants as refused
 
--- the tick of the last of these entries, and 0 where there is none
-abbrev pub tick_behind : List Entry → ℕ
-tick_behind [] = 0
-tick_behind (x ∷ []) = x.tick
-tick_behind (x ∷ y ∷ entries) = tick_behind (y ∷ entries)
-
 -- these are the lines of a trace that is safe up to its last entry's tick
 pub record AreSafeLines (lines : List ℕ) : Type 0 where
   pub entries : List Entry
-  pub safe : Safe entries (tick_behind entries)
+  pub safe : Safe entries (last_tick entries)
   pub says : lines ≡ text_of entries
 
 -- these are the lines of a safe trace, and the line that refuses a line of its script

@@ -3,12 +3,10 @@
 -- of `ecall`. Where a source or a sink doesn't tell its bytes, nothing is said of them.
 use Rattle.std.specs.Prelude.{◌≡◌, ℕ, ◌+◌, ◌<◌, ◌≤◌, ◌⊎◌, List, [], ◌∷◌, ◌++◌, length, Option}
 use Rattle.std.specs.List.{AllByRecursion}
-use Rattle.std.specs.Io.KnownBytes.{IsAtEnd}
 use Rattle.call_io.specs.Bytes.{Took, Grew, GrewPartly}
 use Rattle.call_io.specs.Counts.{Rose}
-use Rattle.trace_text.specs.Characters.{newline}
 use Rattle.trace_text.specs.Feed.{IsInner}
-use Rattle.trace_text.specs.Lines.{most_bytes, most_in_line}
+use Rattle.trace_text.specs.Lines.{AreWholeLines, IsWhole, most_bytes, most_in_line}
 use Rattle.ecall_top.specs.declared.command.Command.{Command}
 use Rattle.ecall_top.specs.declared.status.Status.{Status}
 use Rattle.ecall_top.specs.declared.status.Status.TheVariants as status
@@ -25,10 +23,6 @@ pub record Streams : Type 0 where
 abbrev pub streams_of : {I O : Type 0} → (left : I → Option (List ℕ)) → (held : O → Option (List ℕ)) → I → O
     → (passes : ℕ) → Streams
 streams_of left held input output passes = record { left = left input; held = held output; passes = passes }
-
--- these bytes are whole lines: there are none, or a newline ends them
-abbrev pub AreWholeLines : List ℕ → Type 0
-AreWholeLines bytes = (bytes ≡ []) ⊎ ((before : List ℕ) × (bytes ≡ before ++ newline ∷ []))
 
 -- This input was taken, and answered whole: the sink grew by exactly the text of this reply to it, and ends were passed
 -- no more often than it gives reason for.
@@ -53,11 +47,6 @@ pub record IsSettled (asked : Option Command) (input : List ℕ) (r : Reply) : T
   pub split : input ≡ front ++ rest
   pub within : length front ≤ most_bytes
   pub replies : (more : List ℕ) → Replies asked (front ++ more) r
-
--- The input was read to its end, and has no more bytes than it may have.
-pub record IsWhole (left : Option (List ℕ)) (input : List ℕ) : Type 0 where
-  pub «end» : IsAtEnd left
-  pub within : length input ≤ most_bytes
 
 -- The input has more bytes than it may have, and no line that ended, or was too long, within these was refused: they
 -- are whole lines, none of them refused, and a line that neither ended nor is too long; and at least one byte follows.

@@ -24,13 +24,13 @@ abbrev pub script_trace : Script → List Entry
 script_trace script = played script.facts script.events
 
 -- the tick that these events reach, where the vehicle's facts are known
-abbrev pub last_tick : Option Facts → List Event → ℕ
-last_tick None events = 0
-last_tick (Some known) events = (world_after (first_world known) events).tick
+abbrev pub tick_after : Option Facts → List Event → ℕ
+tick_after None events = 0
+tick_after (Some known) events = (world_after (first_world known) events).tick
 
 -- the tick at which a script ends
 abbrev pub script_tick : Script → ℕ
-script_tick script = last_tick script.facts script.events
+script_tick script = tick_after script.facts script.events
 
 -- how often the ends are passed at most by these events, where the vehicle's facts are known
 abbrev pub most_passes : Option Facts → List Event → ℕ

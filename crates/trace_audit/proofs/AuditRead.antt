@@ -14,7 +14,7 @@ use Rattle.trace_text.specs.declared.reason.Reason.{Reason}
 use Rattle.trace_text.specs.declared.reason.Reason.TheVariants as reason
 use Rattle.trace_text.specs.EntryLines.{entry_of}
 use Rattle.trace_text.specs.Feed.{Draws, IsDone}
-use Rattle.trace_text.specs.Lines.{IsLine, IsPassedOver, Numbered, line_fault, lines_of, most_bytes}
+use Rattle.trace_text.specs.Lines.{IsWhole, IsLine, IsPassedOver, Numbered, line_fault, lines_of, most_bytes}
 use Rattle.trace_text.specs.Reading.{FindsBad, FindsEnd, FindsLine, FindsTooMany, MayFollow, Reading, ReadsLine, first_reading}
 use Rattle.trace_text.specs.Safety.{Safe}
 use Rattle.trace_audit.specs.declared.audit_lines.Heard.{Heard}
@@ -23,8 +23,9 @@ use Rattle.trace_audit.specs.declared.rules.Rules.{Rules}
 use Rattle.trace_audit.specs.declared.verdict.Verdict.{Verdict}
 use Rattle.trace_audit.specs.declared.verdict.Verdict.TheVariants as verdict
 use Rattle.trace_audit.specs.Audit.{Audits, IsBroken, IsFirst, IsRefused, IsSafeTrace, IsTrace, IsUnrefused, NeverFall, entries_of, in_front, line_says, some_entry}
-use Rattle.trace_audit.specs.Judged.{Judges, last_tick}
-use Rattle.trace_audit.specs.Outcome.{Answered, IsSettled, IsWhole, Outcome}
+use Rattle.trace_text.specs.Tallies.{last_tick}
+use Rattle.trace_audit.specs.Judged.{Judges}
+use Rattle.trace_audit.specs.Outcome.{Answered, IsSettled, Outcome}
 use Rattle.trace_audit.specs.RulesStand.{RulesStandFor}
 use Rattle.trace_audit.specs.inner.AuditTurns.{HeardStandsFor, Hears, HearsLine, IsOfLine, Standing, TakenSoFar, Turn, verdict_of}
 use Rattle.trace_audit.proofs.RulesLemmas.{last_one}
@@ -140,9 +141,11 @@ abbrev Ends : (start left : Option (List ℕ)) → Verdict → Type 0
 Ends start left v = (input : List ℕ) × Answered start left v input × (IsSettled v input ⊎ IsWhole left input)
 
 ends_by : (start left : Option (List ℕ)) (reading : Reading) (v : Verdict) → Ended start left reading v → Ends start left v
-ends_by start left reading v e =
-    (e.front ++ reading.feed.pending, record { took = e.took; audits = e.audits reading.feed.pending e.done },
-    at reading.feed.ended refl)
+ends_by start left reading v e = (
+  e.front ++ reading.feed.pending,
+  record { took = e.took; audits = e.audits reading.feed.pending e.done },
+  at reading.feed.ended refl,
+)
   where
     at : (b : Bool) → reading.feed.ended ≡ b →
         IsSettled v (e.front ++ reading.feed.pending) ⊎ IsWhole left (e.front ++ reading.feed.pending)

@@ -3,4 +3,3 @@ pub mod LegsLemmas
 pub mod RulesLemmas
 pub mod ShownLemmas
 pub mod Takings
-pub mod WholeLines

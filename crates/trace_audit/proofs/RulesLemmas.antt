@@ -19,7 +19,8 @@ use Rattle.trace_audit.specs.declared.legs.Legs.{Legs}
 use Rattle.trace_audit.specs.declared.rules.LegOf.{LegOf}
 use Rattle.trace_audit.specs.declared.rules.Rules.{Rules}
 use Rattle.trace_audit.specs.declared.voice.Voice.{Voice}
-use Rattle.trace_audit.specs.Judged.{Judges, last_tick}
+use Rattle.trace_text.specs.Tallies.{last_tick}
+use Rattle.trace_audit.specs.Judged.{Judges}
 use Rattle.trace_audit.specs.LegsStand.{IsVoiceOf, Keeps, LegsStandFor, voice_at}
 use Rattle.trace_audit.specs.RulesStand.{IsOwed, RulesStandFor}
 use Rattle.trace_audit.specs.ShownStands.{ShownStandsFor}
@@ -304,16 +305,19 @@ pub bounded_yes : (voices : End → ℕ → Option Voice) (t : List Entry) (x : 
 bounded_yes voices t x before are h w soon =
     let within : (e : End) (c : ℕ) → IsWithin e x.tick (leg_at e c t) =
     λ e c. within_leg (muting_limit e) x.tick (voices e c) (leg_at e c t) (are e c) (w e c) in
-    (bounded_one t x x.tick).1
-    (bounded_later t before x.tick h within, late_by voices t are x.tick x.note soon,
-    λ e c. subst (λ (z : Leg). IsWithin e x.tick z) (sym (leg_one e c t x)) (step_within e c (leg_at e c t) x (within e c)))
+    (bounded_one t x x.tick).1 (
+      bounded_later t before x.tick h within,
+      late_by voices t are x.tick x.note soon,
+      λ e c. subst (λ (z : Leg). IsWithin e x.tick z) (sym (leg_one e c t x)) (step_within e c (leg_at e c t) x (within e c)),
+    )
 
 pub bounded_no : (voices : End → ℕ → Option Voice) (t : List Entry) (x : Entry) → AreVoices voices t →
     Bounded (t ++ x ∷ []) x.tick → AllWithin voices x.tick × (is_too_soon voices x.note x.tick ≡ false)
 bounded_no voices t x are h =
-    let b = (bounded_one t x x.tick).0 h in
-    (λ e c v is muted. leg_within (muting_limit e) x.tick (voices e c) (leg_at e c t) (are e c) (b.0 e c).last v is muted,
-    soon_by voices t are x.tick x.note b.1)
+    let b = (bounded_one t x x.tick).0 h in (
+      λ e c v is muted. leg_within (muting_limit e) x.tick (voices e c) (leg_at e c t) (are e c) (b.0 e c).last v is muted,
+      soon_by voices t are x.tick x.note b.1,
+    )
 
 pub opens_by : (leg : LegOf) (o : Option LegOf) (n : Note) (answer : Bool) → o ≡ Some leg →
     (IsTrue answer ↔ (n ≡ note.Voice leg.of leg.call true true)) →
@@ -368,11 +372,12 @@ pub bounded_by : (rules after : Rules) (t : List Entry) (x : Entry) (soon : Bool
 bounded_by rules after t x soon h v p ups upp is =
     let are = voices_stand rules t h.vehicle h.point in
     let same : soon ≡ is_too_soon (voice_of rules) x.note x.tick =
-    is ∙ soon_same (voice_of after) (voice_of rules) (voice_same rules after ups upp) x.note x.tick in
-    (λ a.
-    bounded_yes (voice_of rules) t x (last_tick t) are h.safe.bounded (both_within rules x.tick v p)
-    (sym same ∙ not_true soon a),
-    λ b. ap not (same ∙ (bounded_no (voice_of rules) t x are b).1))
+    is ∙ soon_same (voice_of after) (voice_of rules) (voice_same rules after ups upp) x.note x.tick in (
+      λ a.
+          bounded_yes (voice_of rules) t x (last_tick t) are h.safe.bounded (both_within rules x.tick v p)
+          (sym same ∙ not_true soon a),
+      λ b. ap not (same ∙ (bounded_no (voice_of rules) t x are b).1),
+    )
 
 -- The opening that is owed behind an entry that was taken.
 pub owed_taken : (rules : Rules) (t : List Entry) (x : Entry) (owed : Option LegOf) → RulesStandFor rules t →

@@ -34,6 +34,7 @@ shown_one c r o [] x = (to, from)
     to : IsShown c r o x.note ⊎ ⊥ → ⊥ ⊎ IsShown c r o x.note
     to (inl h) = inr h
     to (inr h) = absurd h
+
     from : ⊥ ⊎ IsShown c r o x.note → IsShown c r o x.note ⊎ ⊥
     from (inl h) = absurd h
     from (inr h) = inl h
@@ -48,6 +49,7 @@ shown_one c r o (y ∷ t) x = (to (shown_one c r o t x).0, from (shown_one c r o
         over : WasShown c r o t ⊎ IsShown c r o x.note → (IsShown c r o y.note ⊎ WasShown c r o t) ⊎ IsShown c r o x.note
         over (inl k) = inl (inr k)
         over (inr k) = inr k
+
     from : (WasShown c r o t ⊎ IsShown c r o x.note → WasShown c r o (t ++ x ∷ [])) →
         (IsShown c r o y.note ⊎ WasShown c r o t) ⊎ IsShown c r o x.note →
         IsShown c r o y.note ⊎ WasShown c r o (t ++ x ∷ [])
@@ -73,22 +75,29 @@ added_at k q was will t x n e h = (to, from)
     one : WasShown q.call q.request q.octets (t ++ x ∷ []) ↔
         (WasShown q.call q.request q.octets t ⊎ IsShown q.call q.request q.octets x.note)
     one = shown_one q.call q.request q.octets t x
+
     here : (k.call ≡ q.call) × (k.request ≡ q.request) × (k.octets ≡ q.octets) → IsShown q.call q.request q.octets x.note
     here p = subst (λ (z : Note). IsShown q.call q.request q.octets z) (sym n) p
+
     back : IsShown q.call q.request q.octets x.note → (k.call ≡ q.call) × (k.request ≡ q.request) × (k.octets ≡ q.octets)
     back p = subst (λ (z : Note). IsShown q.call q.request q.octets z) n p
+
     by : (b : Bool) → same_showing k q ≡ b → cond b true was ≡ true →
         WasShown q.call q.request q.octets t ⊎ IsShown q.call q.request q.octets x.note
     by true s a = let p = (same_parts k q).0 s in inr (here (p.0, p.1.0, p.1.1))
     by false s a = inl (h.0 a)
+
     to : will ≡ true → WasShown q.call q.request q.octets (t ++ x ∷ [])
     to a = one.1 (by (same_showing k q) refl (sym e ∙ a))
+
     keeps : (b : Bool) → was ≡ true → cond b true was ≡ true
     keeps true a = refl
     keeps false a = a
+
     or : WasShown q.call q.request q.octets t ⊎ IsShown q.call q.request q.octets x.note → will ≡ true
     or (inl w) = e ∙ keeps (same_showing k q) (h.1 w)
     or (inr s) = let p = back s in e ∙ ap (λ b. cond b true was) ((same_parts k q).1 (p.0, (p.1, p.2)))
+
     from : WasShown q.call q.request q.octets (t ++ x ∷ []) → will ≡ true
     from w = or (one.0 w)
 

@@ -1,5 +1,5 @@
--- What an audit says of the lines of a trace: over each front of them, whether every line is an entry, whether ticks never
--- fall, and whether the entries are safe. This project's profile. Cited by the contract of `audit`.
+-- What an audit says of the lines of a trace: over each front of them, whether every line is an entry, whether ticks
+-- never fall, and whether the entries are safe. This project's profile. Cited by the contract of `audit`.
 use Rattle.std.specs.Prelude.{◌≡◌, ◌≤◌, ◌<◌, ◌+◌, ◌⊎◌, ℕ, List, [], ◌∷◌, ◌++◌, length, Option, Some, None, Result, Ok, Err, if◌then◌else◌}
 use Rattle.std.specs.List.{AllByRecursion}
 use Rattle.trace_text.specs.declared.entry.Entry.{Entry}
@@ -11,7 +11,8 @@ use Rattle.trace_text.specs.Safety.{Safe}
 use Rattle.trace_audit.specs.declared.rule.Rule.{Rule}
 use Rattle.trace_audit.specs.declared.verdict.Verdict.{Verdict}
 use Rattle.trace_audit.specs.declared.verdict.Verdict.TheVariants as verdict
-use Rattle.trace_audit.specs.Judged.{Judges, last_tick}
+use Rattle.trace_text.specs.Tallies.{last_tick}
+use Rattle.trace_audit.specs.Judged.{Judges}
 
 abbrev pub some_entry : Result Entry Reason → Result (Option Entry) Reason
 some_entry (Ok x) = Ok (Some x)

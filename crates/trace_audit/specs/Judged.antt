@@ -17,9 +17,3 @@ Judges entries now None = Safe entries now
 Judges entries now (Some rule.Agreed) = Agreed entries → ⊥
 Judges entries now (Some rule.Opened) = Agreed entries × (Opened entries → ⊥)
 Judges entries now (Some rule.Bounded) = Agreed entries × Opened entries × (Bounded entries now → ⊥)
-
--- the tick of the last of these entries; 0 where there is none
-abbrev pub last_tick : List Entry → ℕ
-last_tick [] = 0
-last_tick (x ∷ []) = x.tick
-last_tick (x ∷ y ∷ xs) = last_tick (y ∷ xs)

@@ -1,5 +1,5 @@
--- What stands for the legs of one end in all calls: of each leg that is up its voice, and the stretches of muting in the
--- order in which they began. This project's profile. Cited by the relation of `Rules` to a trace.
+-- What stands for the legs of one end in all calls: of each leg that is up its voice, and the stretches of muting in
+-- the order in which they began. This project's profile. Cited by the relation of `Rules` to a trace.
 use Rattle.std.specs.Prelude.{◌≡◌, ◌≤◌, ◌⊎◌, ℕ, true, false, List, [], ◌∷◌, nat_eq, Option, Some, None}
 use Rattle.std.specs.List.{AllByRecursion}
 use Rattle.std.specs.HashMap.{get}
@@ -9,7 +9,7 @@ use Rattle.trace_text.specs.Safety.{Leg, leg_at}
 use Rattle.trace_audit.specs.declared.legs.Legs.{Legs}
 use Rattle.trace_audit.specs.declared.legs.Muting.{Muting}
 use Rattle.trace_audit.specs.declared.voice.Voice.{Voice}
-use Rattle.trace_audit.specs.Judged.{last_tick}
+use Rattle.trace_text.specs.Tallies.{last_tick}
 
 -- the voice that is kept of a call's leg; there is none where the leg isn't up
 abbrev pub voice_at : Legs → ℕ → Option Voice

@@ -2,24 +2,13 @@
 -- profile. Cited by the contract of `audit`. Where a source doesn't tell its bytes, nothing is said of them.
 use Rattle.std.specs.Prelude.{◌≡◌, ℕ, ◌+◌, ◌<◌, ◌≤◌, ◌⊎◌, List, [], ◌∷◌, ◌++◌, length, Option}
 use Rattle.std.specs.List.{AllByRecursion}
-use Rattle.std.specs.Io.KnownBytes.{IsAtEnd}
 use Rattle.call_io.specs.Bytes.{Took}
 use Rattle.call_io.specs.Counts.{Rose}
-use Rattle.trace_text.specs.Characters.{newline}
 use Rattle.trace_text.specs.Feed.{IsInner}
-use Rattle.trace_text.specs.Lines.{lines_of, most_bytes, most_in_line}
+use Rattle.trace_text.specs.Lines.{AreWholeLines, IsWhole, lines_of, most_bytes, most_in_line}
 use Rattle.trace_audit.specs.Audit.{Audits}
 use Rattle.trace_audit.specs.declared.verdict.Verdict.{Verdict}
 use Rattle.trace_audit.specs.declared.verdict.Verdict.TheVariants as verdict
-
--- these bytes are whole lines: there are none, or a newline ends them
-abbrev pub AreWholeLines : List ℕ → Type 0
-AreWholeLines bytes = (bytes ≡ []) ⊎ ((before : List ℕ) × (bytes ≡ before ++ newline ∷ []))
-
--- The input was read to its end, and has no more bytes than it may have.
-pub record IsWhole (left : Option (List ℕ)) (input : List ℕ) : Type 0 where
-  pub «end» : IsAtEnd left
-  pub within : length input ≤ most_bytes
 
 -- The verdict is settled by a front of the input, within the bytes that an input may have: it is that on every input
 -- that begins with it.

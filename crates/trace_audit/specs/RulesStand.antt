@@ -7,7 +7,7 @@ use Rattle.trace_text.specs.declared.entry.Entry.{Entry}
 use Rattle.trace_text.specs.Safety.{OwesOpening, Safe, first_leg}
 use Rattle.trace_audit.specs.declared.rules.LegOf.{LegOf}
 use Rattle.trace_audit.specs.declared.rules.Rules.{Rules}
-use Rattle.trace_audit.specs.Judged.{last_tick}
+use Rattle.trace_text.specs.Tallies.{last_tick}
 use Rattle.trace_audit.specs.LegsStand.{LegsStandFor}
 use Rattle.trace_audit.specs.ShownStands.{ShownStandsFor}
 

@@ -20,8 +20,8 @@ struct Heard {
     items: u64,
 }
 
-/// Reads the trace that a source has, and says whether it is safe. The first line that is refused, or that breaks a rule,
-/// ends the audit. Memory is taken for the legs that are up and the sets that were shown.
+/// Reads the trace that a source has, and says whether it is safe. The first line that is refused, or that breaks a
+/// rule, ends the audit. Memory is taken for the legs that are up and the sets that were shown.
 pub fn audit<I: Source>(alloc: Global, source: &mut I) -> Verdict
     ensures outcome { Outcome (I.left source.old) (I.left source.new) result }
     ensures cause { VerdictCause result (I.faults source.old) (I.faults source.new) }

@@ -85,12 +85,7 @@ impl Legs {
     }
 
     /// Notes the stretch of muting that this voice began, unless it is the voice that was there before.
-    fn note_muting(
-        &mut self,
-        call: u32,
-        before: Option<Voice>,
-        voice: Voice,
-    ) -> Result<(), Memory>
+    fn note_muting(&mut self, call: u32, before: Option<Voice>, voice: Voice) -> Result<(), Memory>
         ensures up { self.new.up ≡ self.old.up }
         ensures muted { OnOk result (NotesMuting call before voice self.old.muted.items self.new.muted.items) }
     {

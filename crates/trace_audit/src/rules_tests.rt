@@ -7,12 +7,7 @@ use link_frames::{End, Note, Request, Timer};
 use std::alloc::Global;
 use trace_text::Entry;
 
-fn hear(
-    alloc: Global,
-    rules: &mut Rules,
-    tick: u64,
-    note: Note,
-) -> Result<Option<Rule>, Memory> {
+fn hear(alloc: Global, rules: &mut Rules, tick: u64, note: Note) -> Result<Option<Rule>, Memory> {
     rules.hear(alloc, &Entry { tick, note })
 }
 
@@ -93,19 +88,37 @@ fn a_voice_opens_where_a_wait_ends(rt: HostRuntime) -> Result<(), Memory> {
     let alloc = rt.alloc();
     let opening = voice(End::Vehicle, true);
     assert_eq!(rt; follows(alloc, End::Vehicle, Timer::T5, opening)?, None);
-    assert_eq!(rt; follows(alloc, End::Vehicle, Timer::T5, Note::Nothing)?, Some(Rule::Opened));
-    assert_eq!(rt; follows(alloc, End::Vehicle, Timer::T3, Note::Nothing)?, None);
-    assert_eq!(rt; follows(alloc, End::Point, Timer::T8, opening)?, Some(Rule::Opened));
+    assert_eq!(rt;
+        follows(alloc, End::Vehicle, Timer::T5, Note::Nothing)?,
+        Some(Rule::Opened)
+    );
+    assert_eq!(rt;
+        follows(alloc, End::Vehicle, Timer::T3, Note::Nothing)?,
+        None
+    );
+    assert_eq!(rt;
+        follows(alloc, End::Point, Timer::T8, opening)?,
+        Some(Rule::Opened)
+    );
     Ok(())
 }
 
 #[test]
 fn a_voice_is_muted_for_no_longer_than_its_limit(rt: HostRuntime) -> Result<(), Memory> {
     let alloc = rt.alloc();
-    assert_eq!(rt; holds(alloc, End::Vehicle, false, 320, Note::Nothing)?, None);
-    assert_eq!(rt; holds(alloc, End::Vehicle, false, 321, Note::Nothing)?, Some(Rule::Bounded));
+    assert_eq!(rt;
+        holds(alloc, End::Vehicle, false, 320, Note::Nothing)?,
+        None
+    );
+    assert_eq!(rt;
+        holds(alloc, End::Vehicle, false, 321, Note::Nothing)?,
+        Some(Rule::Bounded)
+    );
     assert_eq!(rt; holds(alloc, End::Point, false, 275, Note::Nothing)?, None);
-    assert_eq!(rt; holds(alloc, End::Point, false, 276, Note::Nothing)?, Some(Rule::Bounded));
+    assert_eq!(rt;
+        holds(alloc, End::Point, false, 276, Note::Nothing)?,
+        Some(Rule::Bounded)
+    );
     Ok(())
 }
 
@@ -115,8 +128,14 @@ fn a_voice_is_open_for_20_ticks_at_least(rt: HostRuntime) -> Result<(), Memory> 
     let vehicle = voice(End::Vehicle, false);
     let point = voice(End::Point, false);
     assert_eq!(rt; holds(alloc, End::Vehicle, true, 20, vehicle)?, None);
-    assert_eq!(rt; holds(alloc, End::Vehicle, true, 19, vehicle)?, Some(Rule::Bounded));
+    assert_eq!(rt;
+        holds(alloc, End::Vehicle, true, 19, vehicle)?,
+        Some(Rule::Bounded)
+    );
     assert_eq!(rt; holds(alloc, End::Point, true, 20, point)?, None);
-    assert_eq!(rt; holds(alloc, End::Point, true, 19, point)?, Some(Rule::Bounded));
+    assert_eq!(rt;
+        holds(alloc, End::Point, true, 19, point)?,
+        Some(Rule::Bounded)
+    );
     Ok(())
 }

@@ -5,8 +5,8 @@ ghost use Rattle.trace_audit.specs.inner.Legs.{raised, turned, voice_behind, is_
 
 use link_frames::Note;
 
-/// The voice of a leg that is up: whether it is open both ways, and the tick at which this stretch of an open or a muted
-/// voice began.
+/// The voice of a leg that is up: whether it is open both ways, and the tick at which this stretch of an open or a
+/// muted voice began.
 #[derive(Clone, Copy, Debug, PartialEq, Eq)]
 pub(crate) struct Voice {
     pub(crate) talks: bool,

@@ -20,4 +20,5 @@ pub mod OctetsLemmas
 pub mod SkimLemmas
 pub mod SummaryLemmas
 pub mod TallyLemmas
+pub mod WholeLines
 pub mod WordsLemmas

@@ -1,6 +1,8 @@
 -- The lines of a text: where they end, which are refused whatever they say, and which are passed over. This project's
--- profile. Cited by the contracts of `Line` and `Lines`, and by the definition of a script.
-use Rattle.std.specs.Prelude.{◌≡◌, ℕ, ◌==◌, ◌&&◌, nat_le, nat_lt, Bool, true, false, List, [], ◌∷◌, length, Option, Some, None, Result, Ok, Err, if◌then◌else◌}
+-- profile. Cited by the contracts of `Line` and `Lines`, by the definition of a
+-- script, and by what stands on them of an input.
+use Rattle.std.specs.Prelude.{◌≡◌, ◌≤◌, ◌⊎◌, ◌++◌, ℕ, ◌==◌, ◌&&◌, nat_le, nat_lt, Bool, true, false, List, [], ◌∷◌, length, Option, Some, None, Result, Ok, Err, if◌then◌else◌}
+use Rattle.std.specs.Io.KnownBytes.{IsAtEnd}
 use Rattle.std.specs.List.{list_all, onto_first}
 use Rattle.trace_text.specs.Characters.{newline, space, number_sign, tilde}
 use Rattle.trace_text.specs.declared.reason.BadLine.{BadLine}
@@ -53,3 +55,12 @@ IsPassedOver text = (line_fault text ≡ None) × (is_comment text ≡ true)
 -- a line that says something: 1 to 512 bytes, each from 32 to 126, the first of them no `#`
 abbrev pub IsLine : List ℕ → Type 0
 IsLine text = (line_fault text ≡ None) × (is_comment text ≡ false)
+
+-- these bytes are whole lines: there are none, or a newline ends them
+abbrev pub AreWholeLines : List ℕ → Type 0
+AreWholeLines bytes = (bytes ≡ []) ⊎ ((before : List ℕ) × (bytes ≡ before ++ newline ∷ []))
+
+-- The input was read to its end, and has no more bytes than it may have.
+pub record IsWhole (left : Option (List ℕ)) (input : List ℕ) : Type 0 where
+  pub «end» : IsAtEnd left
+  pub within : length input ≤ most_bytes

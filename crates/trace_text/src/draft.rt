@@ -39,7 +39,8 @@ impl Draft {
     /// Adds a line. False is for a candidate of additional data behind four others.
     pub fn add(&mut self, fact: FactLine) -> bool
         ensures answer { (lines : List Line) → DraftOf self.old lines → result ≡ not (is_one_too_many lines fact) }
-        ensures taken { (lines : List Line) → DraftOf self.old lines → is_one_too_many lines fact ≡ false → DraftOf self.new (lines ++ fact ∷ []) }
+        ensures taken { (lines : List Line) → DraftOf self.old lines → is_one_too_many lines fact ≡ false →
+            DraftOf self.new (lines ++ fact ∷ []) }
         ensures kept { result ≡ false → self.new ≡ self.old }
     {
         if self.has_room(&fact) {

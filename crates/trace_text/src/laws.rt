@@ -35,7 +35,8 @@ pub fn safe_traces()
 pub fn summary_laws()
     // Where octets show a set of data, the summary is that of the set, and where they stop, that of the refusal.
     ensures shown { (octets : List ℕ) (msd : Msd) → Shows octets msd → summary_words octets ≡ ok_words msd }
-    ensures stopped { (octets : List ℕ) (refusal : Refusal) → StopsAt octets refusal → summary_words octets ≡ refused_words refusal }
+    ensures stopped { (octets : List ℕ) (refusal : Refusal) → StopsAt octets refusal →
+        summary_words octets ≡ refused_words refusal }
 {}
 
 /// The law of the lines of a trace: a line is read as an entry exactly where it is the line of that entry. So each line

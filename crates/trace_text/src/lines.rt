@@ -54,8 +54,8 @@ impl Lines {
         }
     }
 
-    /// Whether `next` answers without reading the source: the bytes at hand begin with a line that isn't passed over, its
-    /// newline included.
+    /// Whether `next` answers without reading the source: the bytes at hand begin with a line that isn't passed over,
+    /// its newline included.
     pub fn has_line(&self) -> bool
         ensures { result ≡ begins_with_line self.now.feed.pending }
     {
@@ -97,7 +97,8 @@ fn skim<I: Source>(
 ) -> Result<bool, LineFault>
     requires few { number.old ≤ bytes.old.given }
     requires done { IsDone bytes.old }
-    ensures reads { ReadsLine (reading bytes.old number.old text.old.items) (reading bytes.new number.new text.new.items)
+    ensures reads { ReadsLine (reading bytes.old number.old text.old.items)
+        (reading bytes.new number.new text.new.items)
         (I.left source.old) (I.left source.new) result }
     ensures at_hand { begins_with_line bytes.old.pending ≡ true → source.new ≡ source.old }
     ensures stood { OnOk result (I.faults source.new ≡ I.faults source.old) }

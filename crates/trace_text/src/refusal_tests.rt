@@ -7,7 +7,7 @@ use std::process::Abort;
 use std::test::Fail;
 
 /// Asserts that a line of a script is refused for this reason.
-pub fn expect_refused(
+pub(crate) fn expect_refused(
     rt: &impl Abort,
     alloc: Global,
     text: &str,
@@ -19,7 +19,7 @@ pub fn expect_refused(
 }
 
 /// Asserts that a line of `encode` is refused for this reason.
-pub fn expect_not_encoded(
+pub(crate) fn expect_not_encoded(
     rt: &impl Abort,
     alloc: Global,
     text: &str,

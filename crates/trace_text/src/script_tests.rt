@@ -9,7 +9,7 @@ use std::process::Abort;
 use std::test::Fail;
 
 /// What the first line of a text says in a script, where there is one.
-pub fn first_says(
+pub(crate) fn first_says(
     alloc: Global,
     text: &[u8],
 ) -> Result<Option<Result<ScriptLine, BadLine>>, AllocError> {
@@ -22,7 +22,7 @@ pub fn first_says(
 }
 
 /// What the first line of a text says to `encode`, where there is one.
-pub fn first_encodes(
+pub(crate) fn first_encodes(
     alloc: Global,
     text: &[u8],
 ) -> Result<Option<Result<EncodeLine, BadLine>>, AllocError> {
@@ -35,7 +35,7 @@ pub fn first_encodes(
 }
 
 /// Asserts that a line of a script is this event.
-pub fn expect_event(
+pub(crate) fn expect_event(
     rt: &impl Abort,
     alloc: Global,
     text: &str,

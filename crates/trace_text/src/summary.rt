@@ -41,7 +41,8 @@ fn push_ok<const N: usize>(line: &mut ArrayVec<u8, N>, msd: &Msd<'_>)
 /// Appends the message of a set, and whose it is.
 fn push_vehicle<const N: usize>(line: &mut ArrayVec<u8, N>, msd: &Msd<'_>)
     requires { array_vec_len line.old + LONGEST_SUMMARY < N }
-    ensures bytes { line.new.items ≡ line.old.items ++ spaced (codes "ok" ∷ decimal msd.now.message ∷ msd.now.vin ∷ []) }
+    ensures bytes { line.new.items
+        ≡ line.old.items ++ spaced (codes "ok" ∷ decimal msd.now.message ∷ msd.now.vin ∷ []) }
     ensures len { array_vec_len line.new ≤ array_vec_len line.old + 25 }
 {
     push_word(line, "ok");
@@ -53,7 +54,8 @@ fn push_vehicle<const N: usize>(line: &mut ArrayVec<u8, N>, msd: &Msd<'_>)
 fn push_place<const N: usize>(line: &mut ArrayVec<u8, N>, msd: &Msd<'_>)
     requires { array_vec_len line.old + 35 < N }
     ensures bytes { line.new.items
-        ≡ line.old.items ++ spaced (decimal msd.now.time ∷ signed_decimal msd.now.latitude ∷ signed_decimal msd.now.longitude ∷ []) }
+        ≡ line.old.items ++ spaced (decimal msd.now.time ∷ signed_decimal msd.now.latitude
+        ∷ signed_decimal msd.now.longitude ∷ []) }
     ensures len { array_vec_len line.new ≤ array_vec_len line.old + 35 }
 {
     push_number(line, msd.time);

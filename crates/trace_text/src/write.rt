@@ -250,7 +250,8 @@ fn push_ended(line: &mut LineText, end: End, call: u32, timer: Timer)
 fn push_voice(line: &mut LineText, end: End, call: u32, up: bool, down: bool)
     requires { array_vec_len line.old ≤ TICK }
     ensures bytes { line.new.items
-        ≡ line.old.items ++ spaced (codes "voice" ∷ end_word end ∷ decimal call ∷ voice_word up ∷ voice_word down ∷ []) }
+        ≡ line.old.items ++ spaced
+        (codes "voice" ∷ end_word end ∷ decimal call ∷ voice_word up ∷ voice_word down ∷ []) }
     ensures len { array_vec_len line.new < LONGEST_LINE }
 {
     push_leg(line, "voice", end, call);

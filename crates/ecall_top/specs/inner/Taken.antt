@@ -4,7 +4,8 @@ use Rattle.std.specs.Prelude.{◌≡◌, ℕ, true, false, List, [], ◌++◌, l
 use Rattle.std.specs.Io.KnownBytes.{IsAtEnd}
 use Rattle.call_io.specs.Bytes.{Took}
 use Rattle.trace_text.specs.Reading.{Reading}
-use Rattle.ecall_top.specs.Outcome.{Streams, AreWholeLines}
+use Rattle.ecall_top.specs.Outcome.{Streams}
+use Rattle.trace_text.specs.Lines.{AreWholeLines}
 
 -- A front of the input was given in lines, and what was taken beyond it is pending.
 pub record TakenSoFar (start now : Streams) (reading : Reading) (front : List ℕ) : Type 0 where

@@ -10,15 +10,16 @@ use Rattle.trace_text.specs.declared.fault.LineFault.TheVariants as fault
 use Rattle.trace_text.specs.declared.reason.BadLine.{BadLine}
 use Rattle.trace_text.specs.declared.reason.Reason.{Reason}
 use Rattle.trace_text.specs.declared.reason.Reason.TheVariants as reason
-use Rattle.trace_text.specs.Lines.{Numbered, lines_of, most_bytes}
+use Rattle.trace_text.specs.Lines.{AreWholeLines, Numbered, lines_of, most_bytes}
 use Rattle.trace_text.specs.Reading.{MayFollow, Reading}
 use Rattle.trace_audit.specs.Audit.{IsUnrefused, NeverFall, entries_of, line_says}
 use Rattle.trace_audit.specs.declared.audit_lines.Heard.{Heard}
 use Rattle.trace_audit.specs.declared.rule.Rule.{Rule}
 use Rattle.trace_audit.specs.declared.verdict.Verdict.{Verdict}
 use Rattle.trace_audit.specs.declared.verdict.Verdict.TheVariants as verdict
-use Rattle.trace_audit.specs.Judged.{Judges, last_tick}
-use Rattle.trace_audit.specs.Outcome.{AreWholeLines, Outcome}
+use Rattle.trace_text.specs.Tallies.{last_tick}
+use Rattle.trace_audit.specs.Judged.{Judges}
+use Rattle.trace_audit.specs.Outcome.{Outcome}
 use Rattle.trace_audit.specs.RulesStand.{RulesStandFor}
 
 -- What is kept stands for these entries, whose ticks never fall.
@@ -67,8 +68,8 @@ pub record TakenSoFar (start now : Option (List ℕ)) (reading : Reading) (front
   pub «end» : reading.feed.ended ≡ true → IsAtEnd now
   pub lines : reading.feed.ended ≡ false → AreWholeLines front
 
--- The lines so far are those of a front of the input, whatever may follow; none was refused, and what is kept stands for
--- their entries.
+-- The lines so far are those of a front of the input, whatever may follow; none was refused, and what is kept stands
+-- for their entries.
 pub record Standing (start now : Option (List ℕ)) (reading : Reading) (heard : Heard) : Type 0 where
   pub front : List ℕ
   pub taken : TakenSoFar start now reading front

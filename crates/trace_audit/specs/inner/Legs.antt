@@ -69,4 +69,5 @@ AreWithin voices now limit = (c : ℕ) (v : Voice) → voices c ≡ Some v → v
 -- that it is muted
 pub record NotesMuting (call : ℕ) (before : Option Voice) (v : Voice) (old new : List Muting) : Type 0 where
   pub still : v.talks || is_muted_since before v.since ≡ true → new ≡ old
-  pub noted : v.talks || is_muted_since before v.since ≡ false → new ≡ old ++ (record { call = call; since = v.since }) ∷ []
+  pub noted : v.talks || is_muted_since before v.since ≡ false
+      → new ≡ old ++ (record { call = call; since = v.since }) ∷ []

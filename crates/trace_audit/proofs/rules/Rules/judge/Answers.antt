@@ -14,11 +14,11 @@ pub returns-then-not-opens-clause-judged : goal.returns-then-not-opens-clause-ju
 returns-then-not-opens-clause-judged c =
     λ before h le. (
       (agreed_by before c.args.entry.now c.agrees.result h.safe.agreed (c.agrees.ensures before h.shown)).0
-      c.if-not-agrees.false,
+          c.if-not-agrees.false,
       λ o.
-      false≢true
-      (sym c.if-not-opens.true
-      ∙ (opened_by c.args.self.now.owed before c.args.entry.now c.opens.result h.safe.opened h.owed c.opens.ensures).1 o),
+          false≢true
+          (sym c.if-not-opens.true
+          ∙ (opened_by c.args.self.now.owed before c.args.entry.now c.opens.result h.safe.opened h.owed c.opens.ensures).1 o),
     )
 
 pub returns-then-is_bounded-clause-judged : goal.returns-then-is_bounded-clause-judged
@@ -35,8 +35,8 @@ pub returns-else-is_bounded-clause-judged : goal.returns-else-is_bounded-clause-
 returns-else-is_bounded-clause-judged c =
     λ before h le. (
       (agreed_by before c.args.entry.now c.agrees.result h.safe.agreed (c.agrees.ensures before h.shown)).0
-      c.if-not-agrees.false,
+          c.if-not-agrees.false,
       (opened_by c.args.self.now.owed before c.args.entry.now c.opens.result h.safe.opened h.owed c.opens.ensures).0
-      c.if-not-opens.false,
+          c.if-not-opens.false,
       λ b. false≢true (sym c.if-is_bounded.false ∙ (c.is_bounded.ensures.bounded before h le).1 b),
     )

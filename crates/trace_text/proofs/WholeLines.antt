@@ -4,8 +4,7 @@ use Rattle.std.specs.List.{onto_first}
 use Rattle.std.proofs.Common.{sym, ◌∙◌, ap, refl, append_assoc, inl, inr, arith, length-append, subst}
 use Rattle.std.proofs.lemmas.List.{append-nil}
 use Rattle.std.proofs.lemmas.Bool.Decides.{eqb_tells}
-use Rattle.trace_text.specs.Lines.{lines_of}
-use Rattle.ecall_top.specs.Outcome.{AreWholeLines}
+use Rattle.trace_text.specs.Lines.{AreWholeLines, lines_of}
 
 newline_first : (b : ℕ) (bytes : List ℕ) → (b == 10) ≡ true → lines_of (b ∷ bytes) ≡ [] ∷ lines_of bytes
 unfolding lines_of
