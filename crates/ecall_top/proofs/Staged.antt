@@ -48,7 +48,7 @@ module _ (Grew Partly : List Entry → Type 0) (Counted : ℕ → Type 0) (old n
     (answer : Result (Unit {0}) Halt) where
   -- what is played in this world, where the model's world is this one
   abbrev Plays : World → model.World → Event → Result (Unit {0}) Halt → Type 0
-  Plays world w e r = PlaysEvent Grew Partly Counted world new (step w e) (passes_within w e) r
+  Plays world w e r = PlaysEvent Grew Partly Counted world new.world (step w e) (passes_within w e) r
 
   obeys_event : (world : World) (said : Said) (events : List Event) (known : Facts) (e : Event)
       → facts_in said.facts ≡ Some known → calls_drawn world ≤ calls_in old → ticks_reached world ≤ ticks_in old

@@ -1,6 +1,6 @@
 //! What a script that is being played has come to.
 
-ghost use Rattle.std.specs.Prelude.{◌≡◌, ℕ, ◌+◌, ◌^◌, ◌<◌, ◌≤◌, List, []};
+ghost use Rattle.std.specs.Prelude.{◌≡◌, ℕ, ◌+◌, ◌^◌, ◌<◌, ◌≤◌, List, [], None, Some};
 ghost use Rattle.trace_text.specs.declared.event.Event.{Event};
 ghost use Rattle.trace_text.specs.Script.{Said, nothing_said};
 ghost use Rattle.channel_sim.specs.Lines as lines;
@@ -105,39 +105,56 @@ impl Stage {
         ensures unwritten { HaltWriteCause result (H.faults to.old) (H.faults to.new) }
         ensures counted { H.faults to.old ≤ H.faults to.new }
     {
-        match self.world.take() {
-            Some(world) => self.play(world, alloc, event, to, moments),
-            None => match self.draft.facts() {
-                None => Err(Halt::Refused(Reason::Missing)),
-                Some(facts) => self.play(World::new(alloc, facts), alloc, event, to, moments),
-            },
+        match &mut self.world {
+            Some(world) => play(world, alloc, event, to, moments),
+            None => self.begin(alloc, event, to, moments),
         }
     }
 
-    /// Plays an event in this world, which is the stage's from then on.
-    fn play<H: Listener, L: Ledger>(
+    /// Plays the first event, in the first world, which knows the facts so far.
+    fn begin<H: Listener, L: Ledger>(
         &mut self,
-        world: World,
         alloc: Global,
         event: &Event,
         to: &mut H,
         moments: &mut Steps<L>,
     ) -> Result<(), Halt>
-        requires few { calls_drawn world < 4294967295 }
-        requires soon { ticks_reached world + 4294967295 < 2 ^ 64 }
-        ensures played { (w : model.World) → WorldStandsFor world w →
-            PlaysEvent (H.grew to.old to.new) (H.partly to.old to.new) (λ n. moments.new ≤ moments.old + n)
-            world self.new (lines.step w event.now) (lines.passes_within w event.now) result }
+        requires first { self.old.world ≡ None }
+        ensures obeys { (said : Said) (events : List Event) → StageStandsFor self.old said events →
+            Obeys (H.grew to.old to.new) (H.partly to.old to.new) (λ n. moments.new ≤ moments.old + n)
+            self.old self.new said events (line.Event event.now) result }
         ensures unwritten { HaltWriteCause result (H.faults to.old) (H.faults to.new) }
         ensures counted { H.faults to.old ≤ H.faults to.new }
     {
-        ticks_are_few(event);
-        match world.step(alloc, event, to, moments) {
-            Ok(next) => {
-                self.world = Some(next);
-                Ok(())
-            }
-            Err(fault) => Err(Halt::Sim(fault)),
-        }
+        let Some(facts) = self.draft.facts() else {
+            return Err(Halt::Refused(Reason::Missing));
+        };
+        let mut world = World::new(alloc, facts);
+        let played = play(&mut world, alloc, event, to, moments);
+        self.world = Some(world);
+        played
+    }
+}
+
+/// Plays an event in a world.
+fn play<H: Listener, L: Ledger>(
+    world: &mut World,
+    alloc: Global,
+    event: &Event,
+    to: &mut H,
+    moments: &mut Steps<L>,
+) -> Result<(), Halt>
+    requires few { calls_drawn world.old < 4294967295 }
+    requires soon { ticks_reached world.old + 4294967295 < 2 ^ 64 }
+    ensures played { (w : model.World) → WorldStandsFor world.old w →
+        PlaysEvent (H.grew to.old to.new) (H.partly to.old to.new) (λ n. moments.new ≤ moments.old + n)
+        world.old (Some world.new) (lines.step w event.now) (lines.passes_within w event.now) result }
+    ensures unwritten { HaltWriteCause result (H.faults to.old) (H.faults to.new) }
+    ensures counted { H.faults to.old ≤ H.faults to.new }
+{
+    ticks_are_few(event);
+    match world.advance(alloc, event, to, moments) {
+        Ok(()) => Ok(()),
+        Err(fault) => Err(Halt::Sim(fault)),
     }
 }

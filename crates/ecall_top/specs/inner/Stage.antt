@@ -87,10 +87,10 @@ StandsIn (Some world) w = WorldStandsFor world w
 
 -- what the answer to an event says, where a world stood for the model's
 abbrev pub PlaysEvent : {A : Type 0} → (Grew Partly : List Entry → Type 0) → (Counted : ℕ → Type 0) → (old : World)
-    → (new : Stage) → model.Step → (passes : ℕ) → Result A Halt → Type 0
+    → (new : Option World) → model.Step → (passes : ℕ) → Result A Halt → Type 0
 PlaysEvent Grew Partly Counted old new step passes (Ok done) =
-    Grew step.entries × StandsIn new.world step.world × (calls_in new ≤ calls_drawn old + 1)
-    × (ticks_in new ≤ ticks_reached old + 4294967295) × Counted passes
+    Grew step.entries × StandsIn new step.world × (calls_by new ≤ calls_drawn old + 1)
+    × (ticks_by new ≤ ticks_reached old + 4294967295) × Counted passes
 PlaysEvent Grew Partly Counted old new step passes (Err (halt.Refused why)) = ⊥
 PlaysEvent Grew Partly Counted old new step passes (Err (halt.Sim fault)) = Partly step.entries
 

@@ -1,4 +1,4 @@
-use Rattle.ecall_top.proofs.stage.Stage.play.Goals as goal
+use Rattle.ecall_top.proofs.stage.play.Goals as goal
 
 pub returns-in-Ok-clause-played : goal.returns-in-Ok-clause-played
 returns-in-Ok-clause-played g c = λ w stands.
