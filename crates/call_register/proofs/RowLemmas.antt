@@ -11,10 +11,9 @@ use Rattle.link_frames.specs.declared.frame.End.TheVariants as «end»
 use Rattle.link_frames.specs.declared.note.Note.{Note}
 use Rattle.link_frames.specs.declared.note.Note.TheVariants as note
 use Rattle.link_frames.specs.declared.note.Why.{Why}
-use Rattle.trace_text.specs.declared.entry.Entry.{Entry}
 use Rattle.call_register.specs.Rows.{Row, Rows}
 use Rattle.call_register.specs.Table.{row_of}
-use Rattle.call_register.specs.inner.Heard.{at_call, has_call, heard, listed, row_behind, with_call, with_ending, with_set}
+use Rattle.call_register.specs.inner.Heard.{at_call, has_call, heard, listed, with_call, with_ending, with_set}
 use Rattle.call_register.specs.declared.record.Ending.{Ending}
 use Rattle.call_register.specs.declared.record.ShownSet.{ShownSet}
 

@@ -9,7 +9,6 @@ use Rattle.json.specs.Print.{quoted}
 use Rattle.trace_text.specs.EntryLine.{why_word}
 use Rattle.call_register.specs.Rows.{Row, Rows}
 use Rattle.call_register.specs.Vins.{vin_of}
-use Rattle.call_register.specs.declared.record.Ending.{Ending}
 use Rattle.call_register.specs.declared.record.ShownSet.{ShownSet}
 
 -- the text, or `null` where there is none

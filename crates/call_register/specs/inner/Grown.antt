@@ -1,6 +1,6 @@
 -- What it means that a register grew by some entries, and the laws of it that a listener owes. Scaffolding: cited by
 -- the register.
-use Rattle.std.proofs.Common.{◌≡◌, List, [], ◌++◌, sym, ap, ◌∙◌, append_assoc}
+use Rattle.std.proofs.Common.{List, [], ◌++◌, sym, ap, ◌∙◌, append_assoc}
 use Rattle.std.proofs.lemmas.List.{append-nil}
 use Rattle.trace_text.specs.declared.entry.Entry.{Entry}
 use Rattle.call_register.specs.Rows.{Rows}
