@@ -1,5 +1,5 @@
 -- An item that was read of words is one whose words these are.
-use Rattle.std.proofs.Common.{◌≡◌, ℕ, List, [], ◌∷◌, codes, decimal, ◌++◌, Ok, Err, refl, sym, ap, subst, ◌∙◌}
+use Rattle.std.proofs.Common.{◌≡◌, ℕ, List, ◌∷◌, codes, decimal, ◌++◌, Ok, Err, refl, sym, ap, subst, ◌∙◌}
 use Rattle.std.specs.Str.{bytes_eq}
 use Rattle.std.proofs.lemmas.Bool.{cond_both}
 use Rattle.std.proofs.lemmas.Slice.Eq.{bytes_eq-Decides}
@@ -8,12 +8,11 @@ use Rattle.link_frames.specs.declared.note.Note.{Note}
 use Rattle.link_frames.specs.declared.note.Note.TheVariants as note
 use Rattle.trace_text.specs.Choices.{direction}
 use Rattle.trace_text.specs.EntryChoices.{item_of, timer_of, voice_of, why_of}
-use Rattle.trace_text.specs.EntryLine.{end_word, net_word, timer_word, voice_word, why_word, note_words, spaced}
+use Rattle.trace_text.specs.EntryLine.{end_word, net_word, timer_word, voice_word, why_word, spaced}
 use Rattle.trace_text.specs.EntryLines.{next_leg, next_net, next_set, next_timer, next_voice, next_why, next_item, note_by_words, note_of, summed, net_note, down_note, voice_note, send_note, shown_note, acked_note, ended_note, frame_by_words}
 use Rattle.trace_text.specs.Summary.{summary_words}
 use Rattle.trace_text.specs.declared.entries.kinds.Item.{Item}
 use Rattle.trace_text.specs.declared.entries.kinds.Item.TheVariants as item
-use Rattle.trace_text.specs.declared.reason.Reason.{Reason}
 use Rattle.trace_text.specs.declared.reason.Reason.TheVariants as reason
 use Rattle.trace_text.proofs.EntryChoicesBack.{item-back, item_word, net-back, timer-back, voice-back, why-back}
 use Rattle.trace_text.proofs.EntryReads.{Says, call-note, choice-next, dial-note, followed-back, frames-back, last-back, last-note, leg-next, leg-note, made-back, note-same, set-next}

@@ -1,5 +1,5 @@
 -- The words of an entry are read as the entry.
-use Rattle.std.proofs.Common.{◌≡◌, ℕ, ◌<◌, ◌≤◌, ◌^◌, true, List, [], ◌∷◌, ◌++◌, codes, decimal, Some, Ok, refl, sym, ap, subst, ◌∙◌, arith}
+use Rattle.std.proofs.Common.{◌≡◌, ℕ, ◌<◌, ◌^◌, true, List, [], ◌∷◌, ◌++◌, codes, decimal, Some, Ok, refl, sym, ap, ◌∙◌, arith}
 use Rattle.std.specs.Str.{bytes_eq}
 use Rattle.std.proofs.lemmas.Slice.Eq.{bytes_eq-Decides}
 use Rattle.hex.specs.Hex.{encode_lower}
@@ -7,13 +7,12 @@ use Rattle.link_frames.specs.declared.frame.Frame.{Frame}
 use Rattle.link_frames.specs.declared.frame.Frame.TheVariants as frame
 use Rattle.link_frames.specs.declared.note.Note.{Note}
 use Rattle.link_frames.specs.declared.note.Note.TheVariants as note
-use Rattle.trace_text.specs.EntryLine.{answer_word, end_word, net_word, timer_word, voice_word, why_word, frame_words, note_words, spaced}
+use Rattle.trace_text.specs.EntryLine.{frame_words, note_words, spaced}
 use Rattle.trace_text.specs.EntryLines.{IsCall, IsDial, IsFrame, IsNote, IsRequest, IsSet, frame_by_words, note_by_words, summed}
 use Rattle.trace_text.specs.Numbers.{natural_below, positive_below}
 use Rattle.trace_text.specs.Summary.{summary_words}
-use Rattle.trace_text.specs.declared.entries.kinds.FrameKind.TheVariants as kind
 use Rattle.trace_text.specs.declared.entries.kinds.Item.TheVariants as item
-use Rattle.trace_text.proofs.EntryChoicesBack.{answer-read, end-read, item-read, kind-read, net-read, timer-read, voice-read, why-read}
+use Rattle.trace_text.proofs.EntryChoicesBack.{answer-read, end-read, item-read, net-read, timer-read, voice-read, why-read}
 use Rattle.trace_text.proofs.EntryNumbers.{natural_below-decimal, positive_below-decimal, word-decimal}
 use Rattle.trace_text.proofs.EntryOctets.{set_octets-encode, word-encode}
 use Rattle.trace_text.proofs.EntryWords.{AreWords, IsWord, behind, behind-words, spaced-behind, words-front}

@@ -1,8 +1,7 @@
 -- A line is read as an entry exactly where it is the line of the entry.
-use Rattle.std.proofs.Common.{◌≡◌, ℕ, ◌<◌, ◌^◌, List, [], ◌∷◌, ◌++◌, decimal, Result, Ok, refl, sym, ap, subst, ◌∙◌, arith}
+use Rattle.std.proofs.Common.{◌≡◌, ℕ, ◌<◌, ◌^◌, List, [], ◌∷◌, ◌++◌, decimal, Ok, refl, sym, ap, subst, ◌∙◌, arith}
 use Rattle.std.specs.Prelude.{◌↔◌}
 use Rattle.std.proofs.lemmas.List.{append_cancel_right}
-use Rattle.link_frames.specs.declared.note.Note.{Note}
 use Rattle.trace_text.specs.EntryLine.{line_of, note_words, spaced}
 use Rattle.trace_text.specs.EntryLines.{IsEntry, IsNote, entry_of, entry_by_words, next_tick, note_by_words}
 use Rattle.trace_text.specs.Words.{words}

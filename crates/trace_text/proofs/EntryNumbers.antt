@@ -1,5 +1,5 @@
 -- The number that decimal digits spell is the one whose decimal digits they are.
-use Rattle.std.proofs.Common.{◌≡◌, ℕ, ◌<◌, ◌≤◌, ◌^◌, not, Bool, true, false, ◌&&◌, ◌||◌, ltb, inl, inr, List, [], ◌∷◌, length, get_or, decimal, codes, Option, Some, None, refl, sym, ap, ◌∙◌, arith}
+use Rattle.std.proofs.Common.{◌≡◌, ℕ, ◌<◌, ◌≤◌, ◌^◌, not, Bool, true, false, ◌&&◌, ◌||◌, ltb, inl, inr, List, [], ◌∷◌, length, get_or, decimal, codes, Some, refl, sym, ap, ◌∙◌, arith}
 use Rattle.std.specs.List.{list_all}
 use Rattle.std.specs.Str.{bytes_eq}
 use Rattle.std.proofs.lemmas.Bool.{ltb-true, lt-ltb, cases_eq}

@@ -1,15 +1,14 @@
 -- The octets of a set and their 280 digits.
-use Rattle.std.proofs.Common.{◌≡◌, ℕ, suc, zero, ◌+◌, ◌*◌, ◌/◌, ◌%◌, ◌<◌, ◌==◌, not, Bool, true, false, ◌&&◌, ◌||◌, eqb, ltb, leb, List, [], ◌∷◌, length, slice_index, Option, Some, None, unwrap_or, Result, Ok, Err, refl, sym, ap, ◌∙◌, arith}
-use Rattle.std.specs.List.{list_all, AllByRecursion}
-use Rattle.std.proofs.lemmas.Bool.{agree_below, agree_below_at, cond_both, eqb-true, eq-eqb, ltb-true, lt-ltb, leb-true}
-use Rattle.hex.specs.Hex.{IsBytes, decode_of, decode_pairs, digit_or_error, encode_lower, encode_with, hex_digit_value, lower_digits, pair_value, value_at, ◌>>=◌}
+use Rattle.std.proofs.Common.{◌≡◌, ℕ, suc, zero, ◌+◌, ◌*◌, ◌/◌, ◌%◌, ◌<◌, ◌==◌, not, Bool, true, ◌&&◌, ◌||◌, eqb, ltb, List, [], ◌∷◌, length, slice_index, Option, Some, None, unwrap_or, Result, Ok, Err, refl, sym, ap, ◌∙◌, arith}
+use Rattle.std.specs.List.{list_all}
+use Rattle.std.proofs.lemmas.Bool.{agree_below, agree_below_at, cond_both, eqb-true, lt-ltb}
+use Rattle.hex.specs.Hex.{IsBytes, decode_pairs, digit_or_error, encode_lower, encode_with, hex_digit_value, lower_digits, pair_value, value_at, ◌>>=◌}
 use Rattle.hex.specs.declared.error.FromHexError.{FromHexError}
 use Rattle.hex.proofs.HexLemmas.{decode_of-encode_lower, decode_of-even, decode_of-ok, length-encode_with}
 use Rattle.per_bits.specs.Parts.{AreOctets}
 use Rattle.trace_text.specs.Characters.{is_space}
 use Rattle.trace_text.specs.EntryLines.{IsSet, is_lower_digit, set_octets}
 use Rattle.trace_text.specs.Hexadecimal.{octets_of}
-use Rattle.trace_text.specs.Numbers.{is_digit}
 use Rattle.trace_text.proofs.EntryWords.{IsWord}
 use Rattle.trace_text.proofs.NumberLemmas.{first_true, second_true}
 use Rattle.trace_text.proofs.OctetsLemmas.{octets_of-decodes, set_octets-digits}

@@ -1,29 +1,18 @@
 -- The words of a line that were read say what they stand for, and the words of an entry are read.
-use Rattle.std.proofs.Common.{◌≡◌, ℕ, ◌+◌, ◌<◌, ◌≤◌, ◌^◌, Bool, List, [], ◌∷◌, ◌++◌, codes, decimal, Option, Some, None, Result, Ok, Err, refl, sym, ap, subst, ◌∙◌, arith, rules}
-use Rattle.std.specs.Str.{bytes_eq}
-use Rattle.std.proofs.lemmas.Bool.{cond_both}
-use Rattle.std.proofs.lemmas.Slice.Eq.{bytes_eq-Decides}
+use Rattle.std.proofs.Common.{◌≡◌, ℕ, ◌<◌, ◌≤◌, ◌^◌, List, [], ◌∷◌, codes, decimal, Option, Some, None, Result, Ok, Err, refl, sym, ap, subst, ◌∙◌, arith}
 use Rattle.hex.specs.Hex.{encode_lower}
-use Rattle.link_frames.specs.declared.frame.Answer.{Answer}
 use Rattle.link_frames.specs.declared.frame.End.{End}
 use Rattle.link_frames.specs.declared.frame.Frame.{Frame}
 use Rattle.link_frames.specs.declared.frame.Frame.TheVariants as frame
 use Rattle.link_frames.specs.declared.note.Note.{Note}
-use Rattle.link_frames.specs.declared.note.Note.TheVariants as note
-use Rattle.link_frames.specs.declared.note.Timer.{Timer}
-use Rattle.link_frames.specs.declared.note.Why.{Why}
-use Rattle.trace_text.specs.Choices.{direction}
-use Rattle.trace_text.specs.EntryChoices.{answer_of, end_of, item_of, kind_of, timer_of, voice_of, why_of}
-use Rattle.trace_text.specs.EntryLine.{answer_word, end_word, net_word, timer_word, voice_word, why_word, frame_words, note_words, spaced}
-use Rattle.trace_text.specs.EntryLines.{IsCall, IsDial, IsFrame, IsNote, IsRequest, IsSet, Taken, taken, judged, followed, made, no_more, last, summed, next_answer, next_attempt, next_call, next_dial, next_end, next_item, next_kind, next_leg, next_net, next_octets, next_request, next_set, next_tick, next_timer, next_voice, next_why, only_call, only_dial, only_leg, only_request, frame_of, frame_by_words, data_frame, app_frame, note_of, note_by_words, leg_note, net_note, down_note, voice_note, send_note, ended_note, shown_note, acked_note}
+use Rattle.trace_text.specs.EntryChoices.{answer_of, end_of, kind_of}
+use Rattle.trace_text.specs.EntryLine.{answer_word, end_word, frame_words, note_words, spaced}
+use Rattle.trace_text.specs.EntryLines.{IsCall, IsDial, IsFrame, IsNote, IsRequest, IsSet, Taken, taken, judged, followed, made, last, next_answer, next_attempt, next_call, next_dial, next_end, next_kind, next_leg, next_octets, next_request, next_set, next_tick, only_call, only_dial, only_leg, only_request, frame_of, frame_by_words, leg_note}
 use Rattle.trace_text.specs.Numbers.{natural_below, positive_below}
-use Rattle.trace_text.specs.Summary.{summary_words}
 use Rattle.trace_text.specs.declared.entries.kinds.FrameKind.{FrameKind}
 use Rattle.trace_text.specs.declared.entries.kinds.FrameKind.TheVariants as kind
-use Rattle.trace_text.specs.declared.entries.kinds.Item.{Item}
-use Rattle.trace_text.specs.declared.entries.kinds.Item.TheVariants as item
 use Rattle.trace_text.specs.declared.reason.Reason.{Reason}
-use Rattle.trace_text.proofs.EntryChoicesBack.{Names, answer-back, end-back, item-back, item_word, kind-back, kind_word, net-back, timer-back, voice-back, why-back}
+use Rattle.trace_text.proofs.EntryChoicesBack.{Names, answer-back, end-back, kind-back, kind_word}
 use Rattle.trace_text.proofs.EntryNumbers.{natural_below-back, positive_below-back}
 use Rattle.trace_text.proofs.EntryOctets.{set_octets-back}
 

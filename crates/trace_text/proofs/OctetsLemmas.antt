@@ -1,5 +1,5 @@
 -- The octets of a ready set, and of a candidate of additional data.
-use Rattle.std.proofs.Common.{◌≡◌, ℕ, ◌-◌, eqb, eq-eqb, ◌&&◌, ◌/◌, ◌≤◌, true, leb, ltb, List, [], ◌++◌, length, take, drop, replicate, Option, Some, None, Result, Ok, Err, refl, ap, sym, ◌∙◌, arith}
+use Rattle.std.proofs.Common.{◌≡◌, ℕ, ◌-◌, eqb, eq-eqb, ◌/◌, ◌≤◌, true, leb, ltb, List, ◌++◌, length, take, drop, replicate, Option, Some, None, Result, Ok, Err, refl, ap, sym, ◌∙◌, arith}
 use Rattle.std.proofs.Math.Seq.{take-append_seam}
 use Rattle.hex.proofs.HexLemmas.{decode_of-ok}
 use Rattle.std.specs.List.{list_all}

@@ -1,6 +1,6 @@
 -- The counts of a trace behind one entry more, and the laws of the listener `Tally`. This project's profile.
 -- Scaffolding: cited by the contracts of private functions, and by the listener's laws.
-use Rattle.std.proofs.Common.{◌≡◌, ℕ, ◌+◌, Bool, true, false, List, [], ◌∷◌, ◌++◌, sym, ap, ◌∙◌, append_assoc}
+use Rattle.std.proofs.Common.{ℕ, ◌+◌, Bool, true, List, [], ◌++◌, sym, ap, ◌∙◌, append_assoc}
 use Rattle.std.specs.Prelude.{min, if◌then◌else◌}
 use Rattle.std.proofs.lemmas.List.{append-nil}
 use Rattle.trace_text.specs.Tallies.{TallyGrew, is_acked, is_answered, is_shown, most_counted, tally_of}

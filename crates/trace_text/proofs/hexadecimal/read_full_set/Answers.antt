@@ -1,5 +1,4 @@
 use Rattle.std.proofs.Common.{sym, ◌∙◌}
-use Rattle.std.proofs.lemmas.Bool.{eqb-true}
 use Rattle.trace_text.proofs.OctetsLemmas.{full-set}
 use Rattle.trace_text.proofs.hexadecimal.read_full_set.Goals as goal
 

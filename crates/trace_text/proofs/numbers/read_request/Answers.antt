@@ -1,4 +1,4 @@
-use Rattle.std.proofs.Common.{◌≤◌, ◌∙◌, arith}
+use Rattle.std.proofs.Common.{◌∙◌}
 use Rattle.trace_text.proofs.FactLemmas.{is_given}
 use Rattle.trace_text.proofs.numbers.read_request.Goals as goal
 
