@@ -1,9 +1,9 @@
 -- What the lines that were read say of the verdict of an audit, and how an audit ends.
-use Rattle.std.specs.Prelude.{◌≡◌, ◌≤◌, ◌<◌, ◌+◌, ◌⊎◌, ℕ, Bool, true, false, List, [], ◌∷◌, ◌++◌, length, Option, Some, None, Result, Ok, Err, if◌then◌else◌}
+use Rattle.std.specs.Prelude.{◌≡◌, ◌≤◌, ◌+◌, ◌⊎◌, ℕ, Bool, true, false, List, [], ◌∷◌, ◌++◌, length, Option, Some, None, Result, Ok, Err}
 use Rattle.std.specs.List.{AllByRecursion}
 use Rattle.std.specs.Io.KnownBytes.{IsAtEnd}
 use Rattle.std.proofs.Common.{refl, sym, ap, subst, ◌∙◌, inl, inr, arith, append_assoc, length-append}
-use Rattle.std.proofs.lemmas.Bool.{false≢true, true≢false}
+use Rattle.std.proofs.lemmas.Bool.{false≢true}
 use Rattle.std.proofs.lemmas.List.{append-nil}
 use Rattle.call_io.specs.Bytes.{Took}
 use Rattle.trace_text.specs.declared.entry.Entry.{Entry}
@@ -13,7 +13,7 @@ use Rattle.trace_text.specs.declared.reason.BadLine.{BadLine}
 use Rattle.trace_text.specs.declared.reason.Reason.{Reason}
 use Rattle.trace_text.specs.declared.reason.Reason.TheVariants as reason
 use Rattle.trace_text.specs.EntryLines.{entry_of}
-use Rattle.trace_text.specs.Feed.{Draws, IsDone}
+use Rattle.trace_text.specs.Feed.{IsDone}
 use Rattle.trace_text.specs.Lines.{IsWhole, IsLine, IsPassedOver, Numbered, line_fault, lines_of, most_bytes}
 use Rattle.trace_text.specs.Reading.{FindsBad, FindsEnd, FindsLine, FindsTooMany, MayFollow, Reading, ReadsLine, first_reading}
 use Rattle.trace_text.specs.Safety.{Safe}
@@ -22,12 +22,12 @@ use Rattle.trace_audit.specs.declared.rule.Rule.{Rule}
 use Rattle.trace_audit.specs.declared.rules.Rules.{Rules}
 use Rattle.trace_audit.specs.declared.verdict.Verdict.{Verdict}
 use Rattle.trace_audit.specs.declared.verdict.Verdict.TheVariants as verdict
-use Rattle.trace_audit.specs.Audit.{Audits, IsBroken, IsFirst, IsRefused, IsSafeTrace, IsTrace, IsUnrefused, NeverFall, entries_of, in_front, line_says, some_entry}
+use Rattle.trace_audit.specs.Audit.{Audits, IsRefused, IsSafeTrace, IsUnrefused, NeverFall, entries_of, in_front, line_says, some_entry}
 use Rattle.trace_text.specs.Tallies.{last_tick}
 use Rattle.trace_audit.specs.Judged.{Judges}
 use Rattle.trace_audit.specs.Outcome.{Answered, IsSettled, Outcome}
 use Rattle.trace_audit.specs.RulesStand.{RulesStandFor}
-use Rattle.trace_audit.specs.inner.AuditTurns.{HeardStandsFor, Hears, HearsLine, IsOfLine, Standing, TakenSoFar, Turn, verdict_of}
+use Rattle.trace_audit.specs.inner.AuditTurns.{HeardStandsFor, Hears, HearsLine, Standing, TakenSoFar, Turn, verdict_of}
 use Rattle.trace_audit.proofs.RulesLemmas.{last_one}
 use Rattle.trace_audit.proofs.Takings.{AtHand, at_end, at_hand, front_follows, front_whole, front_within, taken_behind, taken_first, taken_whole, too_many_follow, too_many_whole, whole_end}
 
@@ -140,7 +140,8 @@ record Ended (start left : Option (List ℕ)) (reading : Reading) (v : Verdict) 
 abbrev Ends : (start left : Option (List ℕ)) → Verdict → Type 0
 Ends start left v = (input : List ℕ) × Answered start left v input × (IsSettled v input ⊎ IsWhole left input)
 
-ends_by : (start left : Option (List ℕ)) (reading : Reading) (v : Verdict) → Ended start left reading v → Ends start left v
+ends_by : (start left : Option (List ℕ)) (reading : Reading) (v : Verdict) → Ended start left reading v →
+    Ends start left v
 ends_by start left reading v e = (
   e.front ++ reading.feed.pending,
   record { took = e.took; audits = e.audits reading.feed.pending e.done },
@@ -202,15 +203,18 @@ found start now left old new heard s reads =
           (at_hand start now old new left s.front reads.taken s.taken reads.draws) f;
       number = simp length-append (omega (arith, s.number, f.last));
       safe = safe_lines s.lines f.passed heard s.each f.each s.stands;
-      stands = subst (λ (es : List Entry). HeardStandsFor heard es) (sym (entries_behind s.lines f.passed f.each)) s.stands;
+      stands = subst (λ (es : List Entry). HeardStandsFor heard es) (sym (entries_behind s.lines f.passed f.each))
+          s.stands;
       says = says_line new.text f.says;
       done = reads.done;
       within = front_within start now old new s.front f.front s.taken f.given reads.limit;
     }
 
 -- The audit goes on behind a line that says an entry.
-goes_on : (start left : Option (List ℕ)) (new : Reading) (heard heard' : Heard) (x : Entry) → (k : Found start left new heard) →
-    line_says new.text ≡ Ok (Some x) → HeardStandsFor heard' (entries_of k.lines ++ x ∷ []) → Standing start left new heard'
+goes_on : (start left : Option (List ℕ)) (new : Reading) (heard heard' : Heard) (x : Entry) →
+    (k : Found start left new heard) →
+    line_says new.text ≡ Ok (Some x) → HeardStandsFor heard' (entries_of k.lines ++ x ∷ []) →
+    Standing start left new heard'
 goes_on start left new heard heard' x k says h =
     record {
       front = k.front;
@@ -225,7 +229,8 @@ goes_on start left new heard heard' x k says h =
     }
 
 -- It ends with a line that is refused,
-line_refused : (start left : Option (List ℕ)) (new : Reading) (heard : Heard) (why : Reason) → (k : Found start left new heard) →
+line_refused : (start left : Option (List ℕ)) (new : Reading) (heard : Heard) (why : Reason) →
+    (k : Found start left new heard) →
     IsRefused k.lines new.text why → Ends start left (verdict.Bad (record { line = new.lines; reason = why }))
 line_refused start left new heard why k is =
     ends_by start left new (verdict.Bad (record { line = new.lines; reason = why }))
@@ -285,8 +290,10 @@ abbrev TurnsFound : (start left : Option (List ℕ)) → Reading → Heard → O
 TurnsFound start left new heard' None = Standing start left new heard'
 TurnsFound start left new heard' (Some answer) = Outcome start left answer
 
-heard_entry : (start left : Option (List ℕ)) (new : Reading) (heard heard' : Heard) (x : Entry) → (k : Found start left new heard) →
-    line_says new.text ≡ Ok (Some x) → (answer : Option Verdict) → Hears (entries_of k.lines) new.lines x heard' answer →
+heard_entry : (start left : Option (List ℕ)) (new : Reading) (heard heard' : Heard) (x : Entry) →
+    (k : Found start left new heard) →
+    line_says new.text ≡ Ok (Some x) → (answer : Option Verdict) →
+    Hears (entries_of k.lines) new.lines x heard' answer →
     TurnsFound start left new heard' answer
 heard_entry start left new heard heard' x k says None h = goes_on start left new heard heard' x k says h.1
 heard_entry start left new heard heard' x k says (Some (verdict.Bad bad)) h =
@@ -308,7 +315,8 @@ heard_line start left new heard heard' k (Err why) is answer h =
     subst (λ (a : Option Verdict). TurnsFound start left new heard' a) (sym h)
     (line_refused start left new heard why k (inl is))
 
-counted : (start now left : Option (List ℕ)) (old new : Reading) (heard' : Heard) → ReadsLine old new now left (Ok true) →
+counted : (start now left : Option (List ℕ)) (old new : Reading) (heard' : Heard) →
+    ReadsLine old new now left (Ok true) →
     (answer : Option Verdict) → TurnsFound start left new heard' answer → Turn start left old new heard' answer
 counted start now left old new heard' reads None s =
     let f : FindsLine old new (old.feed.pending ++ reads.taken) = reads.finds.0 in
@@ -319,16 +327,19 @@ counted start now left old new heard' reads (Some answer) s = s
 pub turn_found : (start now left : Option (List ℕ)) (old new : Reading) (heard heard' : Heard) (line : Numbered) →
     line ≡ record { number = new.lines; text = new.text } → ReadsLine old new now left (Ok true) →
     (answer : Option Verdict) →
-    ((before : List Entry) → HeardStandsFor heard before → HearsLine before line.number (entry_of line.text) heard' answer) →
+    ((before : List Entry) → HeardStandsFor heard before →
+    HearsLine before line.number (entry_of line.text) heard' answer) →
     Standing start now old heard → Turn start left old new heard' answer
 turn_found start now left old new heard heard' line is reads answer hears s =
     let k : Found start left new heard = found start now left old new heard s reads in
     let P : Numbered → Type 0 = λ l. HearsLine (entries_of k.lines) l.number (entry_of l.text) heard' answer in
     counted start now left old new heard' reads answer
-    (heard_line start left new heard heard' k (entry_of new.text) k.says answer (subst P is (hears (entries_of k.lines) k.stands)))
+    (heard_line start left new heard heard' k (entry_of new.text) k.says answer (subst P is (hears (entries_of
+    k.lines) k.stands)))
 
 -- The end of the input was read.
-pub turn_ended : (start now left : Option (List ℕ)) (old new : Reading) (heard : Heard) → ReadsLine old new now left (Ok false) →
+pub turn_ended : (start now left : Option (List ℕ)) (old new : Reading) (heard : Heard) →
+    ReadsLine old new now left (Ok false) →
     Standing start now old heard → Outcome start left (verdict.Sound heard.items)
 turn_ended start now left old new heard reads s =
     let bytes : List ℕ = old.feed.pending ++ reads.taken in
@@ -348,7 +359,8 @@ turn_ended start now left old new heard reads s =
 -- There was no further line.
 
 bad_read : (start now left : Option (List ℕ)) (old new : Reading) (heard : Heard) (bad : BadLine) →
-    (s : Standing start now old heard) → ReadsLine old new now left (Err (fault.Bad bad)) → Ended start left new (verdict.Bad bad)
+    (s : Standing start now old heard) → ReadsLine old new now left (Err (fault.Bad bad)) →
+    Ended start left new (verdict.Bad bad)
 bad_read start now left old new heard bad s reads =
     let bytes : List ℕ = old.feed.pending ++ reads.taken in
     let f : FindsBad old new bytes bad = reads.finds in
@@ -414,8 +426,11 @@ pub turn_unread : (start now left : Option (List ℕ)) (old new : Reading) (hear
     ReadsLine old new now left (Err why) → Standing start now old heard → Outcome start left (verdict_of why)
 turn_unread start now left old new heard (fault.Bad bad) reads s =
     ends_by start left new (verdict.Bad bad) (bad_read start now left old new heard bad s reads)
-turn_unread start now left old new heard fault.ReadFault reads s =
-    (s.front ++ (old.feed.pending ++ reads.taken), taken_whole start now old new left s.front reads.taken s.taken reads.draws)
+turn_unread start now left old new heard fault.ReadFault reads s = (
+  s.front ++ (old.feed.pending ++ reads.taken),
+  taken_whole start now old new left s.front reads.taken s.taken
+      reads.draws,
+)
 turn_unread start now left old new heard fault.TooLong reads s = too_long start now left old new heard s reads
 
 -- One more entry was taken.

@@ -1,12 +1,11 @@
 -- What an item does to the voices that are kept, and to the stretches of muting beside them.
-use Rattle.std.specs.Prelude.{◌≡◌, ◌≤◌, ◌<◌, ◌+◌, ◌-◌, ◌↔◌, ◌⊎◌, ◌==◌, ◌&&◌, ◌||◌, not, ℕ, Bool, true, false, List, [], ◌∷◌, ◌++◌, length, get_or, drop, Option, Some, None, Result, Ok, Err, OnOk, IsTrue, nat_eq, if◌then◌else◌}
+use Rattle.std.specs.Prelude.{◌≡◌, ◌≤◌, ◌<◌, ◌-◌, ◌↔◌, ◌⊎◌, ◌==◌, ◌&&◌, ◌||◌, not, ℕ, Bool, true, false, List, [], ◌∷◌, ◌++◌, Option, Some, None, Result, Ok, Err, OnOk, nat_eq, if◌then◌else◌}
 use Rattle.std.specs.Borrow.{Bor}
 use Rattle.std.specs.List.{AllByRecursion}
 use Rattle.std.specs.Slice.{IsItemAt}
 use Rattle.std.specs.HashMap.{get}
 use Rattle.std.specs.Bool.{beq}
 use Rattle.std.specs.Option.{option_copied}
-use Rattle.std.specs.Cmp.{nat_eq_equiv}
 use Rattle.std.proofs.Common.{refl, sym, ap, subst, ◌∙◌, inl, inr, arith}
 use Rattle.std.proofs.lemmas.Bool.{false≢true, true≢false, eq-eqb, eqb-true}
 use Rattle.link_frames.specs.declared.note.Note.{Note}
@@ -15,7 +14,7 @@ use Rattle.trace_audit.specs.declared.legs.Legs.{Legs}
 use Rattle.trace_audit.specs.declared.legs.Muting.{Muting}
 use Rattle.trace_audit.specs.declared.voice.Voice.{Voice}
 use Rattle.trace_audit.specs.LegsStand.{AreInOrder, IsQueued, Keeps, voice_at}
-use Rattle.trace_audit.specs.inner.Legs.{AreWithin, IsOldest, NotesMuting, changed, is_muted_since, raised, turned, voice_behind}
+use Rattle.trace_audit.specs.inner.Legs.{AreWithin, IsOldest, NotesMuting, changed, is_muted_since, voice_behind}
 
 -- Stretches of muting in order.
 
@@ -45,7 +44,8 @@ queued_last : (c s : ℕ) (ms : List Muting) → IsQueued c s (ms ++ (record { c
 queued_last c s [] = inl (refl, refl)
 queued_last c s (n ∷ ms) = inr (queued_last c s ms)
 
-queued_after : (c s since : ℕ) (ms : List Muting) → AllByRecursion (λ n. s ≤ n.since) ms → IsQueued c since ms → s ≤ since
+queued_after : (c s since : ℕ) (ms : List Muting) → AllByRecursion (λ n. s ≤ n.since) ms → IsQueued c since ms →
+    s ≤ since
 queued_after c s since [] h q = absurd q
 queued_after c s since (n ∷ ms) h (inl q) = let first = h.0 in let same = q.1 in omega arith
 queued_after c s since (n ∷ ms) h (inr q) = queued_after c s since ms h.1 q
@@ -75,7 +75,8 @@ lowered_keeps voices voices' call ms before now le e h =
       order = order_later ms before now le h.order;
     }
   where
-    at : (c : ℕ) (v : Voice) (b : Bool) → (if b then None else voices c) ≡ Some v → v.talks ≡ false → IsQueued c v.since ms
+    at : (c : ℕ) (v : Voice) (b : Bool) → (if b then None else voices c) ≡ Some v → v.talks ≡ false →
+        IsQueued c v.since ms
     at c v true is muted = cc
     at c v false is muted = h.queued c v is muted
 
@@ -101,7 +102,8 @@ muted_now (Some w) (note.Voice e c up down) now v is muted new = at (beq w.talks
     at : (s : Bool) → (if s then w else record { talks = up && down; since = now }) ≡ v → v.since ≡ now
     at true same = absurd (still_muted w v same muted new)
     at false same = sym (ap (λ (z : Voice). z.since) same)
-muted_now b _ now v is muted new = absurd (still_muted v v refl muted (subst (λ o. is_muted_since o v.since ≡ false) is new))
+muted_now b _ now v is muted new = absurd (still_muted v v refl muted (subst (λ o. is_muted_since o v.since ≡ false)
+    is new))
 
 put_order : (ms ms' : List Muting) (call before now : ℕ) (b : Option Voice) (n : Note) (v : Voice) → before ≤ now →
     voice_behind b n now ≡ Some v → NotesMuting call b v ms ms' → AreInOrder ms before → AreInOrder ms' now
@@ -109,7 +111,8 @@ put_order ms ms' call before now b n v le is notes h = at v.talks refl (is_muted
   where
     at : (talks : Bool) → v.talks ≡ talks → (was : Bool) → is_muted_since b v.since ≡ was → AreInOrder ms' now
     at true t was w = subst (λ z. AreInOrder z now) (sym (notes.still (rw t refl))) (order_later ms before now le h)
-    at false t true w = subst (λ z. AreInOrder z now) (sym (notes.still (rw (t, w) refl))) (order_later ms before now le h)
+    at false t true w = subst (λ z. AreInOrder z now) (sym (notes.still (rw (t, w) refl))) (order_later ms before
+        now le h)
     at false t false w =
         subst (λ z. AreInOrder z now) (sym (notes.noted (rw (t, w) refl)))
         (order_more ms (record { call = call; since = v.since }) before now le (muted_now b n now v is t w) h)
@@ -123,7 +126,8 @@ grown_queue ms ms' call b v notes c s h = at (v.talks || is_muted_since b v.sinc
     at false e = subst (λ z. IsQueued c s z) (sym (notes.noted e)) (queued_more c s ms _ h)
 
 put_queue : (ms ms' : List Muting) (call : ℕ) (b : Option Voice) (v : Voice) → NotesMuting call b v ms ms' →
-    ((w : Voice) → b ≡ Some w → w.talks ≡ false → IsQueued call w.since ms) → v.talks ≡ false → IsQueued call v.since ms'
+    ((w : Voice) → b ≡ Some w → w.talks ≡ false → IsQueued call w.since ms) → v.talks ≡ false →
+    IsQueued call v.since ms'
 put_queue ms ms' call b v notes queued muted = at (is_muted_since b v.since) refl
   where
     at : (was : Bool) → is_muted_since b v.since ≡ was → IsQueued call v.since ms'
@@ -134,7 +138,8 @@ put_queue ms ms' call b v notes queued muted = at (is_muted_since b v.since) ref
     at false e =
         subst (λ z. IsQueued call v.since z) (sym (notes.noted (rw (muted, e) refl))) (queued_last call v.since ms)
 
-pub put_keeps : (voices voices' : ℕ → Option Voice) (call : ℕ) (ms ms' : List Muting) (before now : ℕ) (n : Note) (v : Voice)
+pub put_keeps : (voices voices' : ℕ →
+    Option Voice) (call : ℕ) (ms ms' : List Muting) (before now : ℕ) (n : Note) (v : Voice)
     → before ≤ now → voice_behind (voices call) n now ≡ Some v →
     ((q : ℕ) → voices' q ≡ changed voices call (Some v) q) → NotesMuting call (voices call) v ms ms' →
     Keeps voices ms before → Keeps voices' ms' now
@@ -144,7 +149,8 @@ put_keeps voices voices' call ms ms' before now n v le is e notes h =
       order = put_order ms ms' call before now (voices call) n v le is notes h.order;
     }
   where
-    at : (c : ℕ) (w : Voice) (b : Bool) → (call == c) ≡ b → (if b then Some v else voices c) ≡ Some w → w.talks ≡ false →
+    at : (c : ℕ) (w : Voice) (b : Bool) → (call == c) ≡ b → (if b then Some v else voices c) ≡ Some w →
+        w.talks ≡ false →
         IsQueued c w.since ms'
     at c w true same here muted =
         let one : v ≡ w = some_same v w here in
@@ -168,7 +174,11 @@ first_item (m ∷ ms) (Some x) first is h = (ms, ap (λ (z : Muting). z ∷ ms) 
 
 pub front_gone : (voices : ℕ → Option Voice) (m : Muting) (ms : List Muting) (now : ℕ) →
     is_muted_since (voices m.call) m.since ≡ false → Keeps voices (m ∷ ms) now → Keeps voices ms now
-front_gone voices m ms now gone h = record { queued = λ c v is muted. at c v is muted (h.queued c v is muted); order = h.order.2 }
+front_gone voices m ms now gone h = record {
+  queued = λ c v is muted. at c v is muted (h.queued c v is muted);
+  order
+      = h.order.2;
+}
   where
     at : (c : ℕ) (v : Voice) → voices c ≡ Some v → v.talks ≡ false →
         ((m.call ≡ c) × (m.since ≡ v.since)) ⊎ IsQueued c v.since ms → IsQueued c v.since ms

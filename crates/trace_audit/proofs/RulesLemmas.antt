@@ -1,9 +1,9 @@
 -- What one more entry does to what is kept of a trace, and which rule it breaks.
-use Rattle.std.specs.Prelude.{◌≡◌, ◌≤◌, ◌<◌, ◌+◌, ◌-◌, ◌↔◌, ◌⊎◌, ◌==◌, ◌&&◌, not, nat_lt, nat_eq, ℕ, Bool, true, false, List, [], ◌∷◌, ◌++◌, Option, Some, None, Result, Ok, Err, OnOk, IsTrue, if◌then◌else◌}
+use Rattle.std.specs.Prelude.{◌≡◌, ◌≤◌, ◌<◌, ◌+◌, ◌-◌, ◌↔◌, ◌==◌, ◌&&◌, not, nat_lt, nat_eq, ℕ, Bool, true, false, List, [], ◌∷◌, ◌++◌, Option, Some, None, Result, Ok, Err, OnOk, IsTrue, if◌then◌else◌}
 use Rattle.std.specs.Bool.{beq}
 use Rattle.std.specs.Cmp.{nat_eq_equiv}
 use Rattle.std.specs.HashMap.{get}
-use Rattle.std.proofs.Common.{refl, sym, ap, subst, ◌∙◌, inl, inr, arith}
+use Rattle.std.proofs.Common.{refl, sym, ap, subst, ◌∙◌, arith}
 use Rattle.std.proofs.lemmas.Bool.{false≢true, true≢false, eq-eqb, eqb-true}
 use Rattle.std.proofs.lemmas.Bool.Decides.{Decides-ltb, not_from_Decides}
 use Rattle.link_frames.specs.declared.frame.End.{End}
@@ -12,19 +12,16 @@ use Rattle.link_frames.specs.declared.note.Note.{Note}
 use Rattle.link_frames.specs.declared.note.Note.TheVariants as note
 use Rattle.link_frames.specs.Legs.{is_data_timer, least_opening, muting_limit, through}
 use Rattle.trace_text.specs.declared.entry.Entry.{Entry}
-use Rattle.trace_text.specs.Safety.{Agreed, Bounded, IsBoundedLeg, IsShownFirst, IsWithin, Leg, MustOpen, Opened, OwesOpening, Safe, TurnsMuted, ends_wait, first_leg, is_leg, is_own, leg_at, leg_behind, leg_moved, leg_step, mutes, own, revoiced, same_end}
-use Rattle.trace_text.proofs.Folds.{through_append}
-use Rattle.trace_text.proofs.Fronts.{agreed_one, bounded_one, leg_one, nothing_safe, opened_one, step_within}
+use Rattle.trace_text.specs.Safety.{Agreed, Bounded, IsShownFirst, IsWithin, Leg, MustOpen, Opened, OwesOpening, TurnsMuted, ends_wait, first_leg, is_leg, is_own, leg_at, leg_behind, leg_moved, leg_step, own, revoiced, same_end}
+use Rattle.trace_text.proofs.Fronts.{agreed_one, bounded_one, leg_one, opened_one, step_within}
 use Rattle.trace_audit.specs.declared.legs.Legs.{Legs}
 use Rattle.trace_audit.specs.declared.rules.LegOf.{LegOf}
 use Rattle.trace_audit.specs.declared.rules.Rules.{Rules}
 use Rattle.trace_audit.specs.declared.voice.Voice.{Voice}
 use Rattle.trace_text.specs.Tallies.{last_tick}
-use Rattle.trace_audit.specs.Judged.{Judges}
 use Rattle.trace_audit.specs.LegsStand.{IsVoiceOf, Keeps, LegsStandFor, voice_at}
 use Rattle.trace_audit.specs.RulesStand.{IsOwed, RulesStandFor}
-use Rattle.trace_audit.specs.ShownStands.{ShownStandsFor}
-use Rattle.trace_audit.specs.inner.Legs.{AreWithin, IsMoved, Moves, MovesNone, changed, raised, turned, voice_behind}
+use Rattle.trace_audit.specs.inner.Legs.{AreWithin, Moves, MovesNone, changed, turned, voice_behind}
 use Rattle.trace_audit.specs.inner.Owed.{is_fresh, is_too_soon, owed_behind, owed_if_muted, voice_of}
 use Rattle.trace_audit.proofs.LegsLemmas.{order_later}
 
@@ -124,20 +121,26 @@ pub legs_heard : (e : End) (legs legs' : Legs) (t : List Entry) (x : Entry) (cal
 legs_heard e legs legs' t x call moves is keeps h =
     record {
       voices = λ c. subst (λ (z : Option Voice). IsVoiceOf z (leg_at e c (t ++ x ∷ []))) (sym (is c))
-          (subst (λ (z : Leg). IsVoiceOf (changed (voice_at legs) call (voice_behind (voice_at legs call) x.note x.tick) c) z)
+          (subst (λ (z : Leg). IsVoiceOf (changed (voice_at legs) call (voice_behind (voice_at legs call) x.note
+          x.tick) c) z)
           (sym (leg_one e c t x))
           (voice_more e (voice_at legs) c call (leg_at e c t) x moves (h.voices c)
           (λ same. subst (λ (d : ℕ). IsVoiceOf (voice_at legs d) (leg_at e c t)) same (h.voices c))));
       keeps = subst (λ n. Keeps (voice_at legs') legs'.muted.items n) (sym (last_one t x)) keeps;
     }
 
-stood : (e : End) (legs : Legs) (t : List Entry) (x : Entry) → ((c : ℕ) → leg_behind e c (leg_at e c t) x ≡ leg_at e c t) →
+stood : (e : End) (legs : Legs) (t : List Entry) (x : Entry) → ((c : ℕ) →
+    leg_behind e c (leg_at e c t) x ≡ leg_at e c t) →
     last_tick t ≤ x.tick → LegsStandFor e legs t → LegsStandFor e legs (t ++ x ∷ [])
 stood e legs t x same le h =
     record {
       voices = λ c. subst (λ (z : Leg). IsVoiceOf (voice_at legs c) z) (sym (leg_one e c t x ∙ same c)) (h.voices c);
       keeps = subst (λ n. Keeps (voice_at legs) legs.muted.items n) (sym (last_one t x))
-          (record { queued = h.keeps.queued; order = order_later legs.muted.items (last_tick t) x.tick le h.keeps.order });
+          (record {
+            queued = h.keeps.queued;
+            order = order_later legs.muted.items (last_tick t) x.tick le
+                h.keeps.order;
+          });
     }
 
 pub legs_others : (e f : End) (legs : Legs) (t : List Entry) (x : Entry) (call : ℕ) → same_end e f ≡ false →
@@ -156,7 +159,7 @@ owes_from e c leg [] x = (λ h. h, λ h. h)
 owes_from e c leg (y ∷ []) x = (λ h. h, λ h. h)
 owes_from e c leg (y ∷ z ∷ t) x = owes_from e c (leg_behind e c leg y) (z ∷ t) x
 
-is_this_leg : (e f : End) (c d : ℕ) → is_leg e c f d ≡ true → (f ≡ e) × (d ≡ c)
+pub is_this_leg : (e f : End) (c d : ℕ) → is_leg e c f d ≡ true → (f ≡ e) × (d ≡ c)
 is_this_leg «end».Vehicle «end».Vehicle c d h = (refl, sym (eqb-true c d h))
 is_this_leg «end».Vehicle «end».Point c d h = absurd (false≢true h)
 is_this_leg «end».Point «end».Vehicle c d h = absurd (false≢true h)
@@ -202,7 +205,8 @@ no_wait e c leg x h m = false≢true (sym h ∙ m.ends)
 abbrev pub AreVoices : (End → ℕ → Option Voice) → List Entry → Type 0
 AreVoices voices t = (e : End) (c : ℕ) → IsVoiceOf (voices e c) (leg_at e c t)
 
-owed_note : (voices : End → ℕ → Option Voice) (t : List Entry) → AreVoices voices t → (now : ℕ) (n : Note) (e : End) (c : ℕ) →
+owed_note : (voices : End → ℕ → Option Voice) (t : List Entry) → AreVoices voices t →
+    (now : ℕ) (n : Note) (e : End) (c : ℕ) →
     (MustOpen e c (leg_at e c t) (record { tick = now; note = n }) ↔ IsOwed (owed_behind voices n) e c)
 owed_note voices t are now (note.Ended f d timer) e c = at (is_data_timer timer) refl
   where
@@ -211,10 +215,12 @@ owed_note voices t are now (note.Ended f d timer) e c = at (is_data_timer timer)
         ↔ IsOwed (if b then owed_if_muted (voices f d) f d else None) e c)
     at true ends = owed_leg (λ g k. leg_at g k t) f e d c (voices f d) _ (are f d) refl ends
     at false ends = (no_wait e c (leg_at e c t) _ ends, λ h. absurd h)
-owed_note voices t are now (note.Fault f d) e c = owed_leg (λ g k. leg_at g k t) f e d c (voices f d) _ (are f d) refl refl
+owed_note voices t are now (note.Fault f d) e c = owed_leg (λ g k. leg_at g k t) f e d c (voices f d) _ (are f d)
+    refl refl
 owed_note voices t are now _ e c = (λ m. false≢true m.ends, λ h. absurd h)
 
-pub owed_more : (voices : End → ℕ → Option Voice) (t : List Entry) (x : Entry) → AreVoices voices t → (e : End) (c : ℕ) →
+pub owed_more : (voices : End → ℕ → Option Voice) (t : List Entry) (x : Entry) → AreVoices voices t →
+    (e : End) (c : ℕ) →
     (OwesOpening e c first_leg (t ++ x ∷ []) ↔ IsOwed (owed_behind voices x.note) e c)
 owed_more voices t x are e c =
     let one = owes_from e c first_leg t x in
@@ -228,14 +234,14 @@ voices_stand rules t v p «end».Point c = p.voices c
 
 -- Bounded.
 
-within_leg : (limit now : ℕ) (o : Option Voice) (leg : Leg) → IsVoiceOf o leg →
+pub within_leg : (limit now : ℕ) (o : Option Voice) (leg : Leg) → IsVoiceOf o leg →
     ((v : Voice) → o ≡ Some v → v.talks ≡ false → now ≤ v.since + limit) → leg.up ≡ true → leg.talks ≡ false →
     now ≤ leg.since + limit
 within_leg limit now None leg is h up muted = absurd (false≢true (sym is ∙ up))
 within_leg limit now (Some v) leg is h up muted =
     let le = h v refl (sym is.1 ∙ muted) in let same = is.2 in omega arith
 
-leg_within : (limit now : ℕ) (o : Option Voice) (leg : Leg) → IsVoiceOf o leg →
+pub leg_within : (limit now : ℕ) (o : Option Voice) (leg : Leg) → IsVoiceOf o leg →
     (leg.up ≡ true → leg.talks ≡ false → now ≤ leg.since + limit) → (v : Voice) → o ≡ Some v → v.talks ≡ false →
     now ≤ v.since + limit
 leg_within limit now o leg is h v e muted =
@@ -249,7 +255,8 @@ not_fresh (Some v) leg now is fresh up talks =
     let t : v.talks ≡ true = sym is.1 ∙ talks in
     let far : nat_lt (now - v.since) 20 ≡ false = sym (ap (λ b. b && nat_lt (now - v.since) 20) t) ∙ fresh in
     let same = is.2 in
-    let no : now - v.since < 20 → ⊥ = not_from_Decides (nat_lt (now - v.since) 20) (Decides-ltb (now - v.since) 20) far in
+    let no : now - v.since < 20 → ⊥ = not_from_Decides (nat_lt (now - v.since) 20) (Decides-ltb (now - v.since) 20)
+    far in
     omega arith
 
 fresh_soon : (o : Option Voice) (leg : Leg) (now : ℕ) → IsVoiceOf o leg → is_fresh o now ≡ true →
@@ -308,14 +315,16 @@ bounded_yes voices t x before are h w soon =
     (bounded_one t x x.tick).1 (
       bounded_later t before x.tick h within,
       late_by voices t are x.tick x.note soon,
-      λ e c. subst (λ (z : Leg). IsWithin e x.tick z) (sym (leg_one e c t x)) (step_within e c (leg_at e c t) x (within e c)),
+      λ e c. subst (λ (z : Leg). IsWithin e x.tick z) (sym (leg_one e c t x)) (step_within e c (leg_at e c t) x
+          (within e c)),
     )
 
 pub bounded_no : (voices : End → ℕ → Option Voice) (t : List Entry) (x : Entry) → AreVoices voices t →
     Bounded (t ++ x ∷ []) x.tick → AllWithin voices x.tick × (is_too_soon voices x.note x.tick ≡ false)
 bounded_no voices t x are h =
     let b = (bounded_one t x x.tick).0 h in (
-      λ e c v is muted. leg_within (muting_limit e) x.tick (voices e c) (leg_at e c t) (are e c) (b.0 e c).last v is muted,
+      λ e c v is muted. leg_within (muting_limit e) x.tick (voices e c) (leg_at e c t) (are e c) (b.0 e c).last v is
+          muted,
       soon_by voices t are x.tick x.note b.1,
     )
 
@@ -344,7 +353,11 @@ opened_by owed t x answer h o i = (
 pub too_long : (rules : Rules) (e : End) (t : List Entry) (x : Entry) (answer : Bool) → RulesStandFor rules t →
     answer ≡ false → (IsTrue answer ↔ AreWithin (voice_of rules e) x.tick (muting_limit e)) →
     (IsTrue false ↔ Bounded (t ++ x ∷ []) x.tick)
-too_long rules e t x answer h is i = (λ a. absurd (false≢true a), λ b. sym is ∙ i.1 ((bounded_no (voice_of rules) t x (voices_stand rules t h.vehicle h.point) b).0 e))
+too_long rules e t x answer h is i = (
+  λ a. absurd (false≢true a),
+  λ b. sym is ∙ i.1 ((bounded_no (voice_of rules) t
+      x (voices_stand rules t h.vehicle h.point) b).0 e),
+)
 
 both_within : (rules : Rules) (now : ℕ) → AreWithin (voice_at rules.vehicle) now 320 →
     AreWithin (voice_at rules.point) now 275 → AllWithin (voice_of rules) now

@@ -3,8 +3,7 @@ use Rattle.std.specs.Prelude.{◌≡◌, ◌↔◌, ◌⊎◌, ℕ, Bool, true, 
 use Rattle.std.specs.Bool.{Decides}
 use Rattle.std.specs.HashSet.{contains}
 use Rattle.std.specs.Cmp.Lexicographic.{pointwise, bytes_decides}
-use Rattle.std.proofs.Common.{refl, sym, ap, subst, ◌∙◌, inl, inr, arith}
-use Rattle.std.proofs.lemmas.Bool.{false≢true, true≢false}
+use Rattle.std.proofs.Common.{refl, sym, ap, subst, ◌∙◌, inl, inr}
 use Rattle.std.proofs.lemmas.Bool.Decides.{Decides-eqb, Decides-and}
 use Rattle.link_frames.specs.declared.note.Note.{Note}
 use Rattle.link_frames.specs.declared.note.Note.TheVariants as note
@@ -46,7 +45,8 @@ shown_one c r o (y ∷ t) x = (to (shown_one c r o t x).0, from (shown_one c r o
     to more (inl h) = inl (inl h)
     to more (inr h) = over (more h)
       where
-        over : WasShown c r o t ⊎ IsShown c r o x.note → (IsShown c r o y.note ⊎ WasShown c r o t) ⊎ IsShown c r o x.note
+        over : WasShown c r o t ⊎ IsShown c r o x.note →
+            (IsShown c r o y.note ⊎ WasShown c r o t) ⊎ IsShown c r o x.note
         over (inl k) = inl (inr k)
         over (inr k) = inr k
 
@@ -67,7 +67,8 @@ has_by shown call request number octets answer same is t h =
     (λ a. (h call request octets).0 (sym at ∙ a), λ w. at ∙ (h call request octets).1 w)
 
 -- One more set is kept.
-added_at : (k q : Showing) (was will : Bool) (t : List Entry) (x : Entry) → x.note ≡ note.Shown k.call k.request k.octets →
+added_at : (k q : Showing) (was will : Bool) (t : List Entry) (x : Entry) →
+    x.note ≡ note.Shown k.call k.request k.octets →
     will ≡ cond (same_showing k q) true was → (was ≡ true ↔ WasShown q.call q.request q.octets t) →
     (will ≡ true ↔ WasShown q.call q.request q.octets (t ++ x ∷ []))
 added_at k q was will t x n e h = (to, from)
@@ -76,10 +77,12 @@ added_at k q was will t x n e h = (to, from)
         (WasShown q.call q.request q.octets t ⊎ IsShown q.call q.request q.octets x.note)
     one = shown_one q.call q.request q.octets t x
 
-    here : (k.call ≡ q.call) × (k.request ≡ q.request) × (k.octets ≡ q.octets) → IsShown q.call q.request q.octets x.note
+    here : (k.call ≡ q.call) × (k.request ≡ q.request) × (k.octets ≡ q.octets) →
+        IsShown q.call q.request q.octets x.note
     here p = subst (λ (z : Note). IsShown q.call q.request q.octets z) (sym n) p
 
-    back : IsShown q.call q.request q.octets x.note → (k.call ≡ q.call) × (k.request ≡ q.request) × (k.octets ≡ q.octets)
+    back : IsShown q.call q.request q.octets x.note →
+        (k.call ≡ q.call) × (k.request ≡ q.request) × (k.octets ≡ q.octets)
     back p = subst (λ (z : Note). IsShown q.call q.request q.octets z) n p
 
     by : (b : Bool) → same_showing k q ≡ b → cond b true was ≡ true →

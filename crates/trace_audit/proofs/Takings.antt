@@ -86,7 +86,8 @@ at_end start now old new left front taken s draws ended = by_end (draws.«end» 
         subst IsAtEnd (same_left now left (subst P (draws.idle h) draws.took)) (s.«end» h)
 
 -- the lines that were given have no more bytes than an input may have
-pub front_within : (start now : Option (List ℕ)) (old new : Reading) (front piece : List ℕ) → TakenSoFar start now old front
+pub front_within : (start now : Option (List ℕ)) (old new : Reading) (front piece : List ℕ) →
+    TakenSoFar start now old front
     → new.feed.given ≡ old.feed.given + length piece → new.feed.given ≤ most_bytes
     → length (front ++ piece) ≤ most_bytes
 front_within start now old new front piece s given limit = simp length-append (omega (arith, s.given, given, limit))
@@ -149,7 +150,8 @@ too_many_whole start now old new left front taken s draws f =
         (sym f.split ∙ (at_hand start now old new left front taken s draws).follows e))
 
 -- a line more was given
-pub taken_behind : (start now : Option (List ℕ)) (old new : Reading) (left : Option (List ℕ)) (front : List ℕ) → TakenSoFar start now old front → (reads : ReadsLine old new now left (Ok true))
+pub taken_behind : (start now : Option (List ℕ)) (old new : Reading) (left : Option (List ℕ)) (front : List ℕ) →
+    TakenSoFar start now old front → (reads : ReadsLine old new now left (Ok true))
     → TakenSoFar start left new (front ++ reads.finds.0.front)
 taken_behind start now old new left front s reads =
     let f : FindsLine old new (old.feed.pending ++ reads.taken) = reads.finds.0 in

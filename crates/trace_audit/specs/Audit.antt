@@ -1,5 +1,6 @@
 -- What an audit says of the lines of a trace: over each front of them, whether every line is an entry, whether ticks
--- never fall, and whether the entries are safe. This project's profile. Cited by the contract of `audit`.
+-- never fall, and whether the entries are safe. This project's profile. Cited by the contracts of `audit` and
+-- `audit_laws`.
 use Rattle.std.specs.Prelude.{◌≡◌, ◌≤◌, ◌<◌, ◌+◌, ◌⊎◌, ℕ, List, [], ◌∷◌, ◌++◌, length, Option, Some, None, Result, Ok, Err, if◌then◌else◌}
 use Rattle.std.specs.List.{AllByRecursion}
 use Rattle.trace_text.specs.declared.entry.Entry.{Entry}

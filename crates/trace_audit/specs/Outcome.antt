@@ -1,6 +1,6 @@
 -- What a verdict says of the bytes that an audit took from its source, and of the reads that failed. This project's
 -- profile. Cited by the contract of `audit`. Where a source doesn't tell its bytes, nothing is said of them.
-use Rattle.std.specs.Prelude.{◌≡◌, ℕ, ◌+◌, ◌<◌, ◌≤◌, ◌⊎◌, List, [], ◌∷◌, ◌++◌, length, Option}
+use Rattle.std.specs.Prelude.{◌≡◌, ℕ, ◌<◌, ◌≤◌, ◌⊎◌, List, [], ◌∷◌, ◌++◌, length, Option}
 use Rattle.std.specs.List.{AllByRecursion}
 use Rattle.call_io.specs.Bytes.{Took}
 use Rattle.call_io.specs.Counts.{Rose}

@@ -21,7 +21,7 @@ struct Heard {
 }
 
 /// Reads the trace that a source has, and says whether it is safe. The first line that is refused, or that breaks a
-/// rule, ends the audit. Memory is taken for the legs that are up and the sets that were shown.
+/// rule, ends the audit. Memory is taken for the legs that are up, their muting, and the sets that were shown.
 pub fn audit<I: Source>(alloc: Global, source: &mut I) -> Verdict
     ensures outcome { Outcome (I.left source.old) (I.left source.new) result }
     ensures cause { VerdictCause result (I.faults source.old) (I.faults source.new) }

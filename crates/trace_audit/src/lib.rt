@@ -2,6 +2,9 @@
 #![tactic(auto)]
 
 mod audit_lines;
+#[cfg(test)]
+mod audit_tests;
+mod laws;
 mod legs;
 mod rule;
 mod rules;
@@ -12,6 +15,7 @@ mod verdict;
 mod voice;
 
 pub use audit_lines::audit;
+pub use laws::audit_laws;
 pub use rule::Rule;
 pub use rules::Rules;
 pub use verdict::Verdict;

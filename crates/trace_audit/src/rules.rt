@@ -63,8 +63,8 @@ impl Rules {
         }
     }
 
-    /// Judges one more entry, whose tick isn't below that of the entry before: the lowest rule that it breaks, or None,
-    /// and then the rules stand for the entries with this one. After an answer of the other kinds they aren't used again.
+    /// Judges one more entry, whose tick isn't below that of the entry before: the lowest rule that it breaks, or
+    /// None, and then the rules stand for the entries with this one. After any other answer they aren't used again.
     pub fn hear(&mut self, _alloc: Global, entry: &Entry) -> Result<Option<Rule>, Memory>
         ensures judged { (before : List EntryOf) → RulesStandFor self.old before → last_tick before ≤ entry.now.tick →
             IfOk result (λ broken. Judges (before ++ entry.now ∷ []) entry.now.tick broken

@@ -32,7 +32,8 @@ onto_some b (line ∷ lines) = omega arith
 
 some_line : (b : ℕ) (bytes : List ℕ) → 0 < length (lines_of (b ∷ bytes))
 some_line b bytes = elim (eqb_tells b 10) [
-  | inl same ↦ let e : length (lines_of (b ∷ bytes)) ≡ suc (length (lines_of bytes)) = ap length (newline_first b bytes same.0) in omega arith
+  | inl same ↦ let e : length (lines_of (b ∷ bytes)) ≡ suc (length (lines_of bytes)) = ap length (newline_first b
+      bytes same.0) in omega arith
   | inr other ↦
       let e : length (lines_of (b ∷ bytes)) ≡ length (onto_first b (lines_of bytes)) =
       ap length (other_first b bytes other.0) in

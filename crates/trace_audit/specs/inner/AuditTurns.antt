@@ -1,20 +1,18 @@
 -- Where an audit stands between two lines, and what one more line comes to. This project's profile. Cited by the
 -- contracts of the private functions of `audit`.
-use Rattle.std.specs.Prelude.{◌≡◌, ℕ, ◌+◌, ◌<◌, ◌≤◌, true, false, List, [], ◌∷◌, ◌++◌, length, Option, Some, None, Result, Ok, Err}
+use Rattle.std.specs.Prelude.{◌≡◌, ℕ, ◌<◌, ◌≤◌, true, false, List, [], ◌∷◌, ◌++◌, length, Option, Some, None, Result, Ok, Err}
 use Rattle.std.specs.List.{AllByRecursion}
 use Rattle.std.specs.Io.KnownBytes.{IsAtEnd}
 use Rattle.call_io.specs.Bytes.{Took}
 use Rattle.trace_text.specs.declared.entry.Entry.{Entry}
 use Rattle.trace_text.specs.declared.fault.LineFault.{LineFault}
 use Rattle.trace_text.specs.declared.fault.LineFault.TheVariants as fault
-use Rattle.trace_text.specs.declared.reason.BadLine.{BadLine}
 use Rattle.trace_text.specs.declared.reason.Reason.{Reason}
 use Rattle.trace_text.specs.declared.reason.Reason.TheVariants as reason
-use Rattle.trace_text.specs.Lines.{AreWholeLines, Numbered, lines_of, most_bytes}
+use Rattle.trace_text.specs.Lines.{AreWholeLines, lines_of, most_bytes}
 use Rattle.trace_text.specs.Reading.{MayFollow, Reading}
 use Rattle.trace_audit.specs.Audit.{IsUnrefused, NeverFall, entries_of, line_says}
 use Rattle.trace_audit.specs.declared.audit_lines.Heard.{Heard}
-use Rattle.trace_audit.specs.declared.rule.Rule.{Rule}
 use Rattle.trace_audit.specs.declared.verdict.Verdict.{Verdict}
 use Rattle.trace_audit.specs.declared.verdict.Verdict.TheVariants as verdict
 use Rattle.trace_text.specs.Tallies.{last_tick}

@@ -1,6 +1,6 @@
 -- Which opening an item owes, and whether one turns a voice muted too soon, by what is kept of the legs. This project's
 -- profile. Cited by the contracts of the private functions of `Rules`.
-use Rattle.std.specs.Prelude.{◌≡◌, ◌-◌, ◌&&◌, ℕ, Bool, true, false, not, nat_lt, Option, Some, None, if◌then◌else◌}
+use Rattle.std.specs.Prelude.{◌-◌, ◌&&◌, ℕ, Bool, false, not, nat_lt, Option, Some, None, if◌then◌else◌}
 use Rattle.link_frames.specs.declared.frame.End.{End}
 use Rattle.link_frames.specs.declared.frame.End.TheVariants as «end»
 use Rattle.link_frames.specs.declared.note.Note.{Note}

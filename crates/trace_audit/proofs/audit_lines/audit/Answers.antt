@@ -6,8 +6,10 @@ use Rattle.trace_audit.proofs.audit_lines.audit.Goals as goal
 
 pub loop-verdict-init : goal.loop-verdict-init
 loop-verdict-init g c = record {
-  stands = subst (λ (r : Reading). Standing (g.I.Source.left c.args.source.now) (g.I.Source.left c.args.source.now) r c.new-heard.result)
-      (sym c.new-lines.ensures) (audit_first (g.I.Source.left c.args.source.now) c.new-heard.result c.new-heard.ensures);
+  stands = subst (λ (r : Reading). Standing (g.I.Source.left c.args.source.now) (g.I.Source.left c.args.source.now)
+      r c.new-heard.result)
+      (sym c.new-lines.ensures) (audit_first (g.I.Source.left c.args.source.now) c.new-heard.result
+      c.new-heard.ensures);
   bound = rw c.new-lines.ensures (omega arith);
   reads = refl;
 }
@@ -30,4 +32,8 @@ loop-verdict-preserved g c =
 
 pub take_turn-requires-clause-few : goal.take_turn-requires-clause-few
 take_turn-requires-clause-few g c =
-    omega (arith, items_few _ _ c.loop-verdict.lines c.loop-verdict.heard c.loop-verdict.invariant.stands, c.loop-verdict.invariant.bound)
+    omega (
+      arith,
+      items_few _ _ c.loop-verdict.lines c.loop-verdict.heard c.loop-verdict.invariant.stands,
+      c.loop-verdict.invariant.bound,
+    )

@@ -1,12 +1,12 @@
 use Rattle.std.proofs.Common.{sym, ◌∙◌}
-use Rattle.trace_audit.specs.LegsStand.{Keeps, voice_at}
 use Rattle.trace_audit.proofs.LegsLemmas.{is_put, lowered, on_map}
 use Rattle.trace_audit.proofs.legs.Legs.hear.Goals as goal
 
 pub returns-in-None-clause-keeps : goal.returns-in-None-clause-keeps
 returns-in-None-clause-keeps c =
     λ before le h.
-    lowered c.args.self.now c.lower.new.self c.args.call before c.args.now le c.lower.ensures.muted c.lower.ensures.voices h
+    lowered c.args.self.now c.lower.new.self c.args.call before c.args.now le c.lower.ensures.muted
+    c.lower.ensures.voices h
 
 pub returns-in_ok-put-in-Some-clause-keeps : goal.returns-in_ok-put-in-Some-clause-keeps
 returns-in_ok-put-in-Some-clause-keeps c =

@@ -18,7 +18,8 @@ returns-then-not-opens-clause-judged c =
       λ o.
           false≢true
           (sym c.if-not-opens.true
-          ∙ (opened_by c.args.self.now.owed before c.args.entry.now c.opens.result h.safe.opened h.owed c.opens.ensures).1 o),
+          ∙ (opened_by c.args.self.now.owed before c.args.entry.now c.opens.result h.safe.opened h.owed
+          c.opens.ensures).1 o),
     )
 
 pub returns-then-is_bounded-clause-judged : goal.returns-then-is_bounded-clause-judged
@@ -26,7 +27,8 @@ returns-then-is_bounded-clause-judged c =
     λ before h le. record {
       agreed = (agreed_by before c.args.entry.now c.agrees.result h.safe.agreed (c.agrees.ensures before h.shown)).0
           c.if-not-agrees.false;
-      opened = (opened_by c.args.self.now.owed before c.args.entry.now c.opens.result h.safe.opened h.owed c.opens.ensures).0
+      opened = (opened_by c.args.self.now.owed before c.args.entry.now c.opens.result h.safe.opened h.owed
+          c.opens.ensures).0
           c.if-not-opens.false;
       bounded = (c.is_bounded.ensures.bounded before h le).0 c.if-is_bounded.true;
     }
