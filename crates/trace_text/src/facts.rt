@@ -1,6 +1,6 @@
 //! The fact lines of a text, each read by a function of its own.
 
-ghost use Rattle.std.specs.Prelude.{◌≡◌};
+ghost use Rattle.std.specs.Prelude.{◌≡◌, false, ℕ, List, None};
 ghost use Rattle.std.specs.List.{list_all};
 ghost use Rattle.std.specs.Option.{option_copied};
 ghost use Rattle.trace_text.specs.FactLines.{before1_line, before2_line, extra_line, fuel_line, heading_line, is_mark as is_mark_digit, kind_line, marks_of, own_fact, passengers_line, place_line, set_line, time_line, trusted_line, vehicle_fact, vin_line, vin_text, way_fact, way_text};
@@ -20,6 +20,34 @@ const ANGLE_LIMIT: u32 = 2147483648;
 
 /// The limit of a way's numbers.
 const WAY_LIMIT: u32 = 512;
+
+/// Whether the first word is that of a fact that the vehicle knows of itself.
+pub fn names_own_fact(first: &[u8]) -> bool
+    ensures { result ≡ false → (rest : List (List ℕ)) → own_fact first.now rest ≡ None }
+{
+    names_vehicle_fact(first) || names_way_fact(first)
+}
+
+fn names_vehicle_fact(first: &[u8]) -> bool
+    ensures { result ≡ false → (rest : List (List ℕ)) → vehicle_fact first.now rest ≡ None }
+{
+    is_word(first, "vin")
+        || is_word(first, "kind")
+        || is_word(first, "fuel")
+        || is_word(first, "passengers")
+        || is_word(first, "extra")
+}
+
+fn names_way_fact(first: &[u8]) -> bool
+    ensures { result ≡ false → (rest : List (List ℕ)) → way_fact first.now rest ≡ None }
+{
+    is_word(first, "time")
+        || is_word(first, "place")
+        || is_word(first, "heading")
+        || is_word(first, "trusted")
+        || is_word(first, "before1")
+        || is_word(first, "before2")
+}
 
 /// A fact that the vehicle knows of itself, where the first word is that of one.
 pub fn read_own_fact(first: &[u8], rest: Option<&[u8]>) -> Option<Result<FactLine, Reason>>

@@ -3,13 +3,13 @@
 ghost use Rattle.std.specs.Prelude.{◌≡◌};
 ghost use Rattle.std.specs.Option.{option_copied};
 ghost use Rattle.trace_text.specs.Lines.{line_answer};
-ghost use Rattle.trace_text.specs.Script.{fact_says, other_by_word, script_line};
+ghost use Rattle.trace_text.specs.Script.{fact_says, line_by_word, other_by_word, script_line};
 ghost use Rattle.trace_text.specs.inner.Arguments.{words_behind};
 
 use crate::event::Event;
 use crate::events::read_event;
 use crate::fact_line::FactLine;
-use crate::facts::{read_own_fact, read_set};
+use crate::facts::{names_own_fact, read_own_fact, read_set};
 use crate::line::Line;
 use crate::reason::{BadLine, Reason};
 use crate::words::{is_word, split_word};
@@ -40,6 +40,18 @@ fn read_text(text: &[u8]) -> Result<ScriptLine, Reason>
     ensures { result ≡ script_line text.now }
 {
     let (first, rest) = split_word(text);
+    if names_own_fact(first) {
+        read_fact(first, rest)
+    } else {
+        read_other(first, rest)
+    }
+}
+
+// Never inlined: a call has room for every fact, which a line of another kind would pay for, too.
+#[inline(never)]
+fn read_fact(first: &[u8], rest: Option<&[u8]>) -> Result<ScriptLine, Reason>
+    ensures { result ≡ line_by_word first.now (words_behind (option_copied rest.entry)) }
+{
     match read_own_fact(first, rest) {
         Some(says) => told(says),
         None => read_other(first, rest),
