@@ -78,7 +78,8 @@ impl Call {
 /// The index of the call of a number, if it is there.
 pub(crate) fn find(calls: &[Call], number: u32) -> Option<usize>
     ensures within { IfSome result (λ i. i < length calls.now) }
-    ensures place { AreAbove 0 (map (λ k. k.number) calls.now) → result ≡ place_of number (map (λ k. k.number) calls.now) }
+    ensures place { AreAbove 0 (map (λ k. k.number) calls.now) →
+        result ≡ place_of number (map (λ k. k.number) calls.now) }
 {
     let mut low = 0;
     let mut high = calls.len();
@@ -99,7 +100,8 @@ pub(crate) fn find(calls: &[Call], number: u32) -> Option<usize>
 
 /// Posts what one item sends into its call.
 fn post_one(calls: &mut Vec<Call>, tick: u64, note: &Note) -> Result<(), AllocError>
-    ensures { (floor : ℕ) (clock : ℕ → ℕ) (ks : List model.Call) → CallsLag floor clock calls.old.items ks → AreAbove 0 (numbers_of ks) →
+    ensures { (floor : ℕ) (clock : ℕ → ℕ) (ks : List model.Call) → CallsLag floor clock calls.old.items ks →
+        AreAbove 0 (numbers_of ks) →
         OnOk result (CallsLag floor clock calls.new.items (map (model.carries (told tick (note.now ∷ []))) ks)) }
 {
     match note {
@@ -116,8 +118,10 @@ fn post_frame(
     number: u32,
     frame: &Frame,
 ) -> Result<(), AllocError>
-    ensures { (floor : ℕ) (clock : ℕ → ℕ) (ks : List model.Call) → CallsLag floor clock calls.old.items ks → AreAbove 0 (numbers_of ks) →
-        OnOk result (CallsLag floor clock calls.new.items (map (model.carries (told tick (Note.Send end number frame.now ∷ []))) ks)) }
+    ensures { (floor : ℕ) (clock : ℕ → ℕ) (ks : List model.Call) → CallsLag floor clock calls.old.items ks →
+        AreAbove 0 (numbers_of ks) →
+        OnOk result (CallsLag floor clock calls.new.items (map (model.carries (told tick
+        (Note.Send end number frame.now ∷ []))) ks)) }
 {
     match find(calls, number) {
         Some(i) => calls[i].push(end, tick, frame),
@@ -127,7 +131,8 @@ fn post_frame(
 
 /// Posts each frame that these items send into its call.
 pub(crate) fn post(calls: &mut Vec<Call>, tick: u64, items: &[Note]) -> Result<(), AllocError>
-    ensures { (floor : ℕ) (clock : ℕ → ℕ) (ks : List model.Call) → CallsLag floor clock calls.old.items ks → AreAbove 0 (numbers_of ks) →
+    ensures { (floor : ℕ) (clock : ℕ → ℕ) (ks : List model.Call) → CallsLag floor clock calls.old.items ks →
+        AreAbove 0 (numbers_of ks) →
         OnOk result (CallsLag floor clock calls.new.items (map (model.carries (told tick items.now)) ks)) }
 {
     for note in items {
@@ -138,7 +143,8 @@ pub(crate) fn post(calls: &mut Vec<Call>, tick: u64, items: &[Note]) -> Result<(
 
 /// Drops the call of a number, in which the vehicle isn't, if its session isn't there.
 pub(crate) fn drop_without_session(calls: &mut Vec<Call>, number: u32)
-    ensures { (floor : ℕ) (clock : ℕ → ℕ) (in_call : Option ℕ) (ks : List model.Call) → CallsLag floor clock calls.old.items ks →
+    ensures { (floor : ℕ) (clock : ℕ → ℕ) (in_call : Option ℕ) (ks : List model.Call) →
+        CallsLag floor clock calls.old.items ks →
         AreAbove 0 (numbers_of ks) → AllByRecursion (OtherHasLeg in_call (Some number)) ks →
         model.is_number number in_call ≡ false → CallsLag floor clock calls.new.items (model.with_legs in_call ks) }
 {
@@ -151,7 +157,8 @@ pub(crate) fn drop_without_session(calls: &mut Vec<Call>, number: u32)
 
 /// Whether a call's session is there.
 pub(crate) fn has_session(calls: &[Call], number: u32) -> bool
-    ensures { (floor : ℕ) (clock : ℕ → ℕ) (ks : List model.Call) → CallsLag floor clock calls.now ks → AreAbove 0 (numbers_of ks) →
+    ensures { (floor : ℕ) (clock : ℕ → ℕ) (ks : List model.Call) → CallsLag floor clock calls.now ks →
+        AreAbove 0 (numbers_of ks) →
         result ≡ is_some (model.session_of number ks) }
 {
     match find(calls, number) {
@@ -162,7 +169,8 @@ pub(crate) fn has_session(calls: &[Call], number: u32) -> bool
 
 /// The frame sent up, or down, in a call at this place, from 0.
 pub(crate) fn sent_frame(calls: &[Call], up: bool, number: u32, place: usize) -> Option<Frame>
-    ensures { (floor : ℕ) (clock : ℕ → ℕ) (ks : List model.Call) → CallsLag floor clock calls.now ks → AreAbove 0 (numbers_of ks) →
+    ensures { (floor : ℕ) (clock : ℕ → ℕ) (ks : List model.Call) → CallsLag floor clock calls.now ks →
+        AreAbove 0 (numbers_of ks) →
         result ≡ option_map (λ s. s.frame) (slice_get (if up then lines.sent_up (model.call_of number ks)
         else lines.sent_down (model.call_of number ks)) place) }
 {
@@ -372,7 +380,8 @@ pub(crate) fn catch_session_up<L: Ledger>(
     ensures caught { (floor : ℕ) (ks : List model.Call) → CallsLag floor (λ c. tick) calls.old.items ks →
         AreAbove 0 (numbers_of ks) → IsCaught (λ c. tick) number calls.new.items }
     ensures passes { (floor : ℕ) (ks : List model.Call) → CallsLag floor (λ c. tick) calls.old.items ks →
-        AreAbove 0 (numbers_of ks) → tick < floor + 2 ^ 32 → moments.new ≤ moments.old + once_if (model.session_of number ks) }
+        AreAbove 0 (numbers_of ks) → tick < floor + 2 ^ 32 → moments.new ≤ moments.old + once_if
+        (model.session_of number ks) }
 {
     if let Some(i) = find(calls, number) {
         catch_up(&mut calls[i], tick, moments);
@@ -395,7 +404,8 @@ pub(crate) fn catch_each_up<L: Ledger>(calls: &mut Vec<Call>, tick: u64, moments
 fn due_at(session: &Session, lag: u64) -> Option<u32>
     ensures some { IfSome result (λ due. (0 < due) × (due ≤ lag)) }
     ensures due { (s : Point) → SessionStandsFor session.now s → IfSome result (λ due. point.due_of s ≡ Some due) }
-    ensures later { (s : Point) → SessionStandsFor session.now s → result ≡ None → IfSome (point.due_of s) (λ due. lag < due) }
+    ensures later { (s : Point) → SessionStandsFor session.now s → result ≡ None →
+        IfSome (point.due_of s) (λ due. lag < due) }
 {
     let due = session.due()?;
     if due > 0 && u64::from(due) <= lag {
@@ -433,7 +443,8 @@ pub(crate) fn add_due(
     tick: u64,
 ) -> Result<(), AllocError>
     ensures { (delay : ℕ) → AreFrom 0 (ticks_of sends.now) → OnOk result
-        (map due_of due.new.items ≡ map due_of due.old.items ++ model.due_frames number delay (tick + delay) sends.now) }
+        (map due_of due.new.items ≡ map due_of due.old.items ++ model.due_frames number delay
+        (tick + delay) sends.now) }
 {
     let first = sends.first_from(tick);
     for k in first..sends.len() {

@@ -99,7 +99,8 @@ impl Channel {
 
     /// Sets the flow of a direction.
     fn set_flow(&mut self, up: bool, delay: u32)
-        ensures { self.new ≡ (if up then record self.old { up_flow = delay } else record self.old { down_flow = delay }) }
+        ensures { self.new ≡
+            (if up then record self.old { up_flow = delay } else record self.old { down_flow = delay }) }
     {
         if up {
             self.up_flow = delay;

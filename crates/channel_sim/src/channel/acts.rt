@@ -30,7 +30,8 @@ impl Channel {
     /// A call is gone once both its legs are down.
     fn drop_call(&mut self, number: u32)
         ensures same { self.new ≡ record self.old { calls = self.new.calls } }
-        ensures calls { (n : ℕ) (floor : ℕ) (clock : ℕ → ℕ) (v : Vehicle) (ks : List model.Call) → VehicleLags n self.old.vehicle v →
+        ensures calls { (n : ℕ) (floor : ℕ) (clock : ℕ → ℕ) (v : Vehicle) (ks : List model.Call) →
+            VehicleLags n self.old.vehicle v →
             CallsLag floor clock self.old.calls.items ks → AreAbove 0 (numbers_of ks) →
             AllByRecursion (OtherHasLeg (vehicle_call v) (Some number)) ks →
             CallsLag floor clock self.new.calls.items (model.with_legs (vehicle_call v) ks) }
@@ -43,7 +44,8 @@ impl Channel {
     /// The call that is concerned, if any, is gone once both its legs are down.
     fn drop_concerned(&mut self, call: Option<u32>)
         ensures same { self.new ≡ record self.old { calls = self.new.calls } }
-        ensures calls { (n : ℕ) (floor : ℕ) (clock : ℕ → ℕ) (v : Vehicle) (ks : List model.Call) → VehicleLags n self.old.vehicle v →
+        ensures calls { (n : ℕ) (floor : ℕ) (clock : ℕ → ℕ) (v : Vehicle) (ks : List model.Call) →
+            VehicleLags n self.old.vehicle v →
             CallsLag floor clock self.old.calls.items ks → AreAbove 0 (numbers_of ks) →
             AllByRecursion (OtherHasLeg (vehicle_call v) call) ks →
             CallsLag floor clock self.new.calls.items (model.with_legs (vehicle_call v) ks) }
@@ -63,7 +65,8 @@ impl Channel {
     ) -> Result<(), SimFault>
         ensures step { (ahead : ℕ) (floor : ℕ) (clock : ℕ → ℕ) (w : model.World) (v : Vehicle) (ks : List model.Call) →
             IsReady ahead floor clock self.old w v ks call →
-            Came (H.grew to.old to.new) (H.partly to.old to.new) result ahead floor clock self.new (model.did w items.now v ks) }
+            Came (H.grew to.old to.new) (H.partly to.old to.new) result ahead floor clock self.new
+            (model.did w items.now v ks) }
         ensures tick { self.new.tick ≡ self.old.tick }
         ensures stood { OnOk result (H.faults to.new ≡ H.faults to.old) }
         ensures cause { IfErr result (λ e. SimFaultCause e (H.faults to.old) (H.faults to.new)) }
@@ -95,10 +98,13 @@ impl Channel {
         ensures stood { OnOk result (H.faults to.new ≡ H.faults to.old) }
         ensures cause { IfErr result (λ e. SimFaultCause e (H.faults to.old) (H.faults to.new)) }
         ensures counted { H.faults to.old ≤ H.faults to.new }
-        ensures passes { (ahead : ℕ) (floor : ℕ) (clock : ℕ → ℕ) (w : model.World) (v : Vehicle) (ks : List model.Call) →
-            IsReady ahead floor clock self.old w v ks call → ahead ≡ self.old.tick → self.old.tick < floor + 2 ^ 32 → OnOk result
+        ensures passes { (ahead : ℕ) (floor : ℕ) (clock : ℕ → ℕ) (w : model.World) (v : Vehicle)
+            (ks : List model.Call) →
+            IsReady ahead floor clock self.old w v ks call → ahead ≡ self.old.tick → self.old.tick < floor + 2 ^ 32 →
+            OnOk result
             (moments.new + length items.now ≤ moments.old + passes_of (model.settled (model.did w items.now v ks))) }
-        ensures still { self.old.passed ≡ self.old.tick → (self.new.passed ≡ self.new.tick) × (moments.new ≡ moments.old) }
+        ensures still { self.old.passed ≡ self.old.tick → (self.new.passed ≡ self.new.tick)
+            × (moments.new ≡ moments.old) }
     {
         self.did(alloc, items, call, to)?;
         self.follow(alloc, items, other, to, moments)
@@ -112,7 +118,8 @@ impl Channel {
         items: &mut Items,
         to: &mut H,
     ) -> Result<(), SimFault>
-        ensures step { (ahead : ℕ) (floor : ℕ) (clock : ℕ → ℕ) (w : model.World) → StandsAt ahead floor clock self.old w →
+        ensures step { (ahead : ℕ) (floor : ℕ) (clock : ℕ → ℕ) (w : model.World) →
+            StandsAt ahead floor clock self.old w →
             ahead ≡ self.old.passed →
             Came (H.grew to.old to.new) (H.partly to.old to.new) result ahead floor clock self.new
             (model.vehicle_did w (vehicle.vehicle_row w.vehicle (vehicle.heard event.now))) }
@@ -136,7 +143,8 @@ impl Channel {
         to: &mut H,
         moments: &mut Steps<L>,
     ) -> Result<(), SimFault>
-        ensures step { (ahead : ℕ) (floor : ℕ) (clock : ℕ → ℕ) (w : model.World) → StandsAt ahead floor clock self.old w →
+        ensures step { (ahead : ℕ) (floor : ℕ) (clock : ℕ → ℕ) (w : model.World) →
+            StandsAt ahead floor clock self.old w →
             ahead ≡ self.old.passed → ahead ≡ self.old.tick →
             Came (H.grew to.old to.new) (H.partly to.old to.new) result ahead floor clock self.new
             (model.performs (model.Hears (vehicle.heard event.now)) w) }
@@ -144,7 +152,8 @@ impl Channel {
         ensures stood { OnOk result (H.faults to.new ≡ H.faults to.old) }
         ensures cause { IfErr result (λ e. SimFaultCause e (H.faults to.old) (H.faults to.new)) }
         ensures counted { H.faults to.old ≤ H.faults to.new }
-        ensures still { self.old.passed ≡ self.old.tick → (self.new.passed ≡ self.new.tick) × (moments.new ≡ moments.old) }
+        ensures still { self.old.passed ≡ self.old.tick → (self.new.passed ≡ self.new.tick)
+            × (moments.new ≡ moments.old) }
     {
         let call = self.vehicle.call();
         self.vehicle.hear_into(event, &mut given.own);
@@ -160,7 +169,8 @@ impl Channel {
         items: &mut Items,
         to: &mut H,
     ) -> Result<(), SimFault>
-        ensures step { (ahead : ℕ) (floor : ℕ) (clock : ℕ → ℕ) (w : model.World) → StandsAt ahead floor clock self.old w →
+        ensures step { (ahead : ℕ) (floor : ℕ) (clock : ℕ → ℕ) (w : model.World) →
+            StandsAt ahead floor clock self.old w →
             Came (H.grew to.old to.new) (H.partly to.old to.new) result ahead floor clock self.new
             (model.does (model.Session number (point.Ended Why.Release)) w) }
         ensures tick { self.new.tick ≡ self.old.tick }
@@ -187,7 +197,8 @@ impl Channel {
         to: &mut H,
         moments: &mut Steps<L>,
     ) -> Result<(), SimFault>
-        ensures step { (ahead : ℕ) (floor : ℕ) (clock : ℕ → ℕ) (w : model.World) → StandsAt ahead floor clock self.old w →
+        ensures step { (ahead : ℕ) (floor : ℕ) (clock : ℕ → ℕ) (w : model.World) →
+            StandsAt ahead floor clock self.old w →
             ahead ≡ self.old.tick → IsCaught clock number self.old.calls.items →
             Came (H.grew to.old to.new) (H.partly to.old to.new) result ahead floor clock self.new
             (model.performs (model.Session number (point.heard event.now)) w) }
@@ -195,10 +206,13 @@ impl Channel {
         ensures stood { OnOk result (H.faults to.new ≡ H.faults to.old) }
         ensures cause { IfErr result (λ e. SimFaultCause e (H.faults to.old) (H.faults to.new)) }
         ensures counted { H.faults to.old ≤ H.faults to.new }
-        ensures passes { (ahead : ℕ) (floor : ℕ) (clock : ℕ → ℕ) (w : model.World) → StandsAt ahead floor clock self.old w →
-            ahead ≡ self.old.tick → IsCaught clock number self.old.calls.items → self.old.tick < floor + 2 ^ 32 → OnOk result
+        ensures passes { (ahead : ℕ) (floor : ℕ) (clock : ℕ → ℕ) (w : model.World) →
+            StandsAt ahead floor clock self.old w →
+            ahead ≡ self.old.tick → IsCaught clock number self.old.calls.items → self.old.tick < floor + 2 ^ 32 →
+            OnOk result
             (moments.new ≤ moments.old + passes_of (model.performs (model.Session number (point.heard event.now)) w)) }
-        ensures still { self.old.passed ≡ self.old.tick → (self.new.passed ≡ self.new.tick) × (moments.new ≡ moments.old) }
+        ensures still { self.old.passed ≡ self.old.tick → (self.new.passed ≡ self.new.tick)
+            × (moments.new ≡ moments.old) }
     {
         if hear_session(&mut self.calls, number, event, &mut given.own) {
             let items = given.own.as_slice();
@@ -217,7 +231,8 @@ impl Channel {
         to: &mut H,
         moments: &mut Steps<L>,
     ) -> Result<(), SimFault>
-        ensures step { (ahead : ℕ) (floor : ℕ) (clock : ℕ → ℕ) (w : model.World) → StandsAt ahead floor clock self.old w →
+        ensures step { (ahead : ℕ) (floor : ℕ) (clock : ℕ → ℕ) (w : model.World) →
+            StandsAt ahead floor clock self.old w →
             ahead ≡ self.old.tick →
             Came (H.grew to.old to.new) (H.partly to.old to.new) result ahead floor clock self.new
             (model.does_each (model.consequence note.now) w) }
@@ -225,10 +240,12 @@ impl Channel {
         ensures stood { OnOk result (H.faults to.new ≡ H.faults to.old) }
         ensures cause { IfErr result (λ e. SimFaultCause e (H.faults to.old) (H.faults to.new)) }
         ensures counted { H.faults to.old ≤ H.faults to.new }
-        ensures passes { (ahead : ℕ) (floor : ℕ) (clock : ℕ → ℕ) (w : model.World) → StandsAt ahead floor clock self.old w →
+        ensures passes { (ahead : ℕ) (floor : ℕ) (clock : ℕ → ℕ) (w : model.World) →
+            StandsAt ahead floor clock self.old w →
             ahead ≡ self.old.tick → self.old.tick < floor + 2 ^ 32 → OnOk result
             (moments.new ≤ moments.old + passes_of (model.does_each (model.consequence note.now) w)) }
-        ensures still { self.old.passed ≡ self.old.tick → (self.new.passed ≡ self.new.tick) × (moments.new ≡ moments.old) }
+        ensures still { self.old.passed ≡ self.old.tick → (self.new.passed ≡ self.new.tick)
+            × (moments.new ≡ moments.old) }
     {
         match consequence_of(note) {
             Consequence::Nothing => Ok(()),
@@ -252,7 +269,8 @@ impl Channel {
         to: &mut H,
         moments: &mut Steps<L>,
     ) -> Result<(), SimFault>
-        ensures step { (ahead : ℕ) (floor : ℕ) (clock : ℕ → ℕ) (w : model.World) → StandsAt ahead floor clock self.old w →
+        ensures step { (ahead : ℕ) (floor : ℕ) (clock : ℕ → ℕ) (w : model.World) →
+            StandsAt ahead floor clock self.old w →
             ahead ≡ self.old.tick →
             Came (H.grew to.old to.new) (H.partly to.old to.new) result ahead floor clock self.new
             (model.does_each (model.consequences (told w.tick items.now)) w) }
@@ -260,10 +278,12 @@ impl Channel {
         ensures stood { OnOk result (H.faults to.new ≡ H.faults to.old) }
         ensures cause { IfErr result (λ e. SimFaultCause e (H.faults to.old) (H.faults to.new)) }
         ensures counted { H.faults to.old ≤ H.faults to.new }
-        ensures passes { (ahead : ℕ) (floor : ℕ) (clock : ℕ → ℕ) (w : model.World) → StandsAt ahead floor clock self.old w →
+        ensures passes { (ahead : ℕ) (floor : ℕ) (clock : ℕ → ℕ) (w : model.World) →
+            StandsAt ahead floor clock self.old w →
             ahead ≡ self.old.tick → self.old.tick < floor + 2 ^ 32 → OnOk result
             (moments.new ≤ moments.old + passes_of (model.does_each (model.consequences (told w.tick items.now)) w)) }
-        ensures still { self.old.passed ≡ self.old.tick → (self.new.passed ≡ self.new.tick) × (moments.new ≡ moments.old) }
+        ensures still { self.old.passed ≡ self.old.tick → (self.new.passed ≡ self.new.tick)
+            × (moments.new ≡ moments.old) }
     {
         for note in items {
             self.follow_one(alloc, note, other, to, moments)?;

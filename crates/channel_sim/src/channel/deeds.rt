@@ -119,7 +119,8 @@ impl Channel {
     ) -> Result<(), SimFault>
         ensures step { (w : model.World) → StandsNow self.old w →
             CameNow (H.grew to.old to.new) (H.partly to.old to.new) result self.new
-            (lines.or_nothing (lines.when (model.vehicle_is_in number w) (lines.Does (model.InCall number vehicle.Lost)) ++ lines.at_point number (point.Ended Why.Lost) w) w) }
+            (lines.or_nothing (lines.when (model.vehicle_is_in number w) (lines.Does (model.InCall number vehicle.Lost))
+            ++ lines.at_point number (point.Ended Why.Lost) w) w) }
         ensures stood { OnOk result (H.faults to.new ≡ H.faults to.old) }
         ensures cause { IfErr result (λ e. SimFaultCause e (H.faults to.old) (H.faults to.new)) }
         ensures counted { H.faults to.old ≤ H.faults to.new }
@@ -283,7 +284,9 @@ impl Channel {
     ) -> Result<(), SimFault>
         ensures step { (w : model.World) → StandsNow self.old w →
             CameNow (H.grew to.old to.new) (H.partly to.old to.new) result self.new
-            (lines.or_nothing (if model.point_is_in number w then lines.hands_one lines.HandsUp number (slice_get (lines.sent_up (model.call_of number w.calls)) place) else []) w) }
+            (lines.or_nothing (if model.point_is_in number w then
+            lines.hands_one lines.HandsUp number (slice_get (lines.sent_up (model.call_of number w.calls)) place)
+            else []) w) }
         ensures stood { OnOk result (H.faults to.new ≡ H.faults to.old) }
         ensures cause { IfErr result (λ e. SimFaultCause e (H.faults to.old) (H.faults to.new)) }
         ensures counted { H.faults to.old ≤ H.faults to.new }
@@ -310,7 +313,9 @@ impl Channel {
     ) -> Result<(), SimFault>
         ensures step { (w : model.World) → StandsNow self.old w →
             CameNow (H.grew to.old to.new) (H.partly to.old to.new) result self.new
-            (lines.or_nothing (if model.vehicle_is_in number w then lines.hands_one lines.HandsDown number (slice_get (lines.sent_down (model.call_of number w.calls)) place) else []) w) }
+            (lines.or_nothing (if model.vehicle_is_in number w then
+            lines.hands_one lines.HandsDown number (slice_get (lines.sent_down (model.call_of number w.calls)) place)
+            else []) w) }
         ensures stood { OnOk result (H.faults to.new ≡ H.faults to.old) }
         ensures cause { IfErr result (λ e. SimFaultCause e (H.faults to.old) (H.faults to.new)) }
         ensures counted { H.faults to.old ≤ H.faults to.new }

@@ -53,7 +53,8 @@ impl Channel {
         ensures stood { OnOk result (H.faults to.new ≡ H.faults to.old) }
         ensures cause { IfErr result (λ e. SimFaultCause e (H.faults to.old) (H.faults to.new)) }
         ensures counted { H.faults to.old ≤ H.faults to.new }
-        ensures passes { (ahead floor : ℕ) (w : model.World) → StandsAt ahead floor (λ c. ahead) self.old w → ahead ≡ self.old.tick →
+        ensures passes { (ahead floor : ℕ) (w : model.World) → StandsAt ahead floor (λ c. ahead) self.old w →
+            ahead ≡ self.old.tick →
             self.old.tick < floor + 2 ^ 32 → OnOk result (moments.new ≤ moments.old +
             passes_of (model.hands_up (record { call = number; frame = frame.now }) w)) }
     {
@@ -80,7 +81,8 @@ impl Channel {
         ensures stood { OnOk result (H.faults to.new ≡ H.faults to.old) }
         ensures cause { IfErr result (λ e. SimFaultCause e (H.faults to.old) (H.faults to.new)) }
         ensures counted { H.faults to.old ≤ H.faults to.new }
-        ensures passes { (ahead floor : ℕ) (w : model.World) → StandsAt ahead floor (λ c. ahead) self.old w → ahead ≡ self.old.tick →
+        ensures passes { (ahead floor : ℕ) (w : model.World) → StandsAt ahead floor (λ c. ahead) self.old w →
+            ahead ≡ self.old.tick →
             self.old.tick < floor + 2 ^ 32 → OnOk result (moments.new ≤ moments.old +
             passes_of (model.hands_down (record { call = number; frame = frame.now }) w)) }
     {
@@ -109,8 +111,10 @@ impl Channel {
         ensures stood { OnOk result (H.faults to.new ≡ H.faults to.old) }
         ensures cause { IfErr result (λ e. SimFaultCause e (H.faults to.old) (H.faults to.new)) }
         ensures counted { H.faults to.old ≤ H.faults to.new }
-        ensures passes { (ahead floor : ℕ) (w : model.World) → StandsAt ahead floor (λ c. ahead) self.old w → ahead ≡ self.old.tick →
-            self.old.tick < floor + 2 ^ 32 → OnOk result (moments.new ≤ moments.old + passes_of (model.each model.hands_up (map due_of due.now) w)) }
+        ensures passes { (ahead floor : ℕ) (w : model.World) → StandsAt ahead floor (λ c. ahead) self.old w →
+            ahead ≡ self.old.tick →
+            self.old.tick < floor + 2 ^ 32 → OnOk result (moments.new ≤ moments.old + passes_of
+            (model.each model.hands_up (map due_of due.now) w)) }
     {
         for one in due {
             self.hand_up(alloc, one.call, &one.frame, given, to, moments)?;
@@ -134,7 +138,8 @@ impl Channel {
         ensures stood { OnOk result (H.faults to.new ≡ H.faults to.old) }
         ensures cause { IfErr result (λ e. SimFaultCause e (H.faults to.old) (H.faults to.new)) }
         ensures counted { H.faults to.old ≤ H.faults to.new }
-        ensures passes { (ahead floor : ℕ) (w : model.World) → StandsAt ahead floor (λ c. ahead) self.old w → ahead ≡ self.old.tick →
+        ensures passes { (ahead floor : ℕ) (w : model.World) → StandsAt ahead floor (λ c. ahead) self.old w →
+            ahead ≡ self.old.tick →
             self.old.tick < floor + 2 ^ 32 → OnOk result (moments.new ≤ moments.old + passes_of (model.flows_up w)) }
     {
         self.due_up(&mut room.due)?;
@@ -158,8 +163,10 @@ impl Channel {
         ensures stood { OnOk result (H.faults to.new ≡ H.faults to.old) }
         ensures cause { IfErr result (λ e. SimFaultCause e (H.faults to.old) (H.faults to.new)) }
         ensures counted { H.faults to.old ≤ H.faults to.new }
-        ensures passes { (ahead floor : ℕ) (w : model.World) → StandsAt ahead floor (λ c. ahead) self.old w → ahead ≡ self.old.tick →
-            self.old.tick < floor + 2 ^ 32 → OnOk result (moments.new ≤ moments.old + passes_of (model.each model.hands_down (map due_of due.now) w)) }
+        ensures passes { (ahead floor : ℕ) (w : model.World) → StandsAt ahead floor (λ c. ahead) self.old w →
+            ahead ≡ self.old.tick →
+            self.old.tick < floor + 2 ^ 32 → OnOk result (moments.new ≤ moments.old + passes_of
+            (model.each model.hands_down (map due_of due.now) w)) }
     {
         for one in due {
             self.hand_down(alloc, one.call, &one.frame, given, to, moments)?;
@@ -183,7 +190,8 @@ impl Channel {
         ensures stood { OnOk result (H.faults to.new ≡ H.faults to.old) }
         ensures cause { IfErr result (λ e. SimFaultCause e (H.faults to.old) (H.faults to.new)) }
         ensures counted { H.faults to.old ≤ H.faults to.new }
-        ensures passes { (ahead floor : ℕ) (w : model.World) → StandsAt ahead floor (λ c. ahead) self.old w → ahead ≡ self.old.tick →
+        ensures passes { (ahead floor : ℕ) (w : model.World) → StandsAt ahead floor (λ c. ahead) self.old w →
+            ahead ≡ self.old.tick →
             self.old.tick < floor + 2 ^ 32 → OnOk result (moments.new ≤ moments.old + passes_of (model.flows_down w)) }
     {
         self.due_down(&mut room.due)?;

@@ -66,7 +66,8 @@ fn pass_vehicle_quietly<L: Ledger>(ivs: &mut Ivs, lag: u64, moments: &mut Steps<
 fn vehicle_due_at(ivs: &Ivs, lag: u64) -> Option<u32>
     ensures some { IfSome result (λ due. (0 < due) × (due ≤ lag)) }
     ensures due { (v : Vehicle) → IvsStandsFor ivs.now v → IfSome result (λ due. vehicle.due_of v ≡ Some due) }
-    ensures later { (v : Vehicle) → IvsStandsFor ivs.now v → result ≡ None → IfSome (vehicle.due_of v) (λ due. lag < due) }
+    ensures later { (v : Vehicle) → IvsStandsFor ivs.now v → result ≡ None →
+        IfSome (vehicle.due_of v) (λ due. lag < due) }
 {
     let due = ivs.due()?;
     if due > 0 && u64::from(due) <= lag {
@@ -94,7 +95,8 @@ impl Channel {
     /// Passes the vehicle up to this tick, up to which it does nothing.
     pub(super) fn catch_vehicle_up<L: Ledger>(&mut self, moments: &mut Steps<L>)
         ensures same { self.new ≡ record self.old { vehicle = self.new.vehicle; passed = self.old.tick } }
-        ensures caught { (ahead : ℕ) (floor : ℕ) (clock : ℕ → ℕ) (w : model.World) → StandsAt ahead floor clock self.old w →
+        ensures caught { (ahead : ℕ) (floor : ℕ) (clock : ℕ → ℕ) (w : model.World) →
+            StandsAt ahead floor clock self.old w →
             ahead ≡ self.old.tick → StandsAt ahead floor clock self.new w }
         ensures passes { (ahead floor : ℕ) (clock : ℕ → ℕ) (w : model.World) → StandsAt ahead floor clock self.old w →
             ahead ≡ self.old.tick → self.old.tick < floor + 2 ^ 32 → moments.new ≤ moments.old + 1 }
@@ -111,7 +113,8 @@ impl Channel {
     /// The tick at which something happens in a call; at most `end`.
     fn call_moment(&self, call: &Call, end: u64) -> u64
         ensures most { result ≤ end }
-        ensures quiet { (floor n : ℕ) (k : model.Call) → CallLags floor self.now.tick call.now k → CallInTime self.now.tick k →
+        ensures quiet { (floor n : ℕ) (k : model.Call) → CallLags floor self.now.tick call.now k →
+            CallInTime self.now.tick k →
             self.now.tick + n < result → IsQuietCall n self.now.up_flow self.now.down_flow self.now.tick k }
     {
         let due = match &call.session {
@@ -200,7 +203,8 @@ impl Channel {
         to: &mut H,
         moments: &mut Steps<L>,
     ) -> Result<(), SimFault>
-        ensures step { (ahead floor : ℕ) (before after : ℕ → ℕ) (w : model.World) → StandsAt ahead floor before self.old w →
+        ensures step { (ahead floor : ℕ) (before after : ℕ → ℕ) (w : model.World) →
+            StandsAt ahead floor before self.old w →
             ahead ≡ self.old.tick → before number + 1 ≡ ahead → after number ≡ ahead → AreSameBut number before after →
             Came (H.grew to.old to.new) (H.partly to.old to.new) result ahead floor after self.new
             (model.session_passes number w) }
@@ -208,9 +212,11 @@ impl Channel {
         ensures stood { OnOk result (H.faults to.new ≡ H.faults to.old) }
         ensures cause { IfErr result (λ e. SimFaultCause e (H.faults to.old) (H.faults to.new)) }
         ensures counted { H.faults to.old ≤ H.faults to.new }
-        ensures passes { (ahead floor : ℕ) (before after : ℕ → ℕ) (w : model.World) → StandsAt ahead floor before self.old w →
+        ensures passes { (ahead floor : ℕ) (before after : ℕ → ℕ) (w : model.World) →
+            StandsAt ahead floor before self.old w →
             ahead ≡ self.old.tick → before number + 1 ≡ ahead → after number ≡ ahead → AreSameBut number before after →
-            self.old.tick < floor + 2 ^ 32 → OnOk result (moments.new ≤ moments.old + passes_of (model.session_passes number w)) }
+            self.old.tick < floor + 2 ^ 32 → OnOk result (moments.new ≤ moments.old + passes_of
+            (model.session_passes number w)) }
     {
         if act_session(&mut self.calls, number, self.tick, &mut given.own, moments) {
             let items = given.own.as_slice();
@@ -289,7 +295,8 @@ impl Channel {
         ensures stood { OnOk result (H.faults to.new ≡ H.faults to.old) }
         ensures cause { IfErr result (λ e. SimFaultCause e (H.faults to.old) (H.faults to.new)) }
         ensures counted { H.faults to.old ≤ H.faults to.new }
-        ensures passes { (floor n : ℕ) (w : model.World) → StandsAt self.old.tick floor (λ c. self.old.tick) self.old w →
+        ensures passes { (floor n : ℕ) (w : model.World) → StandsAt self.old.tick floor
+            (λ c. self.old.tick) self.old w →
             self.old.tick + n + 1 ≡ tick → QuietFor n w → tick < floor + 2 ^ 32 → OnOk result
             (moments.new ≤ moments.old + passes_of (model.units (n + 1) w)) }
     {

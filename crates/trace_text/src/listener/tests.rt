@@ -101,26 +101,31 @@ fn kept_has_what_it_heard(rt: HostRuntime) -> Result<(), Fail> {
     Ok(())
 }
 
+fn shown() -> Note {
+    Note::Shown {
+        call: 1,
+        request: Request::first(),
+        octets: [0; OCTETS],
+    }
+}
+
+fn acked() -> Note {
+    Note::Acked {
+        call: 1,
+        request: Request::first(),
+        octets: [0; OCTETS],
+    }
+}
+
 /// A set that is shown and twice acknowledged in an answered call, and a call that is busy.
 fn answered_call() -> [Entry; 5] {
     let at = |tick, note| Entry { tick, note };
-    let (call, request, octets) = (1, Request::first(), [0; OCTETS]);
-    let shown = Note::Shown {
-        call,
-        request,
-        octets,
-    };
-    let acked = Note::Acked {
-        call,
-        request,
-        octets,
-    };
-    let end = End::Point;
+    let (end, call) = (End::Point, 1);
     [
         at(60, Note::Up { end, call }),
-        at(61, shown),
-        at(62, acked),
-        at(62, acked),
+        at(61, shown()),
+        at(62, acked()),
+        at(62, acked()),
         at(90, Note::Busy(2)),
     ]
 }
