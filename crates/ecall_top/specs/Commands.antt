@@ -1,6 +1,6 @@
 -- Which command the words name: each form of words is an exact list. This project's profile. Cited by the reply to
 -- words and an input.
-use Rattle.std.specs.Prelude.{ℕ, List, [], ◌∷◌, Option, Some, None, codes, if◌then◌else◌}
+use Rattle.std.specs.Prelude.{ℕ, Bool, true, false, List, [], ◌∷◌, Option, Some, None, codes, if◌then◌else◌}
 use Rattle.std.specs.Str.{bytes_eq}
 use Rattle.ecall_top.specs.declared.command.Command.{Command}
 use Rattle.ecall_top.specs.declared.command.Command.TheVariants as command
@@ -17,3 +17,13 @@ command_named word =
 abbrev pub command_of : List (List ℕ) → Option Command
 command_of (word ∷ []) = command_named word
 command_of _ = None
+
+-- whether a command plays a script, and so passes the ends of its calls
+abbrev pub plays : Option Command → Bool
+plays (Some command.Run) = true
+plays _ = false
+
+-- whether a command takes memory
+abbrev pub takes_memory : Option Command → Bool
+takes_memory (Some command.Run) = true
+takes_memory _ = false

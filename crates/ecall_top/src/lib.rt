@@ -1,13 +1,13 @@
 //! The commands of `ecall`: words and a whole input in, text and a status out.
 #![tactic(auto)]
 
-ghost use Rattle.std.specs.Prelude.{◌≡◌, ◌≤◌, ◌⊎◌, ◌++◌, [], List, ℕ, Some, None, map};
+ghost use Rattle.std.specs.Prelude.{true, ◌≡◌, ◌≤◌, ◌⊎◌, ◌++◌, [], List, ℕ, Some, None, map};
 ghost use Rattle.std.specs.String.{string_bytes};
 ghost use Rattle.call_io.specs.Blocks.{held, pending, sink, sink_name, way};
 ghost use Rattle.call_io.specs.Ways.{Onward};
 ghost use Rattle.trace_text.specs.Safety.{Agreed, Bounded, Finished, Opened};
 ghost use Rattle.trace_text.specs.Script.{script_of};
-ghost use Rattle.ecall_top.specs.Commands.{command_of};
+ghost use Rattle.ecall_top.specs.Commands.{command_of, plays, takes_memory};
 ghost use Rattle.ecall_top.specs.CutTraces.{IsSafelyCut};
 ghost use Rattle.ecall_top.specs.Outcome.{Outcome, ReadCause, WriteCause, streams_of};
 ghost use Rattle.ecall_top.specs.Replies.{usage_line};
@@ -88,10 +88,10 @@ pub fn ecall<I: Source, O: Sink, L: Ledger>(
     // Words that name no command get the usage line unless writing fails.
     ensures usage { command_of (map string_bytes words.now) ≡ None →
         (result ≡ Status.Usage) ⊎ (result ≡ Status.WriteFault) }
-    // Ends are passed by `run` alone.
-    ensures uncounted { (command_of (map string_bytes words.now) ≡ Some Command.Run) ⊎ (moments.new ≡ moments.old) }
-    // Memory is wanted by `run` alone: decoding, encoding and the usage line take none.
-    ensures in_place { result ≡ Status.Memory → command_of (map string_bytes words.now) ≡ Some Command.Run }
+    // Ends are passed by commands that play a script alone.
+    ensures uncounted { (plays (command_of (map string_bytes words.now)) ≡ true) ⊎ (moments.new ≡ moments.old) }
+    // Memory is wanted by those commands alone that take any.
+    ensures in_place { result ≡ Status.Memory → takes_memory (command_of (map string_bytes words.now)) ≡ true }
     // A read failed where the answer says so, and else none did; the same of writes.
     ensures unread { ReadCause result (I.faults input.old) (I.faults input.new) }
     ensures unwritten { WriteCause result (O.faults output.old) (O.faults output.new) }
@@ -116,8 +116,8 @@ fn carry_out<I: Source, O: Sink, L: Ledger>(
         (streams_of I.left (λ block. O.held (sink block)) input.new output.new moments.new) result }
     ensures usage { command_of (map string_bytes words.now) ≡ None →
         (result ≡ Status.Usage) ⊎ (result ≡ Status.WriteFault) }
-    ensures uncounted { (command_of (map string_bytes words.now) ≡ Some Command.Run) ⊎ (moments.new ≡ moments.old) }
-    ensures in_place { result ≡ Status.Memory → command_of (map string_bytes words.now) ≡ Some Command.Run }
+    ensures uncounted { (plays (command_of (map string_bytes words.now)) ≡ true) ⊎ (moments.new ≡ moments.old) }
+    ensures in_place { result ≡ Status.Memory → takes_memory (command_of (map string_bytes words.now)) ≡ true }
     ensures unread { ReadCause result (I.faults input.old) (I.faults input.new) }
     ensures unwritten { WriteCause result (O.faults (sink output.old)) (O.faults (sink output.new)) }
     ensures reads_counted { I.faults input.old ≤ I.faults input.new }
@@ -141,8 +141,8 @@ fn reply<I: Source, O: Sink, L: Ledger>(
         (streams_of I.left (held O.held) input.new output.new moments.new) result }
     ensures usage { command_of (map string_bytes words.now) ≡ None →
         (result ≡ Status.Usage) ⊎ (result ≡ Status.WriteFault) }
-    ensures uncounted { (command_of (map string_bytes words.now) ≡ Some Command.Run) ⊎ (moments.new ≡ moments.old) }
-    ensures in_place { result ≡ Status.Memory → command_of (map string_bytes words.now) ≡ Some Command.Run }
+    ensures uncounted { (plays (command_of (map string_bytes words.now)) ≡ true) ⊎ (moments.new ≡ moments.old) }
+    ensures in_place { result ≡ Status.Memory → takes_memory (command_of (map string_bytes words.now)) ≡ true }
     ensures unread { ReadCause result (I.faults input.old) (I.faults input.new) }
     ensures unwritten { WriteCause result (O.faults (sink output.old)) (O.faults (sink output.new)) }
     ensures reads_counted { I.faults input.old ≤ I.faults input.new }
