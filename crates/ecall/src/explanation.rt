@@ -1,6 +1,7 @@
 //! What a person is told of how a call ended.
 
 use ecall_top::{Refused, Status};
+use link_frames::{Fault, FrameFault};
 use per_bits::{Reason as SetReason, Refusal};
 use std::fmt;
 use trace_text::{BadLine, Reason as LineReason};
@@ -20,6 +21,7 @@ impl fmt::Display for Explanation<'_> {
             Status::Usage => write_usage(f, self.word),
             Status::Refused(Refused::Line(bad)) => write_line(f, bad),
             Status::Refused(Refused::Set { line, refusal }) => write_set(f, line, refusal),
+            Status::Refused(Refused::Frame { line, fault }) => write_frame(f, line, fault),
             Status::Broken => write!(f, "a rule is broken at the line that the answer names"),
             Status::ReadFault => write!(f, "reading failed; {BEGINNING}"),
             Status::WriteFault => write!(f, "writing failed; {BEGINNING}"),
@@ -34,14 +36,12 @@ const BEGINNING: &str = "what was written is the beginning of an answer";
 
 /// What the commands do that are built.
 const BUILT: &str =
-    "`ecall run` plays a script, `ecall decode` describes sets of data and `ecall encode` makes them, from standard input";
+    "`ecall run` plays a script, `ecall decode` describes sets of data, `ecall encode` makes them and `ecall frames` \
+    reads a stream of frames, from standard input";
 
 /// Whether a command of this name is planned and not built yet.
 fn is_planned(word: &str) -> bool {
-    matches!(
-        word,
-        "register" | "frames" | "replay" | "trial" | "make" | "conform"
-    )
+    matches!(word, "register" | "replay" | "trial" | "make" | "conform")
 }
 
 /// Why the words are no form of words.
@@ -106,6 +106,32 @@ fn write_set<W: fmt::Write>(f: &mut fmt::Formatter<W>, line: u32, refusal: Refus
     }
     let code = refusal.reason.code();
     write!(f, " (reason {code})")
+}
+
+/// With which octet no frame goes on, and where it stands.
+fn write_frame<W: fmt::Write>(
+    f: &mut fmt::Formatter<W>,
+    line: u32,
+    fault: FrameFault,
+) -> fmt::Result {
+    let place = fault.place;
+    let octet = fault.octet;
+    let wrong = frame_fault(fault.fault);
+    let code = fault.fault.code();
+    write!(
+        f,
+        "line {line}: no frame goes on with the octet {octet}, {wrong}; {place} octets of the stream stand before it \
+        (fault {code})"
+    )
+}
+
+/// What is wrong with that octet.
+fn frame_fault(fault: Fault) -> &'static str {
+    match fault {
+        Fault::Kind => "which is no kind from 1 to 6",
+        Fault::Number => "where a request is 1 or more",
+        Fault::Answer => "where an answer is 1 or 2",
+    }
 }
 
 /// What stands at the place of a refusal, as far as its value says it.

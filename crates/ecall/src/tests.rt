@@ -2,6 +2,7 @@
 
 use crate::explanation::Explanation;
 use ecall_top::{Refused, Status};
+use link_frames::{Fault, FrameFault};
 use per_bits::{Reason as SetReason, Refusal};
 use std::alloc::Global;
 use std::process::Abort;
@@ -151,6 +152,39 @@ fn explains_what_else_a_set_has(rt: HostRuntime) -> Result<(), Fail> {
         expect_set(rt.alloc(), &rt, *reason, *value, text)?;
     }
     Ok(())
+}
+
+/// Checks what a person is told of the 5th octet of a stream, with which no frame goes on.
+fn expect_frame(
+    alloc: Global,
+    rt: &impl Abort,
+    fault: Fault,
+    octet: u8,
+    text: &str,
+) -> Result<(), Fail> {
+    let fault = FrameFault {
+        place: 4,
+        octet,
+        fault,
+    };
+    let why = Explanation {
+        status: Status::Refused(Refused::Frame { line: 3, fault }),
+        word: Some("frames"),
+    };
+    let want = format!(in alloc; "line 3: no frame goes on with the octet {text}")?;
+    assert_eq!(rt; format!(in alloc; "{why}")?.as_str(), want.as_str());
+    Ok(())
+}
+
+#[test]
+fn explains_frames(rt: HostRuntime) -> Result<(), Fail> {
+    let alloc = rt.alloc();
+    let text = "7, which is no kind from 1 to 6; 4 octets of the stream stand before it (fault 1)";
+    expect_frame(alloc, &rt, Fault::Kind, 7, text)?;
+    let text = "0, where a request is 1 or more; 4 octets of the stream stand before it (fault 2)";
+    expect_frame(alloc, &rt, Fault::Number, 0, text)?;
+    let text = "9, where an answer is 1 or 2; 4 octets of the stream stand before it (fault 3)";
+    expect_frame(alloc, &rt, Fault::Answer, 9, text)
 }
 
 #[test]

@@ -1,4 +1,8 @@
 mod Sets
+mod FrameStreams
+mod FramesTold
+mod FramesTaken
+mod FramesRead
 mod ReplyLaws
 mod Takings
 mod SetsGiven

@@ -1,5 +1,5 @@
 -- What the lines that were read say of the reply of a command that reads its input line by line, and how such a command
--- ends. It holds for every command whose reply is one to lines (`IsLined`).
+-- ends. It holds for every command whose reply is one to lines (`IsLinedTo`).
 use Rattle.std.specs.Prelude.{◌≡◌, ℕ, ◌+◌, ◌<◌, ◌≤◌, ◌⊎◌, Bool, true, false, List, [], ◌∷◌, ◌++◌, length, Option, Some, Ok, Err}
 use Rattle.std.specs.List.{AllByRecursion}
 use Rattle.std.proofs.Common.{sym, ◌∙◌, ap, refl, subst, append_assoc, inl, inr, arith, length-append}
@@ -15,7 +15,7 @@ use Rattle.trace_text.specs.Lines.{IsWhole, lines_of, line_fault, IsPassedOver, 
 use Rattle.trace_text.specs.Reading.{Reading, MayFollow, first_reading, FindsLine, FindsEnd, FindsBad, FindsTooMany, ReadsLine}
 use Rattle.ecall_top.specs.declared.status.Status.{Status}
 use Rattle.ecall_top.specs.declared.status.Status.TheVariants as status
-use Rattle.ecall_top.specs.inner.Ends.{FailsWith, EndsReading, by_line, in_front}
+use Rattle.ecall_top.specs.inner.Ends.{EndsWithText, FailsWith, EndsReading, by_line, in_front}
 use Rattle.ecall_top.specs.Outcome.{Streams, CutShort, IsSettled, Outcome}
 use Rattle.ecall_top.specs.Refusals.{Reply, refusal_line, refusal_reply, in_front_of}
 use Rattle.ecall_top.specs.declared.refusal.Refused.{Refused}
@@ -23,9 +23,10 @@ use Rattle.ecall_top.specs.declared.refusal.Refused.TheVariants as refused
 use Rattle.ecall_top.proofs.Takings.{AtHand, taken_first, at_hand, front_follows, too_many_follow, too_many_whole, taken_whole, front_within, whole_end, whole_last, front_whole, taken_behind}
 use Rattle.ecall_top.specs.declared.command.Command.{Command}
 use Rattle.ecall_top.specs.Replies.{Replies}
-use Rattle.ecall_top.specs.inner.LineTurns.{done_reply, IsLined, RepliedSoFar, LinesStanding, GoesOn, Refuses, EndsLine, in_text, in_refusal}
+use Rattle.ecall_top.specs.inner.LineTurns.{last_reply, IsLined, IsLinedTo, RepliedSoFar, LinesStanding, GoesOn, RefusesBehind, Begins, EndsLine, in_text, in_refusal}
 
-module _ (asked : Option Command) (Rest : ℕ → List (List ℕ) → Reply → Type 0) (lined : IsLined Rest) where
+module _ {last : List ℕ} (asked : Option Command) (Rest : ℕ → List (List ℕ) → Reply → Type 0)
+    (lined : IsLinedTo last Rest) where
   -- lines that are passed over show nothing
   passed_replied : (passed : List (List ℕ)) (number : ℕ) (rest : List (List ℕ)) (r : Reply)
       → AllByRecursion IsPassedOver passed → Rest (number + length passed) rest r → Rest number (passed ++ rest) r
@@ -92,10 +93,10 @@ module _ (asked : Option Command) (Rest : ℕ → List (List ℕ) → Reply → 
         wrote = GrewPartly-longer start.held held text rest.0.text grew;
       }
 
-  -- A line ends the command: a front of the input, the bytes behind it, and the reply that ends there, whatever follows
-  -- the front.
+  -- A line gives a text and ends the command: a front of the input, the bytes behind it, and the reply that ends there,
+  -- whatever follows the front.
   record Ending (start now : Streams) (old new : Reading) (left : Option (List ℕ))
-      (s : LinesStanding asked Rest start now old) (why : Refused) : Type 0 where
+      (s : LinesStanding asked Rest start now old) (text : List ℕ) (why : Refused) : Type 0 where
     taken : List ℕ
     draws : Draws old.feed new.feed now.left left taken
     done : IsDone new.feed
@@ -103,12 +104,12 @@ module _ (asked : Option Command) (Rest : ℕ → List (List ℕ) → Reply → 
     split : s.front ++ (old.feed.pending ++ taken) ≡ front ++ new.feed.pending
     within : length front ≤ most_bytes
     replies : (more : List ℕ) → MayFollow new.feed more
-        → Replies asked (front ++ more) (in_front_of s.text (refusal_reply why))
+        → Replies asked (front ++ more) (in_front_of s.text (in_front_of text (refusal_reply why)))
 
   -- a line that is refused for its length or its bytes
   ending_bad : (start now : Streams) (old new : Reading) (left : Option (List ℕ))
       (s : LinesStanding asked Rest start now old) (bad : BadLine)
-      → ReadsLine old new now.left left (Err (fault.Bad bad)) → Ending start now old new left s (refused.Line bad)
+      → ReadsLine old new now.left left (Err (fault.Bad bad)) → Ending start now old new left s [] (refused.Line bad)
   ending_bad start now old new left s bad reads =
       let f : FindsBad old new (old.feed.pending ++ reads.taken) bad = reads.finds in
       let hand : AtHand old new (old.feed.pending ++ reads.taken) =
@@ -143,9 +144,10 @@ module _ (asked : Option Command) (Rest : ℕ → List (List ℕ) → Reply → 
 
   -- a line that is refused for what it says
   ending_line : (start now : Streams) (old new : Reading) (left : Option (List ℕ))
-      (s : LinesStanding asked Rest start now old) (why : Refused) → ReadsLine old new now.left left (Ok true)
-      → Refuses Rest new.lines new.text why → Ending start now old new left s why
-  ending_line start now old new left s why reads refused_is =
+      (s : LinesStanding asked Rest start now old) (text : List ℕ) (why : Refused)
+      → ReadsLine old new now.left left (Ok true) → RefusesBehind Rest new.lines new.text text why
+      → Ending start now old new left s text why
+  ending_line start now old new left s text why reads refused_is =
       record {
         taken = reads.taken;
         draws = reads.draws;
@@ -158,26 +160,30 @@ module _ (asked : Option Command) (Rest : ℕ → List (List ℕ) → Reply → 
         replies = λ more follows.
             line_replied s.front old new s.text (old.feed.pending ++ reads.taken) s.read
             (at_hand start now old new left s.front reads.taken s.taken reads.draws) reads.finds.0 more follows
-            (refusal_reply why)
+            (in_front_of text (refusal_reply why))
             (refused_is (lines_of more));
       }
 
   -- the reply to all that was taken
   ending_replies : (start now : Streams) (old new : Reading) (left : Option (List ℕ))
-      (s : LinesStanding asked Rest start now old) (why : Refused) → (e : Ending start now old new left s why)
-      → Replies asked (s.front ++ (old.feed.pending ++ e.taken)) (in_front_of s.text (refusal_reply why))
-  ending_replies start now old new left s why e =
-      subst (λ (b : List ℕ). Replies asked b (in_front_of s.text (refusal_reply why))) (sym e.split)
+      (s : LinesStanding asked Rest start now old) (text : List ℕ) (why : Refused)
+      → (e : Ending start now old new left s text why)
+      → Replies asked (s.front ++ (old.feed.pending ++ e.taken))
+      (in_front_of s.text (in_front_of text (refusal_reply why)))
+  ending_replies start now old new left s text why e =
+      subst (λ (b : List ℕ). Replies asked b (in_front_of s.text (in_front_of text (refusal_reply why)))) (sym e.split)
       (e.replies new.feed.pending (λ ended. e.done ended))
 
   -- what comes behind a line that ends the command can't change the reply, or it ended with the input
   settled : (start now : Streams) (old new : Reading) (left : Option (List ℕ))
-      (s : LinesStanding asked Rest start now old) (why : Refused) → (e : Ending start now old new left s why)
-      → (b : Bool) → new.feed.ended ≡ b → IsSettled asked (s.front ++ (old.feed.pending ++ e.taken))
-      (in_front_of s.text (refusal_reply why)) ⊎ IsWhole left (s.front ++ (old.feed.pending ++ e.taken))
-  settled start now old new left s why e true ended =
+      (s : LinesStanding asked Rest start now old) (text : List ℕ) (why : Refused)
+      → (e : Ending start now old new left s text why) → (b : Bool) → new.feed.ended ≡ b
+      → IsSettled asked (s.front ++ (old.feed.pending ++ e.taken))
+      (in_front_of s.text (in_front_of text (refusal_reply why)))
+      ⊎ IsWhole left (s.front ++ (old.feed.pending ++ e.taken))
+  settled start now old new left s text why e true ended =
       inr (whole_last start now old new left s.front e.front e.taken s.taken e.draws e.done e.within e.split ended)
-  settled start now old new left s why e false open_ended =
+  settled start now old new left s text why e false open_ended =
       inl (
       record {
         front = e.front;
@@ -188,27 +194,27 @@ module _ (asked : Option Command) (Rest : ℕ → List (List ℕ) → Reply → 
       }
       )
 
-  -- why a line is refused was written
+  -- a line's text, and why it is refused, was written
   ends_refused : (start now : Streams) (old new : Reading) (left held : Option (List ℕ))
-      (s : LinesStanding asked Rest start now old) (why : Refused) → Ending start now old new left s why
-      → Grew now.held held (refusal_line why) → Outcome asked start (record now { left = left; held = held })
-      (status.Refused why)
-  ends_refused start now old new left held s why e grew = (
+      (s : LinesStanding asked Rest start now old) (text : List ℕ) (why : Refused)
+      → Ending start now old new left s text why → Grew now.held held (text ++ refusal_line why)
+      → Outcome asked start (record now { left = left; held = held }) (status.Refused why)
+  ends_refused start now old new left held s text why e grew = (
     s.front ++ (old.feed.pending ++ e.taken),
-    in_front_of s.text (refusal_reply why),
+    in_front_of s.text (in_front_of text (refusal_reply why)),
     record {
       took = taken_whole start now old new left s.front e.taken s.taken e.draws;
-      replies = ending_replies start now old new left s why e;
-      wrote = Grew-append start.held now.held held s.text (refusal_line why) s.wrote grew;
+      replies = ending_replies start now old new left s text why e;
+      wrote = Grew-append start.held now.held held s.text (text ++ refusal_line why) s.wrote grew;
       counted = omega (arith, s.still);
     },
     refl,
-    settled start now old new left s why e new.feed.ended refl,
+    settled start now old new left s text why e new.feed.ended refl,
   )
 
   -- it could not be written whole
   cut_refused : (start now : Streams) (old new : Reading) (left held : Option (List ℕ))
-      (s : LinesStanding asked Rest start now old) (why : Refused) → Ending start now old new left s why
+      (s : LinesStanding asked Rest start now old) (why : Refused) → Ending start now old new left s [] why
       → GrewPartly now.held held (refusal_line why)
       → Outcome asked start (record now { left = left; held = held }) status.WriteFault
   cut_refused start now old new left held s why e grew = (
@@ -216,33 +222,54 @@ module _ (asked : Option Command) (Rest : ℕ → List (List ℕ) → Reply → 
     record {
       took = taken_whole start now old new left s.front e.taken s.taken e.draws;
       reply = in_front_of s.text (refusal_reply why);
-      replies = ending_replies start now old new left s why e;
+      replies = ending_replies start now old new left s [] why e;
       wrote = GrewPartly-after start.held now.held held s.text (refusal_line why) s.wrote grew;
     },
   )
 
-  -- the input was read to its end
-  done_reading : (start now : Streams) (old new : Reading) (left : Option (List ℕ))
-      → LinesStanding asked Rest start now old → ReadsLine old new now.left left (Ok false)
-      → Outcome asked start (record now { left = left; held = now.held }) status.Done
-  done_reading start now old new left s reads =
+  -- the reply to an input that was read to its end
+  end_replies : (start now : Streams) (old new : Reading) (left : Option (List ℕ))
+      → (s : LinesStanding asked Rest start now old) → (reads : ReadsLine old new now.left left (Ok false))
+      → Replies asked (s.front ++ (old.feed.pending ++ reads.taken)) (in_front_of s.text (last_reply last))
+  end_replies start now old new left s reads =
       let f : FindsEnd old new (old.feed.pending ++ reads.taken) = reads.finds.0 in
       let hand : AtHand old new (old.feed.pending ++ reads.taken) =
-      at_hand start now old new left s.front reads.taken s.taken reads.draws in (
-        s.front ++ (old.feed.pending ++ reads.taken),
-        in_front_of s.text done_reply,
-        record {
-          took = taken_whole start now old new left s.front reads.taken s.taken reads.draws;
-          replies =
-              s.read (old.feed.pending ++ reads.taken) hand.follows done_reply
-              (subst (λ (ls : List (List ℕ)). Rest (old.lines + 1) ls done_reply) (append-nil f.passed ∙ sym f.lines)
-              (passed_replied f.passed (old.lines + 1) [] done_reply f.each (lined.done _)));
-          wrote = subst (λ (t : List ℕ). Grew start.held now.held t) (sym (append-nil s.text)) s.wrote;
-          counted = omega (arith, s.still);
-        },
-        refl,
-        whole_end start now old new left s.front reads.taken s.taken reads.draws reads.limit f,
-      )
+      at_hand start now old new left s.front reads.taken s.taken reads.draws in
+      s.read (old.feed.pending ++ reads.taken) hand.follows (last_reply last)
+      (subst (λ (ls : List (List ℕ)). Rest (old.lines + 1) ls (last_reply last)) (append-nil f.passed ∙ sym f.lines)
+      (passed_replied f.passed (old.lines + 1) [] (last_reply last) f.each (lined.done _)))
+
+  -- the input was read to its end, and the text there was written
+  done_reading : (start now : Streams) (old new : Reading) (left held : Option (List ℕ))
+      → LinesStanding asked Rest start now old → ReadsLine old new now.left left (Ok false) → Grew now.held held last
+      → Outcome asked start (record now { left = left; held = held }) status.Done
+  done_reading start now old new left held s reads grew = (
+    s.front ++ (old.feed.pending ++ reads.taken),
+    in_front_of s.text (last_reply last),
+    record {
+      took = taken_whole start now old new left s.front reads.taken s.taken reads.draws;
+      replies = end_replies start now old new left s reads;
+      wrote = Grew-append start.held now.held held s.text last s.wrote grew;
+      counted = omega (arith, s.still);
+    },
+    refl,
+    whole_end start now old new left s.front reads.taken s.taken reads.draws reads.limit reads.finds.0,
+  )
+
+  -- the text at the end could not be written whole
+  cut_end : (start now : Streams) (old new : Reading) (left held : Option (List ℕ))
+      → LinesStanding asked Rest start now old → ReadsLine old new now.left left (Ok false)
+      → GrewPartly now.held held last
+      → Outcome asked start (record now { left = left; held = held }) status.WriteFault
+  cut_end start now old new left held s reads grew = (
+    s.front ++ (old.feed.pending ++ reads.taken),
+    record {
+      took = taken_whole start now old new left s.front reads.taken s.taken reads.draws;
+      reply = in_front_of s.text (last_reply last);
+      replies = end_replies start now old new left s reads;
+      wrote = GrewPartly-after start.held now.held held s.text last s.wrote grew;
+    },
+  )
 
   -- what was written so far, where nothing more is
   cut_here : (start now : Streams) (old new : Reading) (left : Option (List ℕ)) (taken : List ℕ)
@@ -276,11 +303,13 @@ module _ (asked : Option Command) (Rest : ℕ → List (List ℕ) → Reply → 
           inner = f.inner;
           short = f.short;
           unrefused = (
-            in_front_of s.text done_reply,
-            subst (λ (b : List ℕ). Replies asked (s.front ++ b) (in_front_of s.text done_reply)) (append-nil f.front)
-                (s.read (f.front ++ []) (too_many_follow old new (old.feed.pending ++ reads.taken) hand f) done_reply
-                (subst (λ (ls : List (List ℕ)). Rest (old.lines + 1) ls done_reply) (sym (f.lines []))
-                (passed_replied f.passed (old.lines + 1) [] done_reply f.each (lined.done _)))),
+            in_front_of s.text (last_reply last),
+            subst (λ (b : List ℕ). Replies asked (s.front ++ b) (in_front_of s.text (last_reply last)))
+                (append-nil f.front)
+                (s.read (f.front ++ []) (too_many_follow old new (old.feed.pending ++ reads.taken) hand f)
+                (last_reply last)
+                (subst (λ (ls : List (List ℕ)). Rest (old.lines + 1) ls (last_reply last)) (sym (f.lines []))
+                (passed_replied f.passed (old.lines + 1) [] (last_reply last) f.each (lined.done _)))),
             refl,
           );
         },
@@ -317,17 +346,48 @@ module _ (asked : Option Command) (Rest : ℕ → List (List ℕ) → Reply → 
         reads.done (GrewPartly-after start.held now.held held s.text text s.wrote grew),
   )
 
+  -- a line gave a text, and then ended the command
+  pub refused_behind : (start now : Streams) (old new : Reading) (left held : Option (List ℕ))
+      → (s : LinesStanding asked Rest start now old) → (text : List ℕ) → (why : Refused)
+      → ReadsLine old new now.left left (Ok true) → RefusesBehind Rest new.lines new.text text why
+      → Grew now.held held (text ++ refusal_line why)
+      → Outcome asked start (record now { left = left; held = held }) (status.Refused why)
+  refused_behind start now old new left held s text why reads refuses grew =
+      ends_refused start now old new left held s text why (ending_line start now old new left s text why reads refuses)
+      grew
+
+  -- a text with which a reply to a line begins could not be written whole
+  pub cut_begun : (start now : Streams) (old new : Reading) (left held : Option (List ℕ))
+      → (s : LinesStanding asked Rest start now old) → (text : List ℕ) → ReadsLine old new now.left left (Ok true)
+      → Begins Rest new.lines new.text text → GrewPartly now.held held text
+      → Outcome asked start (record now { left = left; held = held }) status.WriteFault
+  cut_begun start now old new left held s text reads begins grew =
+      let r : Reply = (begins (lines_of new.feed.pending)).0 in (
+        (s.front ++ reads.finds.0.front) ++ new.feed.pending,
+        record {
+          took = (taken_behind start now old new left held now.passes s.front s.taken reads).took;
+          reply = in_front_of s.text (in_front_of text r);
+          replies =
+              line_replied s.front old new s.text (old.feed.pending ++ reads.taken) s.read
+              (at_hand start now old new left s.front reads.taken s.taken reads.draws) reads.finds.0
+              new.feed.pending reads.done (in_front_of text r) (begins (lines_of new.feed.pending)).1;
+          wrote =
+              GrewPartly-after start.held now.held held s.text (text ++ r.text) s.wrote
+              (GrewPartly-longer now.held held text r.text grew);
+        },
+      )
+
   -- a line ended the command
   pub ends_line : (start now : Streams) (old new : Reading) (left held : Option (List ℕ))
       → (s : LinesStanding asked Rest start now old) → ReadsLine old new now.left left (Ok true) → (answer : Status)
       → EndsLine Rest new.lines new.text now.held held answer
       → Outcome asked start (record now { left = left; held = held }) answer
   ends_line start now old new left held s reads (status.Refused why) e =
-      ends_refused start now old new left held s why (ending_line start now old new left s why reads e.0) e.1
+      ends_refused start now old new left held s [] why (ending_line start now old new left s [] why reads e.0) e.1
   ends_line start now old new left held s reads status.WriteFault (in_text text gives grew) =
       cut_text start now old new left held s text reads gives grew
   ends_line start now old new left held s reads status.WriteFault (in_refusal why refuses grew) =
-      cut_refused start now old new left held s why (ending_line start now old new left s why reads refuses) grew
+      cut_refused start now old new left held s why (ending_line start now old new left s [] why reads refuses) grew
   ends_line start now old new left held s reads status.Done e = absurd e
   ends_line start now old new left held s reads status.Usage e = absurd e
   ends_line start now old new left held s reads status.Broken e = absurd e
@@ -347,7 +407,7 @@ module _ (asked : Option Command) (Rest : ℕ → List (List ℕ) → Reply → 
       → LinesStanding asked Rest start now old → Outcome asked start (record now { left = left; held = held }) answer
   failed start now old new left held (fault.Bad bad) reads answer (inl h) s =
       subst (λ (a : Status). Outcome asked start (record now { left = left; held = held }) a) (sym h.0)
-      (ends_refused start now old new left held s (refused.Line bad)
+      (ends_refused start now old new left held s [] (refused.Line bad)
       (ending_bad start now old new left s bad reads) h.1)
   failed start now old new left held (fault.Bad bad) reads answer (inr h) s =
       subst (λ (a : Status). Outcome asked start (record now { left = left; held = held }) a) (sym h.0)
@@ -378,10 +438,24 @@ module _ (asked : Option Command) (Rest : ℕ → List (List ℕ) → Reply → 
             (GrewPartly-whole start.held now.held s.text s.wrote),
       )))
 
-  -- the end of the input was read, with all as it was written
-  pub ended_reading : (start now : Streams) (old new : Reading) (left between : Option (List ℕ)) → between ≡ now.held
+  -- the end of the input was read, and the text there was written, or a part of it
+  pub ended_with : (start now : Streams) (old new : Reading) (left held : Option (List ℕ)) → (answer : Status)
       → LinesStanding asked Rest start now old → ReadsLine old new now.left left (Ok false)
-      → Outcome asked start (record now { left = left; held = between }) status.Done
-  ended_reading start now old new left between same s reads =
-      subst (λ (h : Option (List ℕ)). Outcome asked start (record now { left = left; held = h }) status.Done) (sym same)
-      (done_reading start now old new left s reads)
+      → EndsWithText now.held held last status.Done answer
+      → Outcome asked start (record now { left = left; held = held }) answer
+  ended_with start now old new left held answer s reads (inl h) =
+      subst (λ (a : Status). Outcome asked start (record now { left = left; held = held }) a) (sym h.0)
+      (done_reading start now old new left held s reads h.1)
+  ended_with start now old new left held answer s reads (inr h) =
+      subst (λ (a : Status). Outcome asked start (record now { left = left; held = held }) a) (sym h.0)
+      (cut_end start now old new left held s reads h.1)
+
+-- the end of the input was read, with all as it was written, and nothing is said there
+pub ended_reading : (asked : Option Command) (Rest : ℕ → List (List ℕ) → Reply → Type 0) (lined : IsLined Rest)
+    (start now : Streams) (old new : Reading) (left between : Option (List ℕ)) → between ≡ now.held
+    → LinesStanding asked Rest start now old → ReadsLine old new now.left left (Ok false)
+    → Outcome asked start (record now { left = left; held = between }) status.Done
+ended_reading asked Rest lined start now old new left between same s reads =
+    subst (λ (h : Option (List ℕ)). Outcome asked start (record now { left = left; held = h }) status.Done) (sym same)
+    (ended_with {last = []} asked Rest lined start now old new left now.held status.Done s reads
+    (inl (refl, Grew-nothing now.held)))

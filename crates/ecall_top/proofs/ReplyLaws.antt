@@ -1,5 +1,5 @@
 -- Each command has one reply to each input.
-use Rattle.std.specs.Prelude.{◌≡◌, ℕ, List, Option, Some, None}
+use Rattle.std.specs.Prelude.{◌≡◌, ℕ, List, [], Option, Some, None}
 use Rattle.std.proofs.Common.{sym, ◌∙◌, refl}
 use Rattle.trace_text.specs.Lines.{lines_of}
 use Rattle.ecall_top.specs.declared.command.Command.{Command}
@@ -9,6 +9,8 @@ use Rattle.ecall_top.specs.Encode.{encode_reply}
 use Rattle.ecall_top.specs.Refusals.{Reply}
 use Rattle.ecall_top.specs.Replies.{Replies, usage_line}
 use Rattle.ecall_top.specs.Run.{run_reply}
+use Rattle.ecall_top.proofs.FrameStreams.{nothing_held}
+use Rattle.ecall_top.proofs.FramesTold.{frames_some, frames_one}
 use Rattle.ecall_top.proofs.Sets.{decoded_some, decoded_one}
 
 pub replies_some : (asked : Option Command) (input : List ℕ) → (r : Reply) × Replies asked input r
@@ -16,6 +18,7 @@ replies_some None input = (record { text = usage_line; status = status.Usage }, 
 replies_some (Some command.Run) input = (run_reply input, refl)
 replies_some (Some command.Decode) input = decoded_some 1 (lines_of input)
 replies_some (Some command.Encode) input = (encode_reply input, refl)
+replies_some (Some command.Frames) input = frames_some 1 (lines_of input) [] [] [] nothing_held
 
 pub replies_one : (asked : Option Command) (input : List ℕ) (r s : Reply) → Replies asked input r
     → Replies asked input s → r ≡ s
@@ -23,3 +26,4 @@ replies_one None input r s a b = a ∙ sym b
 replies_one (Some command.Run) input r s a b = a ∙ sym b
 replies_one (Some command.Decode) input r s a b = decoded_one 1 (lines_of input) r s a b
 replies_one (Some command.Encode) input r s a b = a ∙ sym b
+replies_one (Some command.Frames) input r s a b = frames_one 1 (lines_of input) [] [] r s a b

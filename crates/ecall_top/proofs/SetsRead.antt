@@ -21,14 +21,14 @@ use Rattle.ecall_top.specs.inner.LineTurns.{IsLined, GoesOn, Refuses, EndsLine, 
 use Rattle.ecall_top.proofs.LinesRead as lines
 use Rattle.ecall_top.proofs.Sets.{decoded_some}
 
-judged_set-passed : (text : List ℕ) → IsPassedOver text → judged_set text ≡ Ok None
+pub judged_set-passed : (text : List ℕ) → IsPassedOver text → judged_set text ≡ Ok None
 judged_set-passed text h = rw (judged_set, h.0, h.1) refl
 
-judged_set-line : (text : List ℕ) → IsLine text
+pub judged_set-line : (text : List ℕ) → IsLine text
     → judged_set text ≡ some_octets (octets_of_word (only_word_of (words text)))
 judged_set-line text h = rw (judged_set, h.0, h.1) refl
 
-judged_set-fault : (text : List ℕ) (why : Reason) → line_fault text ≡ Some why → judged_set text ≡ Err why
+pub judged_set-fault : (text : List ℕ) (why : Reason) → line_fault text ≡ Some why → judged_set text ≡ Err why
 judged_set-fault text why h = rw (judged_set, h) refl
 
 -- the reply of `decode` is one to lines

@@ -11,6 +11,7 @@ command_named word =
     if bytes_eq word (codes "run") then Some command.Run
     else if bytes_eq word (codes "decode") then Some command.Decode
     else if bytes_eq word (codes "encode") then Some command.Encode
+    else if bytes_eq word (codes "frames") then Some command.Frames
     else None
 
 -- the command that the words name; no other words are a form of words

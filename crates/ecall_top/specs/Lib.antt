@@ -2,6 +2,7 @@ pub mod Commands
 pub mod CutTraces
 pub mod Decode
 pub mod Encode
+pub mod Frames
 pub mod Outcome
 pub mod Refusals
 pub mod Replies

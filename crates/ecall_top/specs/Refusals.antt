@@ -1,6 +1,7 @@
 -- What a command replies: the text that it writes and the status that it answers; and the line that says why a command
 -- refuses its input. This project's profile. Cited by the replies of the commands.
 use Rattle.std.specs.Prelude.{ℕ, List, [], ◌∷◌, ◌++◌, codes, decimal}
+use Rattle.link_frames.specs.FrameOctets.{fault_code}
 use Rattle.per_bits.specs.Reasons.{code_of}
 use Rattle.trace_text.specs.Characters.{newline}
 use Rattle.trace_text.specs.EntryLine.{spaced}
@@ -15,11 +16,14 @@ pub record Reply : Type 0 where
   pub status : Status
 
 -- the words behind `refused`: the number of the line and the reason; for a set the number of its line, the word `set`,
--- and the place, the reason and the value of its refusal
+-- and the place, the reason and the value of its refusal; for a frame the number of the line, the word `frame`, and the
+-- place in the stream, the fault and the octet
 abbrev pub refusal_words : Refused → List (List ℕ)
 refusal_words (refused.Line bad) = decimal bad.line ∷ decimal (reason_code bad.reason) ∷ []
 refusal_words (refused.Set number refusal) =
     decimal number ∷ codes "set" ∷ decimal refusal.place ∷ decimal (code_of refusal.reason) ∷ decimal refusal.value ∷ []
+refusal_words (refused.Frame number fault) =
+    decimal number ∷ codes "frame" ∷ decimal fault.place ∷ decimal (fault_code fault.fault) ∷ decimal fault.octet ∷ []
 
 -- the line that says why
 abbrev pub refusal_line : Refused → List ℕ

@@ -8,6 +8,7 @@ use Rattle.ecall_top.specs.declared.command.Command.TheVariants as command
 use Rattle.ecall_top.specs.declared.status.Status.TheVariants as status
 use Rattle.ecall_top.specs.Decode.{IsDecoded}
 use Rattle.ecall_top.specs.Encode.{encode_reply}
+use Rattle.ecall_top.specs.Frames.{IsFrames}
 use Rattle.ecall_top.specs.Refusals.{Reply}
 use Rattle.ecall_top.specs.Run.{run_reply, script_passes}
 
@@ -20,6 +21,7 @@ Replies None input r = r ≡ record { text = usage_line; status = status.Usage }
 Replies (Some command.Run) input r = r ≡ run_reply input
 Replies (Some command.Decode) input r = IsDecoded input r
 Replies (Some command.Encode) input r = r ≡ encode_reply input
+Replies (Some command.Frames) input r = IsFrames input r
 
 -- how often the ends are passed at most for a command and an input: `run` alone passes any
 abbrev pub passes_of : Option Command → List ℕ → ℕ

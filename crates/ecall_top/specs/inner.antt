@@ -3,6 +3,7 @@
 pub mod DecodeTurns
 pub mod EncodeTurns
 pub mod Ends
+pub mod FrameTurns
 pub mod LineTurns
 pub mod Progress
 pub mod RunTurns

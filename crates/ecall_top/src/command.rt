@@ -13,6 +13,8 @@ pub enum Command {
     Decode,
     /// Write the octets of the sets that the lines of the input ask for, each of the facts so far.
     Encode,
+    /// Write the frames of the stream that the input has, in pieces of one line each.
+    Frames,
 }
 
 /// The command that the words name, if they name one.
@@ -27,6 +29,8 @@ pub(crate) fn read_command(words: &[String]) -> Option<Command>
                 Some(Command::Decode)
             } else if word.as_str() == "encode" {
                 Some(Command::Encode)
+            } else if word.as_str() == "frames" {
+                Some(Command::Frames)
             } else {
                 None
             }

@@ -23,6 +23,9 @@ mod decode_tests;
 mod encode;
 #[cfg(test)]
 mod encode_tests;
+mod frames;
+#[cfg(test)]
+mod frames_tests;
 mod laws;
 mod reading;
 mod refusal;
@@ -56,7 +59,9 @@ const USAGE: &[u8] =
 /// `run` reads a script and writes its trace. It takes memory for the frames and sessions of the script's calls; where
 /// there is none, it answers `Memory`. `decode` reads sets of data in hexadecimal, one a line, and describes each in
 /// twenty lines. `encode` reads facts of a vehicle, and lines that ask for a set; it writes the octets of the set that
-/// fits the facts so far in hexadecimal, one a line. Other words write the usage line.
+/// fits the facts so far in hexadecimal, one a line. `frames` reads a stream of frames in hexadecimal, a piece a line;
+/// it writes one line a frame, and at the end how many octets of an unfinished one are left. Other words write the
+/// usage line.
 ///
 /// What is written is handed to `output` in blocks: where one is full, before each read of `input`, and at the end.
 /// After a failed read or write nothing more is read or written. `moments` counts how often `run` passes an end of a
@@ -153,6 +158,7 @@ fn reply<I: Source, O: Sink, L: Ledger>(
         Some(Command::Run) => run::run(alloc, input, output, moments),
         Some(Command::Decode) => decode::decode_sets(input, output),
         Some(Command::Encode) => encode::encode_sets(input, output),
+        Some(Command::Frames) => frames::read_frames(input, output),
         None => usage(output),
     }
 }

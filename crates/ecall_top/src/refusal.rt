@@ -10,6 +10,7 @@ ghost use Rattle.ecall_top.specs.declared.refusal.Refused.TheVariants as refused
 use crate::status::Status;
 use arrayvec::ArrayVec;
 use call_io::{Sink, write_all};
+use link_frames::FrameFault;
 use per_bits::Refusal;
 use trace_text::{BadLine, LineFault, Reason, push_number, push_word};
 
@@ -20,6 +21,8 @@ pub enum Refused {
     Line(BadLine),
     /// The octets of the line of this number, from 1, are no set.
     Set { line: u32, refusal: Refusal },
+    /// No frame goes on with an octet of the line of this number, from 1.
+    Frame { line: u32, fault: FrameFault },
 }
 
 /// The most octets that a refusal has: two words, four numbers, and what stands between and behind them.
@@ -55,6 +58,21 @@ fn set_refusal_text(number: u32, refusal: &Refusal) -> RefusalText
     line
 }
 
+/// The line that refuses an octet of the line of this number, with which no frame goes on.
+fn frame_refusal_text(number: u32, fault: &FrameFault) -> RefusalText
+    ensures { result.items ≡ refusal_line (refused.Frame number fault.now) }
+{
+    let mut line = ArrayVec::new();
+    line.try_extend_from_slice(b"refused").unwrap();
+    push_number(&mut line, number);
+    push_word(&mut line, "frame");
+    push_number(&mut line, fault.place);
+    push_number(&mut line, fault.fault.code());
+    push_number(&mut line, fault.octet);
+    line.push(b'\n');
+    line
+}
+
 /// The line that says why.
 fn refusal_text(why: &Refused) -> RefusalText
     ensures { result.items ≡ refusal_line why.now }
@@ -62,6 +80,7 @@ fn refusal_text(why: &Refused) -> RefusalText
     match why {
         Refused::Line(bad) => line_refusal_text(bad),
         Refused::Set { line, refusal } => set_refusal_text(*line, refusal),
+        Refused::Frame { line, fault } => frame_refusal_text(*line, fault),
     }
 }
 

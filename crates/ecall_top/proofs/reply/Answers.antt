@@ -24,6 +24,12 @@ returns-in-Some-Encode-clause-outcome g c =
     (sym c.read_command.ensures ∙ (c.in-Some-Encode.is ∙ ap Some c.in-Some-Encode.field-0-is))
     (c.encode_sets.ensures.outcome c.args.moments.now)
 
+pub returns-in-Some-Frames-clause-outcome : goal.returns-in-Some-Frames-clause-outcome
+returns-in-Some-Frames-clause-outcome g c =
+    named (command_of (map string_bytes c.args.words.now)) (Some command.Frames) _ _ c.read_frames.result
+    (sym c.read_command.ensures ∙ (c.in-Some-Frames.is ∙ ap Some c.in-Some-Frames.field-0-is))
+    (c.read_frames.ensures.outcome c.args.moments.now)
+
 pub returns-in-None-clause-outcome : goal.returns-in-None-clause-outcome
 returns-in-None-clause-outcome g c =
     named (command_of (map string_bytes c.args.words.now)) None _ _ c.usage.result (sym c.in-None.ensures)

@@ -1,6 +1,6 @@
 -- Where a command that reads its input line by line stands between two lines, and what one more line comes to, for any
 -- such command. `Rest` is its reply to the lines from a number on, which may depend on what the lines before said. This
--- project's profile. Cited by the turns of the commands `decode` and `encode`.
+-- project's profile. Cited by the turns of the commands `decode`, `encode` and `frames`.
 use Rattle.std.specs.Prelude.{◌≡◌, ℕ, ◌+◌, List, [], ◌∷◌, ◌++◌, Option, Some}
 use Rattle.call_io.specs.Bytes.{Grew, GrewPartly}
 use Rattle.trace_text.specs.Lines.{lines_of, line_fault, IsPassedOver}
@@ -16,19 +16,26 @@ use Rattle.ecall_top.specs.Refusals.{Reply, refusal_line, refusal_reply, in_fron
 use Rattle.ecall_top.specs.Replies.{Replies}
 use Rattle.ecall_top.specs.inner.Taken.{TakenSoFar}
 
--- the reply that says no more
-abbrev pub done_reply : Reply
-done_reply = record { text = []; status = status.Done }
+-- the reply that says this and no more
+abbrev pub last_reply : List ℕ → Reply
+last_reply text = record { text = text; status = status.Done }
 
--- A reply to lines: each list of lines has one, lines that are passed over say nothing, and a line that is refused
--- whatever it says ends it.
-pub record IsLined (Rest : ℕ → List (List ℕ) → Reply → Type 0) : Type 0 where
-  pub done : (number : ℕ) → Rest number [] done_reply
+abbrev pub done_reply : Reply
+done_reply = last_reply []
+
+-- A reply to lines, with this text behind the last of them: each list of lines has one, lines that are passed over say
+-- nothing, and a line that is refused whatever it says ends it.
+pub record IsLinedTo (last : List ℕ) (Rest : ℕ → List (List ℕ) → Reply → Type 0) : Type 0 where
+  pub done : (number : ℕ) → Rest number [] (last_reply last)
   pub some : (number : ℕ) (texts : List (List ℕ)) → (r : Reply) × Rest number texts r
   pub passed : (number : ℕ) (text : List ℕ) (texts : List (List ℕ)) (r : Reply) → IsPassedOver text
       → Rest (number + 1) texts r → Rest number (text ∷ texts) r
   pub faulty : (number : ℕ) (text : List ℕ) (texts : List (List ℕ)) (why : Reason) → line_fault text ≡ Some why
       → Rest number (text ∷ texts) (refusal_reply (refused.Line (record { line = number; reason = why })))
+
+-- a reply to lines that says nothing behind the last of them
+abbrev pub IsLined : (Rest : ℕ → List (List ℕ) → Reply → Type 0) → Type 0
+IsLined Rest = IsLinedTo [] Rest
 
 -- The text of a front of the input stands in front of the reply to what follows it, whatever that is.
 abbrev pub RepliedSoFar : Option Command → (Rest : ℕ → List (List ℕ) → Reply → Type 0) → (front : List ℕ) → Reading
@@ -54,6 +61,15 @@ GoesOn Rest Next number line text =
 -- A line is refused, or what it has, which ends the reply.
 abbrev pub Refuses : (Rest : ℕ → List (List ℕ) → Reply → Type 0) → ℕ → List ℕ → Refused → Type 0
 Refuses Rest number line why = (texts : List (List ℕ)) → Rest number (line ∷ texts) (refusal_reply why)
+
+-- A line gives this text, and is then refused, or what it has, which ends the reply.
+abbrev pub RefusesBehind : (Rest : ℕ → List (List ℕ) → Reply → Type 0) → ℕ → (line text : List ℕ) → Refused → Type 0
+RefusesBehind Rest number line text why =
+    (texts : List (List ℕ)) → Rest number (line ∷ texts) (in_front_of text (refusal_reply why))
+
+-- Whatever lines follow a line, a reply to them begins with this text.
+abbrev pub Begins : (Rest : ℕ → List (List ℕ) → Reply → Type 0) → ℕ → (line text : List ℕ) → Type 0
+Begins Rest number line text = (texts : List (List ℕ)) → (r : Reply) × Rest number (line ∷ texts) (in_front_of text r)
 
 -- What a line gives, or its refusal, was written in part.
 pub data CutsLine (Rest : ℕ → List (List ℕ) → Reply → Type 0) (number : ℕ) (line : List ℕ)

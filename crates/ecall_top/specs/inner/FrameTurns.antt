@@ -1,0 +1,98 @@
+-- Where the command `frames` stands between two lines, and what one more line, or a part of it, comes to. This
+-- project's profile. Cited by the contracts of the functions that read frames line by line.
+use Rattle.std.specs.Prelude.{◌≡◌, ℕ, ◌<◌, ◌≤◌, ◌*◌, List, [], ◌++◌, length, take, Option, Some, None, Result, Ok, Err}
+use Rattle.call_io.specs.Bytes.{Grew, GrewPartly}
+use Rattle.link_frames.specs.Reading.{HasRead}
+use Rattle.link_frames.specs.Reading as frames
+use Rattle.link_frames.specs.Streams.{Holds, FrameStops}
+use Rattle.link_frames.specs.declared.fault.FrameFault.{FrameFault}
+use Rattle.link_frames.specs.declared.frame.Frame.{Frame}
+use Rattle.trace_text.specs.Lines.{most_bytes}
+use Rattle.trace_text.specs.Reading.{Reading}
+use Rattle.trace_text.specs.declared.reason.Reason.{Reason}
+use Rattle.ecall_top.specs.declared.command.Command.TheVariants as command
+use Rattle.ecall_top.specs.declared.refusal.Refused.{Refused}
+use Rattle.ecall_top.specs.declared.refusal.Refused.TheVariants as refused
+use Rattle.ecall_top.specs.declared.status.Status.{Status}
+use Rattle.ecall_top.specs.declared.status.Status.TheVariants as status
+use Rattle.ecall_top.specs.Frames.{AreFrames, frame_line, frame_lines}
+use Rattle.ecall_top.specs.Outcome.{Streams, Outcome}
+use Rattle.ecall_top.specs.Refusals.{Reply, refusal_line}
+use Rattle.ecall_top.specs.inner.Ends.{EndsWithText}
+use Rattle.ecall_top.specs.inner.LineTurns.{LinesStanding}
+
+-- the reply to lines behind a stream that ended these frames
+abbrev pub FollowFrames : List ℕ → List Frame → ℕ → List (List ℕ) → Reply → Type 0
+FollowFrames stream ended number texts r = AreFrames number texts stream ended r
+
+-- where the command stands between two lines: the reader took the octets of the lines so far
+pub record FramesStanding (start now : Streams) (reading : Reading) (reader : frames.Reading) : Type 0 where
+  pub stream : List ℕ
+  pub ended : List Frame
+  pub read : HasRead stream ended reader
+  pub few : reader.taken ≤ reading.lines * 256
+  pub lines : LinesStanding (Some command.Frames) (FollowFrames stream ended) start now reading
+
+-- the line of the frame with which the last piece ended, if it was whole
+abbrev pub last_line : Option Frame → List ℕ
+last_line None = []
+last_line (Some frame) = frame_line frame
+
+-- A piece went on with the stream, and the lines of the frames that end in it were written.
+pub record WentOn (stream : List ℕ) (ended : List Frame) (piece : List ℕ) (held held' : Option (List ℕ))
+    (new : frames.Reading) : Type 0 where
+  pub frames : List Frame
+  pub read : HasRead (stream ++ piece) (ended ++ frames) new
+  pub wrote : Grew held held' (frame_lines frames)
+
+-- The stream stops in a piece, and that was written behind the lines of the frames that end in it.
+pub record StoppedIn (stream : List ℕ) (ended : List Frame) (piece : List ℕ) (number : ℕ)
+    (held held' : Option (List ℕ)) (why : Refused) : Type 0 where
+  pub frames : List Frame
+  pub fault : FrameFault
+  pub stops : FrameStops (stream ++ piece) (ended ++ frames) fault
+  pub is : why ≡ refused.Frame number fault
+  pub wrote : Grew held held' (frame_lines frames ++ refusal_line why)
+
+-- What a piece gives was written in part.
+pub data CutsPiece (stream : List ℕ) (ended : List Frame) (piece : List ℕ) (number : ℕ)
+    (held held' : Option (List ℕ)) : Type 0 where
+  in_frames : (frames : List Frame) (unfinished : List ℕ) → Holds (stream ++ piece) (ended ++ frames) unfinished
+      → GrewPartly held held' (frame_lines frames) → CutsPiece stream ended piece number held held'
+  in_refusal : (frames : List Frame) (fault : FrameFault) → FrameStops (stream ++ piece) (ended ++ frames) fault
+      → GrewPartly held held' (frame_lines frames ++ refusal_line (refused.Frame number fault))
+      → CutsPiece stream ended piece number held held'
+
+-- what a piece comes to behind a stream that ended these frames; no answer goes on
+abbrev pub TakesPiece : (stream : List ℕ) → (ended : List Frame) → (piece : List ℕ) → (number : ℕ)
+    → (held held' : Option (List ℕ)) → frames.Reading → Option Status → Type 0
+TakesPiece stream ended piece number held held' new None = WentOn stream ended piece held held' new
+TakesPiece stream ended piece number held held' new (Some (status.Refused why)) =
+    StoppedIn stream ended piece number held held' why
+TakesPiece stream ended piece number held held' new (Some status.WriteFault) =
+    CutsPiece stream ended piece number held held'
+TakesPiece stream ended piece number held held' new (Some _) = ⊥
+
+-- what a piece comes to up to the end of one frame
+abbrev pub TakesOn : (stream : List ℕ) → (ended : List Frame) → (piece : List ℕ) → (number : ℕ)
+    → (held held' : Option (List ℕ)) → frames.Reading → Result ℕ Status → Type 0
+TakesOn stream ended piece number held held' new (Ok n) = WentOn stream ended (take n piece) held held' new
+TakesOn stream ended piece number held held' new (Err answer) =
+    TakesPiece stream ended piece number held held' new (Some answer)
+
+-- What a line that was read comes to behind a stream that ended these frames: it is refused, or its octets are taken.
+pub data TakesLine (stream : List ℕ) (ended : List Frame) (place : Result (Option (List ℕ)) Reason) (number : ℕ)
+    (held held' : Option (List ℕ)) (new : frames.Reading) (answer : Option Status) : Type 0 where
+  by_line : (reason : Reason) (told : Status) → place ≡ Err reason → answer ≡ Some told
+      → EndsWithText held held' (refusal_line (refused.Line (record { line = number; reason = reason })))
+      (status.Refused (refused.Line (record { line = number; reason = reason }))) told
+      → TakesLine stream ended place number held held' new answer
+  by_octets : (piece : List ℕ) → place ≡ Ok (Some piece) → length piece ≤ 256
+      → TakesPiece stream ended piece number held held' new answer
+      → TakesLine stream ended place number held held' new answer
+
+-- what a turn comes to: the command stands behind one more line, or it ended with this outcome
+abbrev pub FrameTurn : (start now : Streams) → (old new : Reading) → frames.Reading → Option Status → Type 0
+FrameTurn start now old new reader None =
+    FramesStanding start now new reader × (old.lines < new.lines) × (new.lines ≤ most_bytes)
+FrameTurn start now old new reader (Some answer) = Outcome (Some command.Frames) start now answer

@@ -1,0 +1,341 @@
+//! The command `frames`: pieces of a stream of frames in hexadecimal in, the lines of its frames out.
+
+ghost use Rattle.std.specs.Prelude.{◌≡◌, ℕ, ◌≤◌, ◌<◌, ◌+◌, ◌*◌, ◌^◌, List, [], ◌∷◌, ◌++◌, OnErr, OnOk, IfOk, false, length, Some, None, Ok, MatchOption, MatchResult, codes, decimal};
+ghost use Rattle.arrayvec.specs.ArrayVec.{array_vec_len};
+ghost use Rattle.call_io.specs.Blocks.{held, sink, way};
+ghost use Rattle.call_io.specs.Bytes.{Grew, GrewPartly};
+ghost use Rattle.call_io.specs.Counts.{Rose};
+ghost use Rattle.call_io.specs.Ways.{Onward};
+ghost use Rattle.hex.specs.Hex.{decode_of, encode_lower};
+ghost use Rattle.link_frames.specs.Frame.{lent};
+ghost use Rattle.link_frames.specs.Reading.{HasRead};
+ghost use Rattle.link_frames.specs.declared.frame.Frame.{Frame};
+ghost use Rattle.trace_text.specs.Characters.{space};
+ghost use Rattle.trace_text.specs.EntryLine.{answer_word, frame_words};
+ghost use Rattle.trace_text.specs.Lines.{most_in_line};
+ghost use Rattle.trace_text.specs.Words.{only_word_of, words};
+ghost use Rattle.ecall_top.specs.Decode.{octets_in, octets_of_word, some_octets};
+ghost use Rattle.ecall_top.specs.Frames.{frame_line, joined, rest_line};
+ghost use Rattle.ecall_top.specs.Outcome.{Outcome, ReadCause, Streams, WriteCause, streams_of};
+ghost use Rattle.ecall_top.specs.inner.EncodeTurns.{IsOfLine};
+ghost use Rattle.ecall_top.specs.inner.Ends.{EndsWithText};
+ghost use Rattle.ecall_top.specs.inner.FrameTurns.{FramesStanding, FrameTurn, TakesLine, TakesOn, TakesPiece, last_line};
+ghost use Rattle.ecall_top.specs.declared.command.Command.TheVariants as command;
+
+use crate::reading::read_line;
+use crate::refusal::{Refused, refuse, refuse_line};
+use crate::status::Status;
+use arrayvec::ArrayVec;
+use call_io::{Block, Failed, Sink, Source, write_all};
+use link_frames::{Answer, FrameRef, OCTETS, Reader, Request};
+use trace_text::{Line, Lines, Reason, only_word, push_number, push_word};
+
+/// The most octets that a line has in hexadecimal.
+const MOST_OCTETS: usize = 256;
+
+/// The most bytes that the line of a frame has: `data`, a request and an attempt of 3 digits, and two digits for each
+/// of 140 octets, each but the first behind a space, and its newline.
+const LONGEST_LINE: usize = 294;
+
+/// The line of a frame that is being built.
+type FrameText = ArrayVec<u8, LONGEST_LINE>;
+
+/// Writes the frames of the stream whose pieces the input has in hexadecimal, one on each line. It takes no memory.
+pub(crate) fn read_frames<I: Source, O: Sink>(input: &mut I, output: &mut Block<'_, O>) -> Status
+    ensures outcome { (passes : ℕ) → Outcome (Some command.Frames)
+        (streams_of I.left (held O.held) input.old output.old passes)
+        (streams_of I.left (held O.held) input.new output.new passes) result }
+    ensures in_place { result ≡ Status.Memory → ⊥ }
+    ensures unread { ReadCause result (I.faults input.old) (I.faults input.new) }
+    ensures unwritten { WriteCause result (O.faults (sink output.old)) (O.faults (sink output.new)) }
+    ensures reads_counted { I.faults input.old ≤ I.faults input.new }
+    ensures writes_counted { O.faults (sink output.old) ≤ O.faults (sink output.new) }
+    ensures onward { Onward (way O.held output.old) (way O.held output.new) }
+{
+    let mut lines = Lines::new();
+    let mut reader = Reader::new();
+    loop {
+        match take_next(&mut lines, &mut reader, input, output) {
+            None => {}
+            Some(status) => return status,
+        }
+    }
+}
+
+/// Reads one more line and takes its piece; an answer ends the command.
+fn take_next<I: Source, O: Sink>(
+    lines: &mut Lines,
+    reader: &mut Reader,
+    input: &mut I,
+    output: &mut Block<'_, O>,
+) -> Option<Status>
+    requires alive { lines.old.failed ≡ false }
+    requires going { reader.old.fault ≡ None }
+    requires few { reader.old.taken ≤ lines.old.lines * 256 }
+    ensures turns { (start : Streams) (passes : ℕ) →
+        FramesStanding start (streams_of I.left (held O.held) input.old output.old passes) lines.old reader.old →
+        FrameTurn start (streams_of I.left (held O.held) input.new output.new passes) lines.old lines.new reader.new
+        result }
+    ensures in_place { result ≡ Some Status.Memory → ⊥ }
+    ensures unread { MatchOption result (I.faults input.new ≡ I.faults input.old)
+        (λ answer. ReadCause answer (I.faults input.old) (I.faults input.new)) }
+    ensures unwritten { MatchOption result (O.faults (sink output.new) ≡ O.faults (sink output.old))
+        (λ answer. WriteCause answer (O.faults (sink output.old)) (O.faults (sink output.new))) }
+    ensures reads_counted { I.faults input.old ≤ I.faults input.new }
+    ensures writes_counted { O.faults (sink output.old) ≤ O.faults (sink output.new) }
+    ensures onward { Onward (way O.held output.old) (way O.held output.new) }
+{
+    match read_line(lines, input, output) {
+        Ok(found) => {
+            if found {
+                take_line(&lines.line(), reader, output)
+            } else {
+                Some(write_rest(reader, output))
+            }
+        }
+        Err(status) => Some(status),
+    }
+}
+
+/// Takes the piece of a line.
+fn take_line<O: Sink>(line: &Line<'_>, reader: &mut Reader, output: &mut O) -> Option<Status>
+    requires going { reader.old.fault ≡ None }
+    requires few { reader.old.taken ≤ 2 ^ 32 }
+    ensures takes { (stream : List ℕ) (ended : List Frame) → HasRead stream ended reader.old →
+        TakesLine stream ended (some_octets (octets_of_word (only_word_of (words line.now.text)))) line.now.number
+        (O.held output.old) (O.held output.new) reader.new result }
+    ensures answer { IsOfLine result }
+    ensures unwritten { MatchOption result (O.faults output.new ≡ O.faults output.old)
+        (λ answer. WriteCause answer (O.faults output.old) (O.faults output.new)) }
+    ensures counted { O.faults output.old ≤ O.faults output.new }
+    ensures onward { Onward (O.way output.old) (O.way output.new) }
+{
+    match only_word(line.text()) {
+        Some(word) => take_word(line.number(), word, reader, output),
+        None => Some(refuse_line(line.number(), Reason::Count, output)),
+    }
+}
+
+/// Takes the piece that stands in hexadecimal.
+fn take_word<O: Sink>(
+    number: u32,
+    word: &[u8],
+    reader: &mut Reader,
+    output: &mut O,
+) -> Option<Status>
+    requires short { length word.now ≤ most_in_line }
+    requires going { reader.old.fault ≡ None }
+    requires few { reader.old.taken ≤ 2 ^ 32 }
+    ensures takes { (stream : List ℕ) (ended : List Frame) → HasRead stream ended reader.old →
+        TakesLine stream ended (some_octets (octets_in (decode_of word.now))) number
+        (O.held output.old) (O.held output.new) reader.new result }
+    ensures answer { IsOfLine result }
+    ensures unwritten { MatchOption result (O.faults output.new ≡ O.faults output.old)
+        (λ answer. WriteCause answer (O.faults output.old) (O.faults output.new)) }
+    ensures counted { O.faults output.old ≤ O.faults output.new }
+    ensures onward { Onward (O.way output.old) (O.way output.new) }
+{
+    let mut room = [0; MOST_OCTETS];
+    let octets = &mut room[..word.len() / 2];
+    match hex::decode_to_slice(word, octets) {
+        Ok(()) => take_piece(number, octets, reader, output),
+        Err(_) => Some(refuse_line(number, Reason::Hex, output)),
+    }
+}
+
+/// Takes a piece of the stream, and writes the frames that end in it.
+fn take_piece<O: Sink>(
+    number: u32,
+    piece: &[u8],
+    reader: &mut Reader,
+    output: &mut O,
+) -> Option<Status>
+    requires short { length piece.now ≤ MOST_OCTETS }
+    requires going { reader.old.fault ≡ None }
+    requires few { reader.old.taken ≤ 2 ^ 32 }
+    ensures takes { (stream : List ℕ) (ended : List Frame) → HasRead stream ended reader.old →
+        TakesPiece stream ended piece.now number (O.held output.old) (O.held output.new) reader.new result }
+    ensures answer { IsOfLine result }
+    ensures unwritten { MatchOption result (O.faults output.new ≡ O.faults output.old)
+        (λ answer. WriteCause answer (O.faults output.old) (O.faults output.new)) }
+    ensures counted { O.faults output.old ≤ O.faults output.new }
+    ensures onward { Onward (O.way output.old) (O.way output.new) }
+{
+    let mut n = 0;
+    while n < piece.len() {
+        match take_on(number, &piece[n..], reader, output) {
+            Ok(more) => n += more,
+            Err(status) => return Some(status),
+        }
+    }
+    None
+}
+
+/// Takes a piece of the stream up to the end of one frame, which it writes, and says how many octets these are.
+fn take_on<O: Sink>(
+    number: u32,
+    piece: &[u8],
+    reader: &mut Reader,
+    output: &mut O,
+) -> Result<usize, Status>
+    requires short { length piece.now ≤ MOST_OCTETS }
+    requires going { reader.old.fault ≡ None }
+    requires few { reader.old.taken ≤ 2 ^ 33 }
+    ensures takes { (stream : List ℕ) (ended : List Frame) → HasRead stream ended reader.old →
+        TakesOn stream ended piece.now number (O.held output.old) (O.held output.new) reader.new result }
+    ensures going { IfOk result (λ _. reader.new.fault ≡ None) }
+    ensures taken { IfOk result (λ n. reader.new.taken ≡ reader.old.taken + n) }
+    ensures bound { IfOk result (λ n. n ≤ length piece.now) }
+    ensures some { IfOk result (λ n. 0 < length piece.now → 0 < n) }
+    ensures answer { MatchResult result (λ _. Unit {0}) (λ answer. IsOfLine (Some answer)) }
+    ensures unwritten { MatchResult result (λ _. O.faults output.new ≡ O.faults output.old)
+        (λ answer. WriteCause answer (O.faults output.old) (O.faults output.new)) }
+    ensures counted { O.faults output.old ≤ O.faults output.new }
+    ensures onward { Onward (O.way output.old) (O.way output.new) }
+{
+    match reader.feed(piece) {
+        Ok(n) => match write_whole(reader, output) {
+            Ok(()) => Ok(n),
+            Err(_) => Err(Status::WriteFault),
+        },
+        Err(fault) => {
+            let line = number;
+            Err(refuse(Refused::Frame { line, fault }, output))
+        }
+    }
+}
+
+/// Writes the line of the frame with which the last piece ended, if it was whole.
+fn write_whole<O: Sink>(reader: &Reader, output: &mut O) -> Result<(), Failed>
+    ensures whole { OnOk result (Grew (O.held output.old) (O.held output.new) (last_line reader.now.frame)) }
+    ensures partly { OnErr result
+        (GrewPartly (O.held output.old) (O.held output.new) (last_line reader.now.frame)) }
+    ensures cause { OnErr result (Rose (O.faults output.old) (O.faults output.new)) }
+    ensures stood { OnOk result (O.faults output.new ≡ O.faults output.old) }
+    ensures counted { O.faults output.old ≤ O.faults output.new }
+    ensures onward { Onward (O.way output.old) (O.way output.new) }
+{
+    match reader.frame() {
+        Some(frame) => write_all(output, frame_text(&frame).as_slice()),
+        None => Ok(()),
+    }
+}
+
+/// Writes how many octets of an unfinished frame are left at the end of the input, and ends the command.
+fn write_rest<O: Sink>(reader: &Reader, output: &mut O) -> Status
+    ensures ends { EndsWithText (O.held output.old) (O.held output.new) (rest_line reader.now.kept) Status.Done result }
+    ensures unwritten { WriteCause result (O.faults output.old) (O.faults output.new) }
+    ensures counted { O.faults output.old ≤ O.faults output.new }
+    ensures onward { Onward (O.way output.old) (O.way output.new) }
+{
+    let line = rest_text(reader.pending());
+    match write_all(output, line.as_slice()) {
+        Ok(()) => Status::Done,
+        Err(_) => Status::WriteFault,
+    }
+}
+
+/// The line that says how many octets are left.
+fn rest_text(count: u8) -> ArrayVec<u8, 16>
+    ensures { (rest : List ℕ) → count ≡ length rest → result.items ≡ rest_line rest }
+{
+    let mut line = ArrayVec::new();
+    line.try_extend_from_slice(b"rest").unwrap();
+    push_number(&mut line, count);
+    line.push(b'\n');
+    line
+}
+
+/// The line of a frame.
+fn frame_text(frame: &FrameRef<'_>) -> FrameText
+    ensures { result.items ≡ frame_line (lent frame.now) }
+{
+    let mut line = words_text(frame);
+    line.push(b'\n');
+    line
+}
+
+/// The words of a frame.
+fn words_text(frame: &FrameRef<'_>) -> FrameText
+    ensures bytes { result.items ≡ joined (frame_words (lent frame.now)) }
+    ensures len { array_vec_len result < LONGEST_LINE }
+{
+    match frame {
+        FrameRef::Init => word_text("init"),
+        FrameRef::Start(request) => request_text("start", *request),
+        FrameRef::Content {
+            request,
+            attempt,
+            octets,
+        } => data_text(*request, *attempt, octets),
+        FrameRef::Nack(request) => request_text("nack", *request),
+        FrameRef::Ack(request) => request_text("ack", *request),
+        FrameRef::App { request, answer } => app_text(*request, *answer),
+    }
+}
+
+/// One word.
+fn word_text(word: &str) -> FrameText
+    requires { length word.now ≤ 5 }
+    ensures bytes { result.items ≡ joined (word.now ∷ []) }
+    ensures len { array_vec_len result ≡ length word.now }
+{
+    let mut line = ArrayVec::new();
+    line.try_extend_from_slice(word.as_bytes()).unwrap();
+    line
+}
+
+/// A frame's first word with its request.
+fn request_text(word: &str, request: Request) -> FrameText
+    requires { length word.now ≤ 5 }
+    ensures bytes { result.items ≡ joined (word.now ∷ decimal request ∷ []) }
+    ensures len { array_vec_len result ≤ length word.now + 4 }
+{
+    let mut line = word_text(word);
+    push_number(&mut line, request.number());
+    line
+}
+
+/// The words of a frame that carries a set.
+fn data_text(request: Request, attempt: u8, octets: &[u8; OCTETS]) -> FrameText
+    ensures bytes { result.items
+        ≡ joined (codes "data" ∷ decimal request ∷ decimal attempt ∷ encode_lower octets.now ∷ []) }
+    ensures len { array_vec_len result < LONGEST_LINE }
+{
+    let mut line = request_text("data", request);
+    push_number(&mut line, attempt);
+    push_octets(&mut line, octets);
+    line
+}
+
+/// Appends the octets of a set behind a space, in hexadecimal.
+fn push_octets(line: &mut FrameText, octets: &[u8; OCTETS])
+    requires { array_vec_len line.old ≤ 13 }
+    ensures bytes { line.new.items ≡ line.old.items ++ space ∷ encode_lower octets.now }
+    ensures len { array_vec_len line.new ≡ array_vec_len line.old + 281 }
+{
+    let mut digits = [0; 280];
+    hex::encode_to_slice(octets.as_slice(), &mut digits).unwrap();
+    line.push(b' ');
+    line.try_extend_from_slice(&digits).unwrap();
+}
+
+/// The words of the application acknowledgement.
+fn app_text(request: Request, answer: Answer) -> FrameText
+    ensures bytes { result.items ≡ joined (codes "app" ∷ decimal request ∷ answer_word answer ∷ []) }
+    ensures len { array_vec_len result < LONGEST_LINE }
+{
+    let mut line = request_text("app", request);
+    push_word(&mut line, answer_name(answer));
+    line
+}
+
+fn answer_name(answer: Answer) -> &'static str
+    ensures word { result.now ≡ answer_word answer }
+    ensures short { length result.now ≤ 8 }
+{
+    match answer {
+        Answer::Positive => "positive",
+        Answer::Clear => "clear",
+    }
+}
