@@ -4,6 +4,7 @@ use ecall_top::{Refused, Status};
 use link_frames::{Fault, FrameFault};
 use per_bits::{Reason as SetReason, Refusal};
 use std::fmt;
+use trace_audit::Rule;
 use trace_text::{BadLine, Reason as LineReason};
 
 /// Why a call didn't end with status 0: what was wrong, where, and what helps. It is written as a part of one sentence.
@@ -22,7 +23,7 @@ impl fmt::Display for Explanation<'_> {
             Status::Refused(Refused::Line(bad)) => write_line(f, bad),
             Status::Refused(Refused::Set { line, refusal }) => write_set(f, line, refusal),
             Status::Refused(Refused::Frame { line, fault }) => write_frame(f, line, fault),
-            Status::Broken => write!(f, "a rule is broken at the line that the answer names"),
+            Status::Broken { line, rule } => write_broken(f, line, rule),
             Status::ReadFault => write!(f, "reading failed; {BEGINNING}"),
             Status::WriteFault => write!(f, "writing failed; {BEGINNING}"),
             Status::Memory => write!(f, "no memory was left; {BEGINNING}"),
@@ -36,12 +37,12 @@ const BEGINNING: &str = "what was written is the beginning of an answer";
 
 /// What the commands do that are built.
 const BUILT: &str =
-    "`ecall run` plays a script, `ecall decode` describes sets of data, `ecall encode` makes them and `ecall frames` \
-    reads a stream of frames, from standard input";
+    "`ecall run` plays a script, `ecall decode` describes sets of data, `ecall encode` makes them, `ecall frames` \
+    reads a stream of frames and `ecall replay` audits a trace, from standard input";
 
 /// Whether a command of this name is planned and not built yet.
 fn is_planned(word: &str) -> bool {
-    matches!(word, "register" | "replay" | "trial" | "make" | "conform")
+    matches!(word, "register" | "trial" | "make" | "conform")
 }
 
 /// Why the words are no form of words.
@@ -95,6 +96,26 @@ fn write_line<W: fmt::Write>(f: &mut fmt::Formatter<W>, bad: BadLine) -> fmt::Re
     let code = bad.reason.code();
     let help = line_help(bad.reason);
     write!(f, "line {line}: {fault} (reason {code}){help}")
+}
+
+/// What a trace has where it breaks this rule.
+fn rule_break(rule: Rule) -> &'static str {
+    match rule {
+        Rule::Agreed => "a set is acknowledged that was not shown",
+        Rule::Opened => {
+            "a muted voice isn't opened, right behind the end of a wait for data or a fault"
+        }
+        Rule::Bounded => {
+            "a voice is muted for more than 320 ticks at the vehicle or 275 at the point, \
+            or within 20 ticks of its opening"
+        }
+    }
+}
+
+fn write_broken<W: fmt::Write>(f: &mut fmt::Formatter<W>, line: u32, rule: Rule) -> fmt::Result {
+    let fault = rule_break(rule);
+    let number = rule.number();
+    write!(f, "line {line}: {fault} (rule {number})")
 }
 
 fn write_set<W: fmt::Write>(f: &mut fmt::Formatter<W>, line: u32, refusal: Refusal) -> fmt::Result {

@@ -7,6 +7,7 @@ use per_bits::{Reason as SetReason, Refusal};
 use std::alloc::Global;
 use std::process::Abort;
 use std::test::Fail;
+use trace_audit::Rule;
 use trace_text::{BadLine, Reason as LineReason};
 
 /// Checks what a person is told of line 3, where it is refused for this reason.
@@ -185,6 +186,37 @@ fn explains_frames(rt: HostRuntime) -> Result<(), Fail> {
     expect_frame(alloc, &rt, Fault::Number, 0, text)?;
     let text = "9, where an answer is 1 or 2; 4 octets of the stream stand before it (fault 3)";
     expect_frame(alloc, &rt, Fault::Answer, 9, text)
+}
+
+#[test]
+fn explains_a_broken_rule(rt: HostRuntime) -> Result<(), Fail> {
+    let table = [
+        (
+            Rule::Agreed,
+            "line 13: a set is acknowledged that was not shown (rule 1)",
+        ),
+        (
+            Rule::Opened,
+            "line 13: a muted voice isn't opened, right behind the end of a wait for data or a fault \
+            (rule 2)",
+        ),
+        (
+            Rule::Bounded,
+            "line 13: a voice is muted for more than 320 ticks at the vehicle or 275 at the point, \
+            or within 20 ticks of its opening (rule 3)",
+        ),
+    ];
+    for (rule, text) in &table {
+        let why = Explanation {
+            status: Status::Broken {
+                line: 13,
+                rule: *rule,
+            },
+            word: Some("replay"),
+        };
+        assert_eq!(rt; format!(in rt.alloc(); "{why}")?.as_str(), *text);
+    }
+    Ok(())
 }
 
 #[test]

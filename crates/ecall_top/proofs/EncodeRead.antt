@@ -105,7 +105,7 @@ ends_line facts number text held held' draft' status.WriteFault (turns.in_set ca
     in_text (written_for facts (line.Write cause n)) (line_gives facts number text (line.Write cause n) h) grew
 ends_line facts number text held held' draft' status.Done d = absurd d
 ends_line facts number text held held' draft' status.Usage d = absurd d
-ends_line facts number text held held' draft' status.Broken d = absurd d
+ends_line facts number text held held' draft' (status.Broken place rule) d = absurd d
 ends_line facts number text held held' draft' status.ReadFault d = absurd d
 ends_line facts number text held held' draft' status.Memory d = absurd d
 ends_line facts number text held held' draft' status.TooLong d = absurd d

@@ -203,7 +203,7 @@ ends_by_octets start now old new reader reader' left held piece s reads judged s
     (begins_refusal s.stream s.ended new.lines new.text piece fs fault judged h) grew
 ends_by_octets start now old new reader reader' left held piece s reads judged status.Done t = absurd t
 ends_by_octets start now old new reader reader' left held piece s reads judged status.Usage t = absurd t
-ends_by_octets start now old new reader reader' left held piece s reads judged status.Broken t = absurd t
+ends_by_octets start now old new reader reader' left held piece s reads judged (status.Broken place rule) t = absurd t
 ends_by_octets start now old new reader reader' left held piece s reads judged status.ReadFault t = absurd t
 ends_by_octets start now old new reader reader' left held piece s reads judged status.Memory t = absurd t
 ends_by_octets start now old new reader reader' left held piece s reads judged status.TooLong t = absurd t

@@ -136,7 +136,7 @@ then_answer stream a b c ended number held mid held' old new new' whole w status
     (frame_lines fs ++ refusal_line (refused.Frame number fault)) w.wrote grew))
 then_answer stream a b c ended number held mid held' old new new' whole w status.Done t = absurd t
 then_answer stream a b c ended number held mid held' old new new' whole w status.Usage t = absurd t
-then_answer stream a b c ended number held mid held' old new new' whole w status.Broken t = absurd t
+then_answer stream a b c ended number held mid held' old new new' whole w (status.Broken place rule) t = absurd t
 then_answer stream a b c ended number held mid held' old new new' whole w status.ReadFault t = absurd t
 then_answer stream a b c ended number held mid held' old new new' whole w status.Memory t = absurd t
 then_answer stream a b c ended number held mid held' old new new' whole w status.TooLong t = absurd t

@@ -25,7 +25,7 @@ cut_of : (asked : Option Command) (old new : Streams) (answer : Status) → Outc
 cut_of asked old new status.Done o = (o.0, answered_cut asked old new o.0 o.1 o.2)
 cut_of asked old new status.Usage o = ([], answered_cut asked old new [] o.0 o.1)
 cut_of asked old new (status.Refused why) o = (o.0, answered_cut asked old new o.0 o.1 o.2)
-cut_of asked old new status.Broken o = (o.0, answered_cut asked old new o.0 o.1 o.2)
+cut_of asked old new (status.Broken place rule) o = (o.0, answered_cut asked old new o.0 o.1 o.2)
 cut_of asked old new status.ReadFault o = o
 cut_of asked old new status.WriteFault o = o
 cut_of asked old new status.Memory o = o
@@ -74,8 +74,8 @@ module _ {O : Type 0} (of_sink : O → Option (List ℕ)) (asked : Option Comman
   outcome_stays status.Usage (inr empty) o = (o.0, answered_through empty [] o.0 o.1, o.2)
   outcome_stays (status.Refused why) (inl h) o = absurd h
   outcome_stays (status.Refused why) (inr empty) o = (o.0, o.1, answered_through empty o.0 o.1 o.2, o.3, o.4)
-  outcome_stays status.Broken (inl h) o = absurd h
-  outcome_stays status.Broken (inr empty) o = (o.0, o.1, answered_through empty o.0 o.1 o.2, o.3, o.4)
+  outcome_stays (status.Broken place rule) (inl h) o = absurd h
+  outcome_stays (status.Broken place rule) (inr empty) o = (o.0, o.1, answered_through empty o.0 o.1 o.2, o.3, o.4)
   outcome_stays status.ReadFault h o = (o.0, cut_through o.0 o.1)
   outcome_stays status.WriteFault h o = (o.0, cut_through o.0 o.1)
   outcome_stays status.Memory h o = (o.0, cut_through o.0 o.1)
@@ -111,7 +111,7 @@ sound_read : (answer : Status) (old new : ℕ) → (IsFault answer → ⊥) → 
 sound_read status.Done old new sound h = h
 sound_read status.Usage old new sound h = h
 sound_read (status.Refused why) old new sound h = h
-sound_read status.Broken old new sound h = h
+sound_read (status.Broken place rule) old new sound h = h
 sound_read status.ReadFault old new sound h = absurd (sound tt)
 sound_read status.WriteFault old new sound h = h
 sound_read status.Memory old new sound h = h

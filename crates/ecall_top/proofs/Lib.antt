@@ -19,4 +19,5 @@ mod Endings
 mod Staged
 mod Turned
 mod Worded
+mod Replayed
 mod Handed

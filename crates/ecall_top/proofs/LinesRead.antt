@@ -390,7 +390,7 @@ module _ {last : List ℕ} (asked : Option Command) (Rest : ℕ → List (List �
       cut_refused start now old new left held s why (ending_line start now old new left s [] why reads refuses) grew
   ends_line start now old new left held s reads status.Done e = absurd e
   ends_line start now old new left held s reads status.Usage e = absurd e
-  ends_line start now old new left held s reads status.Broken e = absurd e
+  ends_line start now old new left held s reads (status.Broken place rule) e = absurd e
   ends_line start now old new left held s reads status.ReadFault e = absurd e
   ends_line start now old new left held s reads status.Memory e = absurd e
   ends_line start now old new left held s reads status.TooLong e = absurd e

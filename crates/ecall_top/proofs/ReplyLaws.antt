@@ -11,6 +11,7 @@ use Rattle.ecall_top.specs.Replies.{Replies, usage_line}
 use Rattle.ecall_top.specs.Run.{run_reply}
 use Rattle.ecall_top.proofs.FrameStreams.{nothing_held}
 use Rattle.ecall_top.proofs.FramesTold.{frames_some, frames_one}
+use Rattle.ecall_top.proofs.Replayed.{replayed_some, replayed_one}
 use Rattle.ecall_top.proofs.Sets.{decoded_some, decoded_one}
 
 pub replies_some : (asked : Option Command) (input : List ℕ) → (r : Reply) × Replies asked input r
@@ -19,6 +20,7 @@ replies_some (Some command.Run) input = (run_reply input, refl)
 replies_some (Some command.Decode) input = decoded_some 1 (lines_of input)
 replies_some (Some command.Encode) input = (encode_reply input, refl)
 replies_some (Some command.Frames) input = frames_some 1 (lines_of input) [] [] [] nothing_held
+replies_some (Some command.Replay) input = replayed_some input
 
 pub replies_one : (asked : Option Command) (input : List ℕ) (r s : Reply) → Replies asked input r
     → Replies asked input s → r ≡ s
@@ -27,3 +29,4 @@ replies_one (Some command.Run) input r s a b = a ∙ sym b
 replies_one (Some command.Decode) input r s a b = decoded_one 1 (lines_of input) r s a b
 replies_one (Some command.Encode) input r s a b = a ∙ sym b
 replies_one (Some command.Frames) input r s a b = frames_one 1 (lines_of input) [] [] r s a b
+replies_one (Some command.Replay) input r s a b = replayed_one input r s a b

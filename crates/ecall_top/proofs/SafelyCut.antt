@@ -153,7 +153,7 @@ pub run_cut : (old new : Streams) (answer : Status) → Outcome (Some command.Ru
 run_cut old new status.Done o = whole_cut o.0 o.1 o.2.replies old.held new.held o.2.wrote
 run_cut old new status.Usage o = whole_cut [] o.0 o.1.replies old.held new.held o.1.wrote
 run_cut old new (status.Refused why) o = whole_cut o.0 o.1 o.2.replies old.held new.held o.2.wrote
-run_cut old new status.Broken o = whole_cut o.0 o.1 o.2.replies old.held new.held o.2.wrote
+run_cut old new (status.Broken place rule) o = whole_cut o.0 o.1 o.2.replies old.held new.held o.2.wrote
 run_cut old new status.ReadFault o = partly_cut o.0 o.1.reply o.1.replies old.held new.held o.1.wrote
 run_cut old new status.WriteFault o = partly_cut o.0 o.1.reply o.1.replies old.held new.held o.1.wrote
 run_cut old new status.Memory o = partly_cut o.0 o.1.reply o.1.replies old.held new.held o.1.wrote

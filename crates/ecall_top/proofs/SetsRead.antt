@@ -89,7 +89,7 @@ ends_set number line held held' status.WriteFault (turns.in_description text h g
     in_text text (line_gives number line text h) grew
 ends_set number line held held' status.Done d = absurd d
 ends_set number line held held' status.Usage d = absurd d
-ends_set number line held held' status.Broken d = absurd d
+ends_set number line held held' (status.Broken place rule) d = absurd d
 ends_set number line held held' status.ReadFault d = absurd d
 ends_set number line held held' status.Memory d = absurd d
 ends_set number line held held' status.TooLong d = absurd d

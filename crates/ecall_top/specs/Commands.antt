@@ -12,6 +12,7 @@ command_named word =
     else if bytes_eq word (codes "decode") then Some command.Decode
     else if bytes_eq word (codes "encode") then Some command.Encode
     else if bytes_eq word (codes "frames") then Some command.Frames
+    else if bytes_eq word (codes "replay") then Some command.Replay
     else None
 
 -- the command that the words name; no other words are a form of words
@@ -27,4 +28,5 @@ plays _ = false
 -- whether a command takes memory
 abbrev pub takes_memory : Option Command → Bool
 takes_memory (Some command.Run) = true
+takes_memory (Some command.Replay) = true
 takes_memory _ = false

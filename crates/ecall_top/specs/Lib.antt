@@ -5,6 +5,7 @@ pub mod Encode
 pub mod Frames
 pub mod Outcome
 pub mod Refusals
+pub mod Replay
 pub mod Replies
 pub mod Run
 pub mod Status

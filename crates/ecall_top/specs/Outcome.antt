@@ -70,8 +70,8 @@ Outcome asked old new status.Usage = (r : Reply) × Answered asked old new [] r 
 Outcome asked old new (status.Refused why) =
     (input : List ℕ) × (r : Reply) × Answered asked old new input r × (r.status ≡ status.Refused why)
     × (IsSettled asked input r ⊎ IsWhole new.left input)
-Outcome asked old new status.Broken =
-    (input : List ℕ) × (r : Reply) × Answered asked old new input r × (r.status ≡ status.Broken)
+Outcome asked old new (status.Broken number rule) =
+    (input : List ℕ) × (r : Reply) × Answered asked old new input r × (r.status ≡ status.Broken number rule)
     × (IsSettled asked input r ⊎ IsWhole new.left input)
 Outcome asked old new status.ReadFault = (input : List ℕ) × CutShort asked old new input
 Outcome asked old new status.WriteFault = (input : List ℕ) × CutShort asked old new input

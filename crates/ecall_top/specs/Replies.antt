@@ -10,6 +10,7 @@ use Rattle.ecall_top.specs.Decode.{IsDecoded}
 use Rattle.ecall_top.specs.Encode.{encode_reply}
 use Rattle.ecall_top.specs.Frames.{IsFrames}
 use Rattle.ecall_top.specs.Refusals.{Reply}
+use Rattle.ecall_top.specs.Replay.{IsReplayed}
 use Rattle.ecall_top.specs.Run.{run_reply, script_passes}
 
 abbrev pub usage_line : List ℕ
@@ -22,6 +23,7 @@ Replies (Some command.Run) input r = r ≡ run_reply input
 Replies (Some command.Decode) input r = IsDecoded input r
 Replies (Some command.Encode) input r = r ≡ encode_reply input
 Replies (Some command.Frames) input r = IsFrames input r
+Replies (Some command.Replay) input r = IsReplayed input r
 
 -- how often the ends are passed at most for a command and an input: `run` alone passes any
 abbrev pub passes_of : Option Command → List ℕ → ℕ

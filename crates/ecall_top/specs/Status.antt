@@ -7,7 +7,7 @@ abbrev pub status_code : Status → ℕ
 status_code status.Done = 0
 status_code status.Usage = 1
 status_code (status.Refused why) = 2
-status_code status.Broken = 3
+status_code (status.Broken number rule) = 3
 status_code status.ReadFault = 4
 status_code status.WriteFault = 5
 status_code status.Memory = 6

@@ -6,6 +6,7 @@ pub mod Ends
 pub mod FrameTurns
 pub mod LineTurns
 pub mod Progress
+pub mod ReplayEnds
 pub mod RunTurns
 pub mod Stage
 pub mod Standing

@@ -15,6 +15,8 @@ pub enum Command {
     Encode,
     /// Write the frames of the stream that the input has, in pieces of one line each.
     Frames,
+    /// Say whether the trace that the input has is safe, and where it breaks a rule.
+    Replay,
 }
 
 /// The command that the words name, if they name one.
@@ -31,6 +33,8 @@ pub(crate) fn read_command(words: &[String]) -> Option<Command>
                 Some(Command::Encode)
             } else if word.as_str() == "frames" {
                 Some(Command::Frames)
+            } else if word.as_str() == "replay" {
+                Some(Command::Replay)
             } else {
                 None
             }

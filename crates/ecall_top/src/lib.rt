@@ -31,6 +31,9 @@ mod reading;
 mod refusal;
 #[cfg(test)]
 mod refusal_tests;
+mod replay;
+#[cfg(test)]
+mod replay_tests;
 mod run;
 mod stage;
 mod status;
@@ -60,8 +63,9 @@ const USAGE: &[u8] =
 /// there is none, it answers `Memory`. `decode` reads sets of data in hexadecimal, one a line, and describes each in
 /// twenty lines. `encode` reads facts of a vehicle, and lines that ask for a set; it writes the octets of the set that
 /// fits the facts so far in hexadecimal, one a line. `frames` reads a stream of frames in hexadecimal, a piece a line;
-/// it writes one line a frame, and at the end how many octets of an unfinished one are left. Other words write the
-/// usage line.
+/// it writes one line a frame, and at the end how many octets of an unfinished one are left. `replay` reads a trace and
+/// writes one line: that the trace is safe, or which line breaks which rule, or is refused, and why. It takes memory for
+/// the legs that are up, their muting, and the sets that were shown. Other words write the usage line.
 ///
 /// What is written is handed to `output` in blocks: where one is full, before each read of `input`, and at the end.
 /// After a failed read or write nothing more is read or written. `moments` counts how often `run` passes an end of a
@@ -159,6 +163,7 @@ fn reply<I: Source, O: Sink, L: Ledger>(
         Some(Command::Decode) => decode::decode_sets(input, output),
         Some(Command::Encode) => encode::encode_sets(input, output),
         Some(Command::Frames) => frames::read_frames(input, output),
+        Some(Command::Replay) => replay::replay(alloc, input, output),
         None => usage(output),
     }
 }

@@ -4,6 +4,7 @@ ghost use Rattle.std.specs.Prelude.{◌≡◌};
 ghost use Rattle.ecall_top.specs.Status.{status_code};
 
 use crate::refusal::Refused;
+use trace_audit::Rule;
 
 /// How a call of `ecall` ended. The program's exit status is its number.
 #[derive(Clone, Copy, Debug, PartialEq, Eq)]
@@ -14,8 +15,9 @@ pub enum Status {
     Usage,
     /// A line of the input is refused, and why. It is the first such.
     Refused(Refused),
-    /// A rule is broken in a trace that is audited; no command of today answers it.
-    Broken,
+    /// A trace that is audited breaks a rule: its first line that does, by its number from 1, and the lowest rule that
+    /// it breaks.
+    Broken { line: u32, rule: Rule },
     /// A read failed.
     ReadFault,
     /// A write failed.
@@ -35,7 +37,7 @@ impl Status {
             Status::Done => 0,
             Status::Usage => 1,
             Status::Refused(_) => 2,
-            Status::Broken => 3,
+            Status::Broken { .. } => 3,
             Status::ReadFault => 4,
             Status::WriteFault => 5,
             Status::Memory => 6,

@@ -11,6 +11,7 @@ use std::marker::Brand;
 use std::process::Abort;
 use std::sync::ledger::{Blank, Ledger};
 use std::test::Fail;
+use trace_audit::Rule;
 use trace_text::{BadLine, Reason};
 
 /// A set of data; the digits of its 140 octets, for which `H` stands in the expected lines; and its summary, for which
@@ -426,7 +427,10 @@ fn numbers_its_statuses(rt: HostRuntime) {
         Status::Done,
         Status::Usage,
         bad(1, Reason::Word),
-        Status::Broken,
+        Status::Broken {
+            line: 1,
+            rule: Rule::Agreed,
+        },
         Status::ReadFault,
         Status::WriteFault,
         Status::Memory,

@@ -30,6 +30,12 @@ returns-in-Some-Frames-clause-outcome g c =
     (sym c.read_command.ensures ∙ (c.in-Some-Frames.is ∙ ap Some c.in-Some-Frames.field-0-is))
     (c.read_frames.ensures.outcome c.args.moments.now)
 
+pub returns-in-Some-Replay-clause-outcome : goal.returns-in-Some-Replay-clause-outcome
+returns-in-Some-Replay-clause-outcome g c =
+    named (command_of (map string_bytes c.args.words.now)) (Some command.Replay) _ _ c.replay.result
+    (sym c.read_command.ensures ∙ (c.in-Some-Replay.is ∙ ap Some c.in-Some-Replay.field-0-is))
+    (c.replay.ensures.outcome c.args.moments.now)
+
 pub returns-in-None-clause-outcome : goal.returns-in-None-clause-outcome
 returns-in-None-clause-outcome g c =
     named (command_of (map string_bytes c.args.words.now)) None _ _ c.usage.result (sym c.in-None.ensures)
