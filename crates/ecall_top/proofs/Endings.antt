@@ -312,22 +312,29 @@ pub no_entries : (o : Option World) (f : FactLine) → entries_in o (line.Fact f
 no_entries None f = refl
 no_entries (Some w) f = refl
 
+-- the trace of the lines so far, with one more line
+pub trace_behind : (said : Said) (events : List Event) (text : List ℕ) → IsTidy said events → (says : ScriptLine)
+    → judged said text ≡ Ok (Some says)
+    → played (facts_in (said_after said says).facts)
+    (events ++ event_of says) ≡ played (facts_in said.facts) events ++ entries_of said events says
+trace_behind said events text tidy (line.Event e) judge = played-line said events (line.Event e)
+trace_behind said events text tidy (line.Fact f) judge =
+    let none : events ≡ [] = fact_is_first said events text f tidy judge in
+    let known : Option Facts = facts_in (said.facts ++ f ∷ []) in
+    ap (played known) (append-nil events ∙ none) ∙ played-nothing known
+    ∙ sym (ap (λ t. t ++ entries_of said events (line.Fact f))
+    (ap (played (facts_in said.facts)) none ∙ played-nothing (facts_in said.facts))
+    ∙ no_entries (world_left (facts_in said.facts) events) f)
+
 -- the text of the lines so far, with one more line
 text_behind : (said : Said) (events : List Event) (text : List ℕ) → IsTidy said events → (says : ScriptLine)
     → judged said text ≡ Ok (Some says)
     → text_of (played (facts_in (said_after said says).facts)
     (events ++ event_of says)) ≡ text_of (played (facts_in said.facts) events) ++ text_of
     (entries_of said events says)
-text_behind said events text tidy (line.Event e) judge =
-    ap text_of (played-line said events (line.Event e)) ∙ text_of-append (played (facts_in said.facts) events)
-    (entries_of said events (line.Event e))
-text_behind said events text tidy (line.Fact f) judge =
-    let none : events ≡ [] = fact_is_first said events text f tidy judge in
-    let known : Option Facts = facts_in (said.facts ++ f ∷ []) in
-    ap text_of (ap (played known) (append-nil events ∙ none) ∙ played-nothing known)
-    ∙ sym (ap (λ t. t ++ text_of (entries_of said events (line.Fact f)))
-    (ap text_of (ap (played (facts_in said.facts)) none ∙ played-nothing (facts_in said.facts)))
-    ∙ ap text_of (no_entries (world_left (facts_in said.facts) events) f))
+text_behind said events text tidy says judge =
+    ap text_of (trace_behind said events text tidy says judge)
+    ∙ text_of-append (played (facts_in said.facts) events) (entries_of said events says)
 
 -- the bound of the lines so far, with one more line
 passes_behind : (said : Said) (events : List Event) (text : List ℕ) → IsTidy said events → (says : ScriptLine)

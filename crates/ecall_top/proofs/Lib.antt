@@ -18,6 +18,7 @@ mod SafelyCut
 mod Endings
 mod Staged
 mod Turned
+mod Registered
 mod Worded
 mod Replayed
 mod Handed

@@ -8,6 +8,7 @@ use Rattle.ecall_top.specs.declared.status.Status.TheVariants as status
 use Rattle.ecall_top.specs.Encode.{encode_reply}
 use Rattle.ecall_top.specs.Refusals.{Reply}
 use Rattle.ecall_top.specs.Replies.{Replies, usage_line}
+use Rattle.ecall_top.specs.Register.{register_reply}
 use Rattle.ecall_top.specs.Run.{run_reply}
 use Rattle.ecall_top.proofs.FrameStreams.{nothing_held}
 use Rattle.ecall_top.proofs.FramesTold.{frames_some, frames_one}
@@ -17,6 +18,7 @@ use Rattle.ecall_top.proofs.Sets.{decoded_some, decoded_one}
 pub replies_some : (asked : Option Command) (input : List ℕ) → (r : Reply) × Replies asked input r
 replies_some None input = (record { text = usage_line; status = status.Usage }, refl)
 replies_some (Some command.Run) input = (run_reply input, refl)
+replies_some (Some command.Register) input = (register_reply input, refl)
 replies_some (Some command.Decode) input = decoded_some 1 (lines_of input)
 replies_some (Some command.Encode) input = (encode_reply input, refl)
 replies_some (Some command.Frames) input = frames_some 1 (lines_of input) [] [] [] nothing_held
@@ -26,6 +28,7 @@ pub replies_one : (asked : Option Command) (input : List ℕ) (r s : Reply) → 
     → Replies asked input s → r ≡ s
 replies_one None input r s a b = a ∙ sym b
 replies_one (Some command.Run) input r s a b = a ∙ sym b
+replies_one (Some command.Register) input r s a b = a ∙ sym b
 replies_one (Some command.Decode) input r s a b = decoded_one 1 (lines_of input) r s a b
 replies_one (Some command.Encode) input r s a b = a ∙ sym b
 replies_one (Some command.Frames) input r s a b = frames_one 1 (lines_of input) [] [] r s a b

@@ -3,6 +3,7 @@ use Rattle.std.specs.Prelude.{◌≡◌, ℕ, ◌+◌, ◌<◌, ◌≤◌, true,
 use Rattle.std.proofs.Common.{sym, ap, refl, subst, arith, ◌∙◌, inl, inr}
 use Rattle.std.proofs.lemmas.List.{append-nil}
 use Rattle.call_io.specs.Bytes.{Grew}
+use Rattle.trace_text.specs.declared.entry.Entry.{Entry}
 use Rattle.trace_text.specs.declared.event.Event.{Event}
 use Rattle.trace_text.specs.declared.reason.Reason.{Reason}
 use Rattle.trace_text.specs.declared.reason.BadLine.{BadLine}
@@ -29,7 +30,7 @@ use Rattle.call_io.specs.Ways.{Way, Onward}
 use Rattle.ecall_top.specs.inner.Standing.{Standing}
 use Rattle.ecall_top.specs.declared.command.Command.TheVariants as command
 use Rattle.ecall_top.specs.inner.Ends.{EndsWithText, FailsWith, EndsReading, by_line, in_front}
-use Rattle.ecall_top.specs.inner.RunTurns.{Plays, Turns}
+use Rattle.ecall_top.specs.inner.RunTurns.{Plays, PlaysTo, Turns}
 use Rattle.ecall_top.proofs.ScriptRead.{judged-line}
 use Rattle.ecall_top.proofs.Endings.{ends_done, ending_bad, ending_line, ends_refused, cut_refused, ends_unread, ends_too_long, stands_behind, cut_line, cut_between}
 
@@ -52,47 +53,52 @@ answer_err line bad (Err why) h = record { why = why; reads = refl; bad_is = cc 
 
 -- what is said was played
 pub plays_said : (line : Numbered) (says : ScriptLine) (number : ℕ) (stands : Said → List Event → Type 0)
-    (old new : Stage) (held held' : Option (List ℕ)) (Counted : ℕ → Type 0) (t : Option Status)
+    (old new : Stage) (held held' : Option (List ℕ)) (Grows Partly : List Entry → Type 0) (Counted : ℕ → Type 0)
+    (t : Option Status)
     → Ok says ≡ line_answer line (script_line line.text) → number ≡ line.number
     → ((said : Said) (events : List Event) → stands said events
-    → Plays (placed said says) number said events old new held held' Counted t) → (said : Said) (events : List Event)
-    → stands said events
-    → Plays (placed_line said (script_line line.text)) line.number said events old new held held' Counted t
-plays_said line says number stands old new held held' Counted t reads number_is plays said events s =
+    → PlaysTo (placed said says) number said events old new held held' Grows Partly Counted t)
+    → (said : Said) (events : List Event) → stands said events
+    → PlaysTo (placed_line said (script_line line.text)) line.number said events old new held held' Grows Partly
+    Counted t
+plays_said line says number stands old new held held' Grows Partly Counted t reads number_is plays said events s =
     subst (λ (r : Result ScriptLine Reason).
-    Plays (placed_line said r) line.number said events old new held held' Counted t)
+    PlaysTo (placed_line said r) line.number said events old new held held' Grows Partly Counted t)
     (sym (answer_ok line says (script_line line.text) reads))
-    (subst (λ (n : ℕ). Plays (placed said says) n said events old new held held' Counted t) number_is
+    (subst (λ (n : ℕ). PlaysTo (placed said says) n said events old new held held' Grows Partly Counted t) number_is
     (plays said events s))
 
 pub refused_by : (place : Result (Option ScriptLine) Reason) (number : ℕ) (said : Said) (events : List Event)
-    (old new : Stage) (held held' : Option (List ℕ)) (Counted : ℕ → Type 0) (reason : Reason) (why : Refused)
+    (old new : Stage) (held held' : Option (List ℕ)) (Grows Partly : List Entry → Type 0) (Counted : ℕ → Type 0)
+    (reason : Reason) (why : Refused)
     → place ≡ Err reason → why ≡ refused.Line (record { line = number; reason = reason }) → Counted 0
     → (answer : Status) → EndsWithText held held' (refusal_line why) (status.Refused why) answer
-    → Plays place number said events old new held held' Counted (Some answer)
-refused_by place number said events old new held held' Counted reason why placed says none answer (inl h) =
-    subst (λ (a : Status). Plays place number said events old new held held' Counted (Some a)) (sym h.0)
+    → PlaysTo place number said events old new held held' Grows Partly Counted (Some answer)
+refused_by place number said events old new held held' Grows Partly Counted reason why placed says none answer (inl h) =
+    subst (λ (a : Status). PlaysTo place number said events old new held held' Grows Partly Counted (Some a)) (sym h.0)
     (record { reason = reason; placed = placed; says = says; wrote = h.1 }, none)
-refused_by place number said events old new held held' Counted reason why placed says none answer (inr h) =
-    subst (λ (a : Status). Plays place number said events old new held held' Counted (Some a)) (sym h.0)
+refused_by place number said events old new held held' Grows Partly Counted reason why placed says none answer (inr h) =
+    subst (λ (a : Status). PlaysTo place number said events old new held held' Grows Partly Counted (Some a)) (sym h.0)
     (inl (why, record { reason = reason; placed = placed; says = says; wrote = h.1 }))
 
 -- what is refused was refused
 pub plays_refused : (line : Numbered) (bad : BadLine) (stands : Said → List Event → Type 0) (old new : Stage)
-    (held held' : Option (List ℕ)) (Counted : ℕ → Type 0) (answer : Status) → Counted 0
+    (held held' : Option (List ℕ)) (Grows Partly : List Entry → Type 0) (Counted : ℕ → Type 0) (answer : Status)
+    → Counted 0
     → Err bad ≡ line_answer line (script_line line.text)
     → EndsWithText held held' (refusal_line (refused.Line bad)) (status.Refused (refused.Line bad)) answer
     → (said : Said) (events : List Event) → stands said events
-    → Plays (placed_line said (script_line line.text)) line.number said events old new held held' Counted
-    (Some answer)
-plays_refused line bad stands old new held held' Counted answer none reads ends said events s =
+    → PlaysTo (placed_line said (script_line line.text)) line.number said events old new held held' Grows Partly
+    Counted (Some answer)
+plays_refused line bad stands old new held held' Grows Partly Counted answer none reads ends said events s =
     let why : Why line (script_line line.text) bad = answer_err line bad (script_line line.text) reads in
-    refused_by (placed_line said (script_line line.text)) line.number said events old new held held' Counted why.why
-    (refused.Line bad)
+    refused_by (placed_line said (script_line line.text)) line.number said events old new held held' Grows Partly
+    Counted why.why (refused.Line bad)
     (ap (placed_line said) why.reads) (ap refused.Line why.bad_is) none answer ends
 
 -- what one more line leaves is as early as one more line
-early_next : (stage next : Stage) (old new : ℕ) → old < new → IsEarly stage old → IsNext stage next → IsEarly next new
+pub early_next : (stage next : Stage) (old new : ℕ) → old < new → IsEarly stage old → IsNext stage next
+    → IsEarly next new
 early_next stage next old new less early near =
     record {
       calls = omega (arith, less, early.calls, near.calls);
@@ -123,7 +129,7 @@ turns_played start now old new stage next line left held passes line_is reads ea
         (record { left = left; held = held; passes = passes }) old new next t
     by_turn None h = (
       stands_behind start now old new (StageStandsFor stage) (StageStandsFor next) left held passes s h.says
-          (record { reads = reads; judge = in_place _ h.placed }) h.wrote h.counted h.stands,
+          (record { reads = reads; judge = in_place _ h.placed }) h.grows h.counted h.stands,
       early_next stage next old.lines new.lines (omega (arith, reads.finds.0.last)) early h.near,
       omega (arith, reads.finds.0.last),
       omega (arith, reads.few, reads.limit),
@@ -140,10 +146,10 @@ turns_played start now old new stage next line left held passes line_is reads ea
         h.1.says h.1.wrote
     by_turn (Some status.WriteFault) (inr h) =
         cut_line start now old new (StageStandsFor stage) left held passes s h.says
-        (record { reads = reads; judge = in_place _ h.placed }) h.wrote
+        (record { reads = reads; judge = in_place _ h.placed }) h.grows
     by_turn (Some status.Memory) h =
         cut_line start now old new (StageStandsFor stage) left held passes s h.says
-        (record { reads = reads; judge = in_place _ h.placed }) h.wrote
+        (record { reads = reads; judge = in_place _ h.placed }) h.grows
     by_turn (Some _) h = absurd h
 
 -- a line that was refused for its length or its bytes
@@ -240,16 +246,18 @@ turns_ended start now old new stage left between same s reads =
 
 -- what is said is refused in its place
 pub plays_out_of_place : (number : ℕ) (says : ScriptLine) (reason : Reason) (stands : Said → List Event → Type 0)
-    (old new : Stage) (held between held' : Option (List ℕ)) (Counted : ℕ → Type 0) (answer : Status)
+    (old new : Stage) (held between held' : Option (List ℕ)) (Grows Partly : List Entry → Type 0)
+    (Counted : ℕ → Type 0) (answer : Status)
     → ((said : Said) (events : List Event) → stands said events
     → (placed said says ≡ Err reason) × Grew held between [] × Counted 0)
     → EndsWithText between held' (refusal_line (refused.Line (record { line = number; reason = reason })))
     (status.Refused (refused.Line (record { line = number; reason = reason }))) answer
     → (said : Said) (events : List Event) → stands said events
-    → Plays (placed said says) number said events old new held held' Counted (Some answer)
-plays_out_of_place number says reason stands old new held between held' Counted answer obeys ends said events s =
+    → PlaysTo (placed said says) number said events old new held held' Grows Partly Counted (Some answer)
+plays_out_of_place number says reason stands old new held between held' Grows Partly Counted answer obeys ends said
+    events s =
     let o : (placed said says ≡ Err reason) × Grew held between [] × Counted 0 = obeys said events s in
-    refused_by (placed said says) number said events old new held held' Counted reason
+    refused_by (placed said says) number said events old new held held' Grows Partly Counted reason
     (refused.Line (record { line = number; reason = reason })) o.0 refl o.2 answer
     (subst (λ (h : Option (List ℕ)).
     EndsWithText h held' (refusal_line (refused.Line (record { line = number; reason = reason })))

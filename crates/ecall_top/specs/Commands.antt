@@ -9,6 +9,7 @@ use Rattle.ecall_top.specs.declared.command.Command.TheVariants as command
 abbrev pub command_named : List ℕ → Option Command
 command_named word =
     if bytes_eq word (codes "run") then Some command.Run
+    else if bytes_eq word (codes "register") then Some command.Register
     else if bytes_eq word (codes "decode") then Some command.Decode
     else if bytes_eq word (codes "encode") then Some command.Encode
     else if bytes_eq word (codes "frames") then Some command.Frames
@@ -23,10 +24,12 @@ command_of _ = None
 -- whether a command plays a script, and so passes the ends of its calls
 abbrev pub plays : Option Command → Bool
 plays (Some command.Run) = true
+plays (Some command.Register) = true
 plays _ = false
 
 -- whether a command takes memory
 abbrev pub takes_memory : Option Command → Bool
 takes_memory (Some command.Run) = true
 takes_memory (Some command.Replay) = true
+takes_memory (Some command.Register) = true
 takes_memory _ = false

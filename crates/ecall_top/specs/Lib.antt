@@ -6,6 +6,7 @@ pub mod Frames
 pub mod Outcome
 pub mod Refusals
 pub mod Replay
+pub mod Register
 pub mod Replies
 pub mod Run
 pub mod Status

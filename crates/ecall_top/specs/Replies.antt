@@ -11,6 +11,7 @@ use Rattle.ecall_top.specs.Encode.{encode_reply}
 use Rattle.ecall_top.specs.Frames.{IsFrames}
 use Rattle.ecall_top.specs.Refusals.{Reply}
 use Rattle.ecall_top.specs.Replay.{IsReplayed}
+use Rattle.ecall_top.specs.Register.{register_reply}
 use Rattle.ecall_top.specs.Run.{run_reply, script_passes}
 
 abbrev pub usage_line : List ℕ
@@ -20,12 +21,14 @@ usage_line = codes "usage: ecall run|register|decode|encode|frames|replay|trial 
 abbrev pub Replies : Option Command → List ℕ → Reply → Type 0
 Replies None input r = r ≡ record { text = usage_line; status = status.Usage }
 Replies (Some command.Run) input r = r ≡ run_reply input
+Replies (Some command.Register) input r = r ≡ register_reply input
 Replies (Some command.Decode) input r = IsDecoded input r
 Replies (Some command.Encode) input r = r ≡ encode_reply input
 Replies (Some command.Frames) input r = IsFrames input r
 Replies (Some command.Replay) input r = IsReplayed input r
 
--- how often the ends are passed at most for a command and an input: `run` alone passes any
+-- how often the ends are passed at most for a command and an input: by playing its script
 abbrev pub passes_of : Option Command → List ℕ → ℕ
 passes_of (Some command.Run) input = script_passes (script_of input)
+passes_of (Some command.Register) input = script_passes (script_of input)
 passes_of _ input = 0

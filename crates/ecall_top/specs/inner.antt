@@ -7,6 +7,7 @@ pub mod FrameTurns
 pub mod LineTurns
 pub mod Progress
 pub mod ReplayEnds
+pub mod RegisterTurns
 pub mod RunTurns
 pub mod Stage
 pub mod Standing

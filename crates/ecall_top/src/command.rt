@@ -9,6 +9,8 @@ ghost use Rattle.ecall_top.specs.Commands.{command_of};
 pub enum Command {
     /// Play the script that the input has, and write its trace.
     Run,
+    /// Play the script that the input has, and write the register of its calls.
+    Register,
     /// Describe the sets of data that the input has, one on each line.
     Decode,
     /// Write the octets of the sets that the lines of the input ask for, each of the facts so far.
@@ -27,6 +29,8 @@ pub(crate) fn read_command(words: &[String]) -> Option<Command>
         [word] => {
             if word.as_str() == "run" {
                 Some(Command::Run)
+            } else if word.as_str() == "register" {
+                Some(Command::Register)
             } else if word.as_str() == "decode" {
                 Some(Command::Decode)
             } else if word.as_str() == "encode" {

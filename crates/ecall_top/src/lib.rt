@@ -31,6 +31,9 @@ mod reading;
 mod refusal;
 #[cfg(test)]
 mod refusal_tests;
+mod register;
+#[cfg(test)]
+mod register_tests;
 mod replay;
 #[cfg(test)]
 mod replay_tests;
@@ -60,7 +63,9 @@ const USAGE: &[u8] =
 /// and answers how that ended.
 ///
 /// `run` reads a script and writes its trace. It takes memory for the frames and sessions of the script's calls; where
-/// there is none, it answers `Memory`. `decode` reads sets of data in hexadecimal, one a line, and describes each in
+/// there is none, it answers `Memory`. `register` plays a script in the same way, and writes the register of its calls
+/// in one line of JSON once the script was read to its end, or the refusal of a line alone; it takes memory for the
+/// register, too. `decode` reads sets of data in hexadecimal, one a line, and describes each in
 /// twenty lines. `encode` reads facts of a vehicle, and lines that ask for a set; it writes the octets of the set that
 /// fits the facts so far in hexadecimal, one a line. `frames` reads a stream of frames in hexadecimal, a piece a line;
 /// it writes one line a frame, and at the end how many octets of an unfinished one are left. `replay` reads a trace and
@@ -68,8 +73,8 @@ const USAGE: &[u8] =
 /// the legs that are up, their muting, and the sets that were shown. Other words write the usage line.
 ///
 /// What is written is handed to `output` in blocks: where one is full, before each read of `input`, and at the end.
-/// After a failed read or write nothing more is read or written. `moments` counts how often `run` passes an end of a
-/// call.
+/// After a failed read or write nothing more is read or written. `moments` counts how often `run` and `register` pass
+/// an end of a call.
 pub fn ecall<I: Source, O: Sink, L: Ledger>(
     alloc: Global,
     words: &[String],
@@ -160,6 +165,7 @@ fn reply<I: Source, O: Sink, L: Ledger>(
 {
     match read_command(words) {
         Some(Command::Run) => run::run(alloc, input, output, moments),
+        Some(Command::Register) => register::register(alloc, input, output, moments),
         Some(Command::Decode) => decode::decode_sets(input, output),
         Some(Command::Encode) => encode::encode_sets(input, output),
         Some(Command::Frames) => frames::read_frames(input, output),

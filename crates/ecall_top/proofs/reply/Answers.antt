@@ -12,6 +12,12 @@ returns-in-Some-Run-clause-outcome g c =
     named (command_of (map string_bytes c.args.words.now)) (Some command.Run) _ _ c.run.result
     (sym c.read_command.ensures ∙ (c.in-Some-Run.is ∙ ap Some c.in-Some-Run.field-0-is)) c.run.ensures.outcome
 
+pub returns-in-Some-Register-clause-outcome : goal.returns-in-Some-Register-clause-outcome
+returns-in-Some-Register-clause-outcome g c =
+    named (command_of (map string_bytes c.args.words.now)) (Some command.Register) _ _ c.register.result
+    (sym c.read_command.ensures ∙ (c.in-Some-Register.is ∙ ap Some c.in-Some-Register.field-0-is))
+    c.register.ensures.outcome
+
 pub returns-in-Some-Decode-clause-outcome : goal.returns-in-Some-Decode-clause-outcome
 returns-in-Some-Decode-clause-outcome g c =
     named (command_of (map string_bytes c.args.words.now)) (Some command.Decode) _ _ c.decode_sets.result
