@@ -1,8 +1,7 @@
 -- How the command `replay` ends, by what the audit took and its verdict; and that each input has one reply of it.
-use Rattle.std.specs.Prelude.{◌≡◌, ℕ, ◌⊎◌, List, [], ◌++◌, Option, Some}
+use Rattle.std.specs.Prelude.{◌≡◌, ℕ, ◌⊎◌, List, ◌++◌, Option, Some}
 use Rattle.std.proofs.Common.{sym, ◌∙◌, ap, refl, subst, inl, inr, arith}
 use Rattle.call_io.specs.Bytes.{Took, Grew, GrewPartly}
-use Rattle.call_io.specs.Counts.{Rose}
 use Rattle.call_io.proofs.BytesLemmas.{GrewPartly-nothing}
 use Rattle.trace_text.specs.Lines.{IsWhole, lines_of}
 use Rattle.trace_audit.specs.Audit.{Audits}
@@ -17,8 +16,7 @@ use Rattle.ecall_top.specs.declared.status.Status.{Status}
 use Rattle.ecall_top.specs.declared.status.Status.TheVariants as status
 use Rattle.ecall_top.specs.Outcome.{Streams, Answered, CutShort, IsSettled, Outcome, ReadCause, RunsOver}
 use Rattle.ecall_top.specs.Refusals.{Reply}
-use Rattle.ecall_top.specs.Replay.{IsReplayed, verdict_reply, verdict_text, verdict_status}
-use Rattle.ecall_top.specs.inner.Ends.{EndsWithText}
+use Rattle.ecall_top.specs.Replay.{IsReplayed, verdict_reply, verdict_text}
 use Rattle.ecall_top.specs.inner.ReplayEnds.{EndsWithVerdict}
 
 by_verdict : (input : List ℕ) (v : Verdict) → Audits (lines_of input) v → IsReplayed input (verdict_reply v)

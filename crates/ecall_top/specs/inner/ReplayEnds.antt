@@ -5,7 +5,6 @@ use Rattle.trace_audit.specs.declared.verdict.Verdict.{Verdict}
 use Rattle.trace_audit.specs.declared.verdict.Verdict.TheVariants as verdict
 use Rattle.ecall_top.specs.Replay.{verdict_status, verdict_text}
 use Rattle.ecall_top.specs.declared.status.Status.{Status}
-use Rattle.ecall_top.specs.declared.status.Status.TheVariants as status
 use Rattle.ecall_top.specs.inner.Ends.{EndsWithText}
 
 -- the status of a verdict was answered, and nothing was written
