@@ -37,9 +37,9 @@ const BEGINNING: &str = "what was written is the beginning of an answer";
 
 /// What the commands do that are built.
 const BUILT: &str =
-    "`ecall run` plays a script, `ecall register` writes the register of its calls, `ecall decode` describes sets of data, \
-    `ecall encode` makes them, `ecall frames` reads a stream of frames and `ecall replay` audits a trace, from standard \
-    input";
+    "`ecall run` plays a script, `ecall register` writes the register of its calls, `ecall decode` describes sets of \
+    data, `ecall encode` makes them, `ecall frames` reads a stream of frames and `ecall replay` audits a trace, from \
+    standard input";
 
 /// Whether a command of this name is planned and not built yet.
 fn is_planned(word: &str) -> bool {

@@ -36,7 +36,8 @@ fn explain(rt: &impl Eprint, status: Status, word: Option<&str>) {
     }
 }
 
-/// Carries out what the words ask for. Nobody reads how often the ends of calls were passed, so that count is begun here.
+/// Carries out what the words ask for. Nobody reads how often the ends of calls were passed, so that count is begun
+/// here.
 fn carry_out<I: Source, O: Sink, L: Ledger>(
     alloc: Global,
     words: &[String],

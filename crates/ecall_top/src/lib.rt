@@ -65,12 +65,12 @@ const USAGE: &[u8] =
 /// `run` reads a script and writes its trace. It takes memory for the frames and sessions of the script's calls; where
 /// there is none, it answers `Memory`. `register` plays a script in the same way, and writes the register of its calls
 /// in one line of JSON once the script was read to its end, or the refusal of a line alone; it takes memory for the
-/// register, too. `decode` reads sets of data in hexadecimal, one a line, and describes each in
-/// twenty lines. `encode` reads facts of a vehicle, and lines that ask for a set; it writes the octets of the set that
-/// fits the facts so far in hexadecimal, one a line. `frames` reads a stream of frames in hexadecimal, a piece a line;
-/// it writes one line a frame, and at the end how many octets of an unfinished one are left. `replay` reads a trace and
-/// writes one line: that the trace is safe, or which line breaks which rule, or is refused, and why. It takes memory for
-/// the legs that are up, their muting, and the sets that were shown. Other words write the usage line.
+/// register, too. `decode` reads sets of data in hexadecimal, one a line, and describes each in twenty lines. `encode`
+/// reads facts of a vehicle, and lines that ask for a set; it writes the octets of the set that fits the facts so far in
+/// hexadecimal, one a line. `frames` reads a stream of frames in hexadecimal, a piece a line; it writes one line a frame,
+/// and at the end how many octets of an unfinished one are left. `replay` reads a trace and writes one line: that the
+/// trace is safe, or which line breaks which rule, or is refused, and why. It takes memory for the legs that are up,
+/// their muting, and the sets that were shown. Other words write the usage line.
 ///
 /// What is written is handed to `output` in blocks: where one is full, before each read of `input`, and at the end.
 /// After a failed read or write nothing more is read or written. `moments` counts how often `run` and `register` pass
