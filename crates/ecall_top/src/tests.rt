@@ -278,7 +278,7 @@ fn refuses_and_ends(rt: HostRuntime) -> Result<(), Fail> {
         ("run", "\n\n# nothing\n", Status::Done, ""),
         ("run fast", "", Status::Usage, usage),
         ("decode all", "", Status::Usage, usage),
-        ("frames", "", Status::Usage, usage),
+        ("conform", "", Status::Usage, usage),
         ("--help", "", Status::Usage, usage),
         ("", "", Status::Usage, usage),
     ];
