@@ -52,6 +52,7 @@ pub use laws::{entry_laws, safe_traces, summary_laws};
 pub use line::Line;
 pub use lines::Lines;
 pub use listener::{Deaf, Listener};
+pub use numbers::read_u32;
 pub use push::{push_number, push_word};
 pub use reason::{BadLine, Reason};
 pub use script::{ScriptLine, read_script};

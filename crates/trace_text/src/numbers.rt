@@ -62,7 +62,8 @@ pub fn read_u8(text: &[u8]) -> Option<u8>
     }
 }
 
-/// A number from 0 to 4294967295.
+/// A number from 0 to 4294967295 in decimal digits. There is none where the text is empty, has any other byte, as a sign,
+/// or a zero in front of other digits, or spells more.
 pub fn read_u32(text: &[u8]) -> Option<u32>
     ensures { result ≡ natural_below (2 ^ 32) text.now }
 {
