@@ -4,5 +4,6 @@ pub mod Drafting
 pub mod Gathering
 pub mod Kinds
 pub mod ListenerLaws
+pub mod LongLines
 pub mod NextWords
 pub mod Tallying

@@ -1,11 +1,12 @@
 //! The lines of a trace, written one at a time.
-ghost use Rattle.std.specs.Prelude.{◌≡◌, ◌+◌, ◌<◌, ◌≤◌, ◌∷◌, [], ◌++◌, length, codes, decimal, OnOk, OnErr};
+ghost use Rattle.std.specs.Prelude.{◌≡◌, ◌+◌, ◌<◌, ◌≤◌, true, false, ◌∷◌, [], ◌++◌, length, codes, decimal, OnOk, OnErr};
 ghost use Rattle.arrayvec.specs.ArrayVec.{array_vec_len};
 ghost use Rattle.call_io.specs.Bytes.{Grew, GrewPartly};
 ghost use Rattle.call_io.specs.Counts.{Rose};
 ghost use Rattle.call_io.specs.Ways.{Onward};
 ghost use Rattle.hex.specs.Hex.{encode_lower};
 ghost use Rattle.trace_text.specs.EntryLine.{end_word, why_word, timer_word, answer_word, net_word, voice_word, frame_words, note_words, spaced, line_of};
+ghost use Rattle.trace_text.specs.inner.LongLines.{carries_set, has_octets as note_has_octets};
 
 use crate::entry::Entry;
 use crate::push::{push_number, push_word};
@@ -25,6 +26,11 @@ const FIRST_WORD: usize = 9;
 /// 10 digits, each behind a space.
 const BEFORE_FRAME: usize = 44;
 
+/// The most octets of a line that has none of a set, its newline included: a `send` of an `app` with each of its numbers
+/// as long as it can be. Behind what stands in front of its frame come `app`, a request of 3 digits and `positive`, each
+/// behind a space: 44 + 4 + 4 + 9, and the newline.
+const SHORT_LINE: usize = 62;
+
 /// The octets of a set in hexadecimal, with a space in front.
 const SET: usize = 281;
 
@@ -34,12 +40,15 @@ const SET: usize = 281;
 /// its frame come `data`, a request of 3 digits, an attempt of 3 and the set: 44 + 5 + 4 + 4 + 281, and the newline.
 const LONGEST_LINE: usize = 383;
 
-/// A line that is being built. What is appended below requires that what stands so far leaves room for it, as it
-/// does behind the longest tick.
-type LineText = ArrayVec<u8, LONGEST_LINE>;
+/// A line without a set's octets that is being built. What is appended below requires that what stands so far leaves room
+/// for it, as it does behind the longest tick. Nearly all lines are short, and room is filled with zeros when it is made.
+type ShortText = ArrayVec<u8, SHORT_LINE>;
+
+/// A line with a set's octets that is being built.
+type LongText = ArrayVec<u8, LONGEST_LINE>;
 
 /// Appends the octets of a set behind a space, in hexadecimal.
-fn push_octets(line: &mut LineText, octets: &[u8; OCTETS])
+fn push_octets(line: &mut LongText, octets: &[u8; OCTETS])
     requires { array_vec_len line.old + SET ≤ LONGEST_LINE }
     ensures bytes { line.new.items ≡ line.old.items ++ 32 ∷ encode_lower octets.now }
     ensures len { array_vec_len line.new ≡ array_vec_len line.old + SET }
@@ -116,8 +125,8 @@ fn voice_name(is_open: bool) -> &'static str
 }
 
 /// Appends an item's first word with the leg that it is about.
-fn push_leg(line: &mut LineText, word: &str, end: End, call: u32)
-    requires { array_vec_len line.old + length word.now ≤ TICK + FIRST_WORD }
+fn push_leg<const N: usize>(line: &mut ArrayVec<u8, N>, word: &str, end: End, call: u32)
+    requires { array_vec_len line.old + length word.now + 20 ≤ N }
     ensures bytes { line.new.items
         ≡ line.old.items ++ spaced (word.now ∷ end_word end ∷ decimal call ∷ []) }
     ensures len { array_vec_len line.new ≤ array_vec_len line.old + length word.now + 20 }
@@ -128,8 +137,8 @@ fn push_leg(line: &mut LineText, word: &str, end: End, call: u32)
 }
 
 /// Appends an item's first word with a call's number.
-fn push_call(line: &mut LineText, word: &str, call: u32)
-    requires { array_vec_len line.old + length word.now ≤ TICK + FIRST_WORD }
+fn push_call<const N: usize>(line: &mut ArrayVec<u8, N>, word: &str, call: u32)
+    requires { array_vec_len line.old + length word.now + 12 ≤ N }
     ensures bytes { line.new.items ≡ line.old.items ++ spaced (word.now ∷ decimal call ∷ []) }
     ensures len { array_vec_len line.new ≤ array_vec_len line.old + length word.now + 12 }
 {
@@ -138,7 +147,7 @@ fn push_call(line: &mut LineText, word: &str, call: u32)
 }
 
 /// Appends an item's first word with a call's number, a request and the octets of a set.
-fn push_set(line: &mut LineText, word: &str, call: u32, request: Request, octets: &[u8; OCTETS])
+fn push_set(line: &mut LongText, word: &str, call: u32, request: Request, octets: &[u8; OCTETS])
     requires { array_vec_len line.old + length word.now ≤ TICK + FIRST_WORD }
     ensures bytes { line.new.items
         ≡ line.old.items ++ spaced (word.now ∷ decimal call ∷ decimal request ∷ encode_lower octets.now ∷ []) }
@@ -150,7 +159,7 @@ fn push_set(line: &mut LineText, word: &str, call: u32, request: Request, octets
 }
 
 /// Appends the words of an item on a set that is shown.
-fn push_shown(line: &mut LineText, call: u32, request: Request, octets: &[u8; OCTETS])
+fn push_shown(line: &mut LongText, call: u32, request: Request, octets: &[u8; OCTETS])
     requires { array_vec_len line.old ≤ TICK }
     ensures bytes { line.new.items ≡ line.old.items ++ spaced (note_words (Note.Shown call request octets.now)) }
     ensures len { array_vec_len line.new < LONGEST_LINE }
@@ -160,7 +169,7 @@ fn push_shown(line: &mut LineText, call: u32, request: Request, octets: &[u8; OC
 }
 
 /// Appends the words of a frame that carries a set.
-fn push_data(line: &mut LineText, request: Request, attempt: u8, octets: &[u8; OCTETS])
+fn push_data(line: &mut LongText, request: Request, attempt: u8, octets: &[u8; OCTETS])
     requires { array_vec_len line.old ≤ BEFORE_FRAME }
     ensures bytes { line.new.items
         ≡ line.old.items ++ spaced (codes "data" ∷ decimal request ∷ decimal attempt ∷ encode_lower octets.now ∷ []) }
@@ -172,8 +181,8 @@ fn push_data(line: &mut LineText, request: Request, attempt: u8, octets: &[u8; O
 }
 
 /// Appends a frame's first word with its request.
-fn push_request(line: &mut LineText, word: &str, request: Request)
-    requires { array_vec_len line.old + length word.now ≤ BEFORE_FRAME + FIRST_WORD }
+fn push_request<const N: usize>(line: &mut ArrayVec<u8, N>, word: &str, request: Request)
+    requires { array_vec_len line.old + length word.now + 5 ≤ N }
     ensures bytes { line.new.items ≡ line.old.items ++ spaced (word.now ∷ decimal request ∷ []) }
     ensures len { array_vec_len line.new ≤ array_vec_len line.old + length word.now + 5 }
 {
@@ -181,20 +190,17 @@ fn push_request(line: &mut LineText, word: &str, request: Request)
     push_number(line, request.number());
 }
 
-/// Appends the words of a frame.
-fn push_frame(line: &mut LineText, frame: &Frame)
-    requires { array_vec_len line.old ≤ BEFORE_FRAME }
+/// Appends the words of a frame that carries no set.
+fn push_frame(line: &mut ShortText, frame: &Frame)
+    requires short { carries_set frame.now ≡ false }
+    requires room { array_vec_len line.old ≤ BEFORE_FRAME }
     ensures bytes { line.new.items ≡ line.old.items ++ spaced (frame_words frame.now) }
-    ensures len { array_vec_len line.new < LONGEST_LINE }
+    ensures len { array_vec_len line.new < SHORT_LINE }
 {
     match frame {
         Frame::Init => push_word(line, "init"),
         Frame::Start(request) => push_request(line, "start", *request),
-        Frame::Content {
-            request,
-            attempt,
-            octets,
-        } => push_data(line, *request, *attempt, octets),
+        Frame::Content { .. } => unreachable!(),
         Frame::Nack(request) => push_request(line, "nack", *request),
         Frame::Ack(request) => push_request(line, "ack", *request),
         Frame::App { request, answer } => {
@@ -204,9 +210,26 @@ fn push_frame(line: &mut LineText, frame: &Frame)
     }
 }
 
+/// Appends the words of a frame that carries a set.
+fn push_data_frame(line: &mut LongText, frame: &Frame)
+    requires long { carries_set frame.now ≡ true }
+    requires room { array_vec_len line.old ≤ BEFORE_FRAME }
+    ensures bytes { line.new.items ≡ line.old.items ++ spaced (frame_words frame.now) }
+    ensures len { array_vec_len line.new < LONGEST_LINE }
+{
+    match frame {
+        Frame::Content {
+            request,
+            attempt,
+            octets,
+        } => push_data(line, *request, *attempt, octets),
+        _ => unreachable!(),
+    }
+}
+
 /// Appends an item's first word with an attempt to dial.
-fn push_attempt(line: &mut LineText, word: &str, attempt: DialAttempt)
-    requires { array_vec_len line.old + length word.now ≤ BEFORE_FRAME + FIRST_WORD }
+fn push_attempt(line: &mut ShortText, word: &str, attempt: DialAttempt)
+    requires { array_vec_len line.old + length word.now ≤ TICK + FIRST_WORD }
     ensures bytes { line.new.items ≡ line.old.items ++ spaced (word.now ∷ decimal attempt ∷ []) }
     ensures len { array_vec_len line.new ≤ array_vec_len line.old + length word.now + 5 }
 {
@@ -215,66 +238,80 @@ fn push_attempt(line: &mut LineText, word: &str, attempt: DialAttempt)
 }
 
 /// Appends the words of an item on the network.
-fn push_net(line: &mut LineText, up: bool)
+fn push_net(line: &mut ShortText, up: bool)
     requires { array_vec_len line.old ≤ TICK }
     ensures bytes { line.new.items ≡ line.old.items ++ spaced (codes "net" ∷ net_word up ∷ []) }
-    ensures len { array_vec_len line.new < LONGEST_LINE }
+    ensures len { array_vec_len line.new < SHORT_LINE }
 {
     push_word(line, "net");
     push_word(line, net_name(up));
 }
 
 /// Appends the words of an item on a leg that went down.
-fn push_down(line: &mut LineText, end: End, call: u32, why: Why)
+fn push_down(line: &mut ShortText, end: End, call: u32, why: Why)
     requires { array_vec_len line.old ≤ TICK }
     ensures bytes { line.new.items
         ≡ line.old.items ++ spaced (codes "down" ∷ end_word end ∷ decimal call ∷ why_word why ∷ []) }
-    ensures len { array_vec_len line.new < LONGEST_LINE }
+    ensures len { array_vec_len line.new < SHORT_LINE }
 {
     push_leg(line, "down", end, call);
     push_word(line, why_name(why));
 }
 
 /// Appends the words of an item on a timer.
-fn push_ended(line: &mut LineText, end: End, call: u32, timer: Timer)
+fn push_ended(line: &mut ShortText, end: End, call: u32, timer: Timer)
     requires { array_vec_len line.old ≤ TICK }
     ensures bytes { line.new.items
         ≡ line.old.items ++ spaced (codes "ended" ∷ end_word end ∷ decimal call ∷ timer_word timer ∷ []) }
-    ensures len { array_vec_len line.new < LONGEST_LINE }
+    ensures len { array_vec_len line.new < SHORT_LINE }
 {
     push_leg(line, "ended", end, call);
     push_word(line, timer_name(timer));
 }
 
 /// Appends the words of a voice item.
-fn push_voice(line: &mut LineText, end: End, call: u32, up: bool, down: bool)
+fn push_voice(line: &mut ShortText, end: End, call: u32, up: bool, down: bool)
     requires { array_vec_len line.old ≤ TICK }
     ensures bytes { line.new.items
         ≡ line.old.items ++ spaced
         (codes "voice" ∷ end_word end ∷ decimal call ∷ voice_word up ∷ voice_word down ∷ []) }
-    ensures len { array_vec_len line.new < LONGEST_LINE }
+    ensures len { array_vec_len line.new < SHORT_LINE }
 {
     push_leg(line, "voice", end, call);
     push_word(line, voice_name(up));
     push_word(line, voice_name(down));
 }
 
-/// Appends the words of a send item.
-fn push_send(line: &mut LineText, end: End, call: u32, frame: &Frame)
-    requires { array_vec_len line.old ≤ TICK }
+/// Appends the words of a send item whose frame carries no set.
+fn push_send(line: &mut ShortText, end: End, call: u32, frame: &Frame)
+    requires short { carries_set frame.now ≡ false }
+    requires room { array_vec_len line.old ≤ TICK }
     ensures bytes { line.new.items
         ≡ line.old.items ++ spaced (codes "send" ∷ end_word end ∷ decimal call ∷ frame_words frame.now) }
-    ensures len { array_vec_len line.new < LONGEST_LINE }
+    ensures len { array_vec_len line.new < SHORT_LINE }
 {
     push_leg(line, "send", end, call);
     push_frame(line, frame);
 }
 
-/// Appends the words of an item.
-fn push_note(line: &mut LineText, note: &Note)
-    requires { array_vec_len line.old ≤ TICK }
-    ensures bytes { line.new.items ≡ line.old.items ++ spaced (note_words note.now) }
+/// Appends the words of a send item whose frame carries a set.
+fn push_data_send(line: &mut LongText, end: End, call: u32, frame: &Frame)
+    requires long { carries_set frame.now ≡ true }
+    requires room { array_vec_len line.old ≤ TICK }
+    ensures bytes { line.new.items
+        ≡ line.old.items ++ spaced (codes "send" ∷ end_word end ∷ decimal call ∷ frame_words frame.now) }
     ensures len { array_vec_len line.new < LONGEST_LINE }
+{
+    push_leg(line, "send", end, call);
+    push_data_frame(line, frame);
+}
+
+/// Appends the words of an item that has no octets of a set.
+fn push_short_note(line: &mut ShortText, note: &Note)
+    requires short { note_has_octets note.now ≡ false }
+    requires room { array_vec_len line.old ≤ TICK }
+    ensures bytes { line.new.items ≡ line.old.items ++ spaced (note_words note.now) }
+    ensures len { array_vec_len line.new < SHORT_LINE }
 {
     match note {
         Note::Dial(attempt) => push_attempt(line, "dial", *attempt),
@@ -296,6 +333,25 @@ fn push_note(line: &mut LineText, note: &Note)
             down,
         } => push_voice(line, *end, *call, *up, *down),
         Note::Send { end, call, frame } => push_send(line, *end, *call, frame),
+        Note::Shown { .. } => unreachable!(),
+        Note::Acked { .. } => unreachable!(),
+        Note::Ended { end, call, timer } => push_ended(line, *end, *call, *timer),
+        Note::Fault { end, call } => push_leg(line, "fault", *end, *call),
+        Note::Busy(call) => push_call(line, "busy", *call),
+        Note::Spent(call) => push_call(line, "spent", *call),
+        Note::Unshown(call) => push_call(line, "unshown", *call),
+    }
+}
+
+/// Appends the words of an item that has the octets of a set.
+fn push_long_note(line: &mut LongText, note: &Note)
+    requires long { note_has_octets note.now ≡ true }
+    requires room { array_vec_len line.old ≤ TICK }
+    ensures bytes { line.new.items ≡ line.old.items ++ spaced (note_words note.now) }
+    ensures len { array_vec_len line.new < LONGEST_LINE }
+{
+    match note {
+        Note::Send { end, call, frame } => push_data_send(line, *end, *call, frame),
         Note::Shown {
             call,
             request,
@@ -306,25 +362,64 @@ fn push_note(line: &mut LineText, note: &Note)
             request,
             octets,
         } => push_set(line, "acked", *call, *request, octets),
-        Note::Ended { end, call, timer } => push_ended(line, *end, *call, *timer),
-        Note::Fault { end, call } => push_leg(line, "fault", *end, *call),
-        Note::Busy(call) => push_call(line, "busy", *call),
-        Note::Spent(call) => push_call(line, "spent", *call),
-        Note::Unshown(call) => push_call(line, "unshown", *call),
+        _ => unreachable!(),
     }
 }
 
-/// The line of an entry.
-fn entry_line(entry: &Entry) -> LineText
-    ensures { result.items ≡ line_of entry.now }
+/// Whether an item has the octets of a set.
+fn has_octets(note: &Note) -> bool
+    ensures { result ≡ note_has_octets note.now }
+{
+    match note {
+        Note::Send { frame, .. } => is_data(frame),
+        Note::Shown { .. } => true,
+        Note::Acked { .. } => true,
+        _ => false,
+    }
+}
+
+/// Whether a frame carries a set.
+fn is_data(frame: &Frame) -> bool
+    ensures { result ≡ carries_set frame.now }
+{
+    match frame {
+        Frame::Content { .. } => true,
+        _ => false,
+    }
+}
+
+/// Appends the tick of an entry, with which its line begins.
+fn push_tick<const N: usize>(line: &mut ArrayVec<u8, N>, tick: u64)
+    requires empty { line.old.items ≡ [] }
+    requires room { TICK ≤ N }
+    ensures bytes { line.new.items ≡ decimal tick }
+    ensures len { array_vec_len line.new ≤ TICK }
 {
     let mut digits = Buffer::new();
-    let mut line = ArrayVec::new();
-    line.try_extend_from_slice(digits.format(entry.tick).as_bytes())
+    line.try_extend_from_slice(digits.format(tick).as_bytes())
         .unwrap();
-    push_note(&mut line, &entry.note);
+}
+
+/// Builds the line of an entry whose item has no octets of a set.
+fn short_line(line: &mut ShortText, entry: &Entry)
+    requires empty { line.old.items ≡ [] }
+    requires short { note_has_octets entry.now.note ≡ false }
+    ensures { line.new.items ≡ line_of entry.now }
+{
+    push_tick(line, entry.tick);
+    push_short_note(line, &entry.note);
     line.push(b'\n');
-    line
+}
+
+/// Builds the line of an entry whose item has the octets of a set.
+fn long_line(line: &mut LongText, entry: &Entry)
+    requires empty { line.old.items ≡ [] }
+    requires long { note_has_octets entry.now.note ≡ true }
+    ensures { line.new.items ≡ line_of entry.now }
+{
+    push_tick(line, entry.tick);
+    push_long_note(line, &entry.note);
+    line.push(b'\n');
 }
 
 /// Writes the line of an entry. After a failure a front of it was written.
@@ -336,7 +431,15 @@ pub fn write_entry<O: Sink>(entry: &Entry, out: &mut O) -> Result<(), Failed>
     ensures counted { O.faults out.old ≤ O.faults out.new }
     ensures onward { Onward (O.way out.old) (O.way out.new) }
 {
-    write_all(out, &entry_line(entry))
+    if has_octets(&entry.note) {
+        let mut line = LongText::new();
+        long_line(&mut line, entry);
+        write_all(out, &line)
+    } else {
+        let mut line = ShortText::new();
+        short_line(&mut line, entry);
+        write_all(out, &line)
+    }
 }
 
 #[cfg(test)]
