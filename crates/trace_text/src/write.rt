@@ -1,10 +1,11 @@
 //! The lines of a trace, written one at a time.
-ghost use Rattle.std.specs.Prelude.{◌≡◌, ◌+◌, ◌<◌, ◌≤◌, true, false, ◌∷◌, [], ◌++◌, length, codes, decimal, OnOk, OnErr};
+ghost use Rattle.std.specs.Prelude.{◌≡◌, ◌+◌, ◌<◌, ◌≤◌, true, false, ◌∷◌, [], ◌++◌, length, take, codes, decimal, OnOk, OnErr};
 ghost use Rattle.arrayvec.specs.ArrayVec.{array_vec_len};
 ghost use Rattle.call_io.specs.Bytes.{Grew, GrewPartly};
 ghost use Rattle.call_io.specs.Counts.{Rose};
 ghost use Rattle.call_io.specs.Ways.{Onward};
 ghost use Rattle.hex.specs.Hex.{encode_lower};
+ghost use Rattle.trace_text.specs.Characters.{space};
 ghost use Rattle.trace_text.specs.EntryLine.{end_word, why_word, timer_word, answer_word, net_word, voice_word, frame_words, note_words, spaced, line_of};
 ghost use Rattle.trace_text.specs.inner.LongLines.{carries_set, has_octets as note_has_octets};
 
@@ -53,19 +54,29 @@ fn push_octets(line: &mut LongText, octets: &[u8; OCTETS])
     ensures bytes { line.new.items ≡ line.old.items ++ 32 ∷ encode_lower octets.now }
     ensures len { array_vec_len line.new ≡ array_vec_len line.old + SET }
 {
-    let mut digits = [0; 280];
-    hex::encode_to_slice(octets.as_slice(), &mut digits).unwrap();
     line.push(b' ');
-    line.try_extend_from_slice(&digits).unwrap();
+    let start = line.len();
+    line.try_extend_from_slice(&[b'0'; SET - 1]).unwrap();
+    encode_behind(line.as_mut_slice(), start, octets);
 }
 
-fn end_name(end: End) -> &'static str
-    ensures word { result.now ≡ end_word end }
-    ensures short { length result.now ≤ 7 }
+/// Puts the octets of a set in hexadecimal in place of what stands behind a front.
+fn encode_behind(text: &mut [u8], start: usize, octets: &[u8; OCTETS])
+    requires { start + 280 ≡ length text.old }
+    ensures { text.new ≡ take start text.old ++ encode_lower octets.now }
+{
+    hex::encode_to_slice(octets.as_slice(), &mut text[start..]).unwrap();
+}
+
+/// Appends the name of an end. Each name is known where it is copied, which a text that a match gives is not.
+fn push_end<const N: usize>(line: &mut ArrayVec<u8, N>, end: End)
+    requires { array_vec_len line.old + 7 < N }
+    ensures bytes { line.new.items ≡ line.old.items ++ space ∷ end_word end }
+    ensures len { array_vec_len line.new ≤ array_vec_len line.old + 8 }
 {
     match end {
-        End::Vehicle => "vehicle",
-        End::Point => "point",
+        End::Vehicle => push_word(line, "vehicle"),
+        End::Point => push_word(line, "point"),
     }
 }
 
@@ -117,11 +128,17 @@ fn net_name(up: bool) -> &'static str
     if up { "up" } else { "down" }
 }
 
-fn voice_name(is_open: bool) -> &'static str
-    ensures word { result.now ≡ voice_word is_open }
-    ensures short { length result.now ≤ 5 }
+/// Appends the state of a voice in one direction.
+fn push_open(line: &mut ShortText, is_open: bool)
+    requires { array_vec_len line.old + 5 < SHORT_LINE }
+    ensures bytes { line.new.items ≡ line.old.items ++ space ∷ voice_word is_open }
+    ensures len { array_vec_len line.new ≤ array_vec_len line.old + 6 }
 {
-    if is_open { "open" } else { "muted" }
+    if is_open {
+        push_word(line, "open");
+    } else {
+        push_word(line, "muted");
+    }
 }
 
 /// Appends an item's first word with the leg that it is about.
@@ -132,7 +149,7 @@ fn push_leg<const N: usize>(line: &mut ArrayVec<u8, N>, word: &str, end: End, ca
     ensures len { array_vec_len line.new ≤ array_vec_len line.old + length word.now + 20 }
 {
     push_word(line, word);
-    push_word(line, end_name(end));
+    push_end(line, end);
     push_number(line, call);
 }
 
@@ -278,8 +295,8 @@ fn push_voice(line: &mut ShortText, end: End, call: u32, up: bool, down: bool)
     ensures len { array_vec_len line.new < SHORT_LINE }
 {
     push_leg(line, "voice", end, call);
-    push_word(line, voice_name(up));
-    push_word(line, voice_name(down));
+    push_open(line, up);
+    push_open(line, down);
 }
 
 /// Appends the words of a send item whose frame carries no set.
