@@ -36,3 +36,10 @@ high_part n t (x ∷ fs) (suc i) d h inside high = high_part x.tick t fs i d h.1
 pub drop_ticks : (fs : List SmallSent) → drop (length fs) (ticks fs) ≡ []
 drop_ticks [] = refl
 drop_ticks (x ∷ fs) = drop_ticks fs
+
+-- behind the last there is none
+pub past_part : (t : ℕ) (fs : List SmallSent) (i : ℕ) → length fs ≤ i → AllByRecursion (λ x. t ≤ x) (drop i (ticks fs))
+past_part t [] zero past = tt
+past_part t [] (suc i) past = tt
+past_part t (x ∷ fs) zero past = absurd (omega arith)
+past_part t (x ∷ fs) (suc i) past = past_part t fs i (omega arith)

@@ -435,18 +435,20 @@ fn add_frame(due: &mut Vec<Due>, number: u32, frame: Option<Frame>) -> Result<()
     Ok(())
 }
 
-/// Adds the frames of a call that were sent at this tick.
+/// Adds the frames of a call that were sent at this tick. `near` becomes the place where they begin.
 pub(crate) fn add_due(
     due: &mut Vec<Due>,
     number: u32,
     sends: &Sends,
     tick: u64,
+    near: &mut usize,
 ) -> Result<(), AllocError>
     ensures { (delay : ℕ) → AreFrom 0 (ticks_of sends.now) → OnOk result
         (map due_of due.new.items ≡ map due_of due.old.items ++ model.due_frames number delay
         (tick + delay) sends.now) }
 {
-    let first = sends.first_from(tick);
+    let first = sends.first_from(tick, *near);
+    *near = first;
     for k in first..sends.len() {
         if sends.tick(k) != Some(tick) {
             return Ok(());
@@ -457,13 +459,19 @@ pub(crate) fn add_due(
 }
 
 /// Adds the frames of these calls that were sent up, or down, at this tick.
-fn add_all_due(due: &mut Vec<Due>, calls: &[Call], up: bool, tick: u64) -> Result<(), AllocError>
+fn add_all_due(
+    due: &mut Vec<Due>,
+    calls: &[Call],
+    up: bool,
+    tick: u64,
+    near: &mut usize,
+) -> Result<(), AllocError>
     ensures { (d floor now : ℕ) (clock : ℕ → ℕ) (ks : List model.Call) → CallsLag floor clock calls.now ks →
         AllByRecursion (CallInTime now) ks → OnOk result
         (map due_of due.new.items ≡ map due_of due.old.items ++ model.due_in (sent_way up) (suc d) (tick + suc d) ks) }
 {
     for call in calls {
-        add_due(due, call.number, call.sends(up), tick)?;
+        add_due(due, call.number, call.sends(up), tick, near)?;
     }
     Ok(())
 }
@@ -475,6 +483,7 @@ pub(crate) fn all_due(
     flow: u32,
     now: u64,
     due: &mut Vec<Due>,
+    near: &mut usize,
 ) -> Result<(), AllocError>
     ensures { (floor : ℕ) (clock : ℕ → ℕ) (ks : List model.Call) → CallsLag floor clock calls.now ks →
         AllByRecursion (CallInTime now) ks →
@@ -485,7 +494,7 @@ pub(crate) fn all_due(
     if flow == 0 || now < delay {
         return Ok(());
     }
-    add_all_due(due, calls, up, now - delay)?;
+    add_all_due(due, calls, up, now - delay, near)?;
     Ok(())
 }
 

@@ -13,12 +13,20 @@ pub(crate) struct Given {
     pub(crate) other: Items,
 }
 
+/// Where among the frames sent up, and down, those began that were handed over last: the next ones are near.
+#[derive(Drop)]
+pub(crate) struct Near {
+    pub(crate) up: usize,
+    pub(crate) down: usize,
+}
+
 /// The room of a world: for what ends give, for the numbers of calls, and for frames that are due.
 #[derive(Drop)]
 pub(crate) struct Room {
     pub(crate) given: Given,
     pub(crate) numbers: Vec<u32>,
     pub(crate) due: Vec<Due>,
+    pub(crate) near: Near,
 }
 
 impl Room {
@@ -31,6 +39,7 @@ impl Room {
             },
             numbers: Vec::new(alloc),
             due: Vec::new(alloc),
+            near: Near { up: 0, down: 0 },
         }
     }
 }

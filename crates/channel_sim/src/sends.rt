@@ -1,6 +1,7 @@
 //! The frames sent in one direction of a call, kept small.
 
-ghost use Rattle.std.specs.Prelude.{◌≡◌, ◌≤◌, ◌<◌, ◌++◌, ◌∷◌, ◌-◌, ℕ, List, [], true, OnOk, IfOk, length, map, get_or, slice_get};
+ghost use Rattle.std.specs.Prelude.{◌≡◌, ◌≤◌, ◌<◌, ◌+◌, ◌++◌, ◌∷◌, ◌-◌, ℕ, List, [], true, false, OnOk, IfOk, length, map, get_or, slice_get, take, drop};
+ghost use Rattle.std.specs.List.{AllByRecursion};
 ghost use Rattle.std.specs.Option.{option_map};
 ghost use Rattle.channel_sim.specs.inner.Sends.{full, HasSet, IsFirstFrom};
 ghost use Rattle.channel_sim.specs.Tidy.{ticks_of, AreFrom};
@@ -103,12 +104,12 @@ impl Sends {
         Ok(())
     }
 
-    /// The place of the first frame that was sent at this tick or later.
-    pub(crate) fn first_from(&self, tick: u64) -> usize
+    /// The place of the first frame that was sent at this tick or later, found the sooner the less it is behind `near`.
+    pub(crate) fn first_from(&self, tick: u64, near: usize) -> usize
         ensures within { result ≤ length self.now }
         ensures first { AreFrom 0 (ticks_of self.now) → IsFirstFrom tick result (ticks_of self.now) }
     {
-        first_place(&self.frames, tick)
+        first_place(&self.frames, tick, near)
     }
 }
 
@@ -193,13 +194,78 @@ fn set_place(sets: &mut Vec<[u8; OCTETS]>, octets: &[u8; OCTETS]) -> Result<usiz
     Ok(count)
 }
 
+/// Whether there is a frame at this place, and it was sent earlier than at this tick.
+fn is_earlier(frames: &[SmallSent], place: usize, tick: u64) -> bool
+    ensures within { result ≡ true → place < length frames.now }
+    ensures front { result ≡ true → AreFrom 0 (map (λ s. s.tick) frames.now) →
+        AllByRecursion (λ t. t < tick) (take (place + 1) (map (λ s. s.tick) frames.now)) }
+    ensures behind { result ≡ false → AreFrom 0 (map (λ s. s.tick) frames.now) →
+        AllByRecursion (λ t. tick ≤ t) (drop place (map (λ s. s.tick) frames.now)) }
+{
+    if place >= frames.len() {
+        return false;
+    }
+    frames[place].tick < tick
+}
+
+/// A place in front of which all were sent earlier than at this tick: the end, or `near`, or else the start.
+fn begin_at(frames: &[SmallSent], tick: u64, near: usize) -> usize
+    ensures within { result ≤ length frames.now }
+    ensures front { AreFrom 0 (map (λ s. s.tick) frames.now) →
+        AllByRecursion (λ t. t < tick) (take result (map (λ s. s.tick) frames.now)) }
+{
+    let count = frames.len();
+    if count == 0 {
+        return 0;
+    }
+    if is_earlier(frames, count - 1, tick) {
+        return count;
+    }
+    if near == 0 {
+        return 0;
+    }
+    if is_earlier(frames, near - 1, tick) {
+        return near;
+    }
+    0
+}
+
+/// The places between which the first of those sent at a tick or later is, or the one behind all.
+#[derive(Drop)]
+struct Part {
+    low: usize,
+    high: usize,
+}
+
+/// The part of these in which the first is that was sent at this tick or later, by steps that double.
+fn part_from(frames: &[SmallSent], tick: u64, near: usize) -> Part
+    ensures order { result.low ≤ result.high }
+    ensures within { result.high ≤ length frames.now }
+    ensures front { AreFrom 0 (map (λ s. s.tick) frames.now) →
+        AllByRecursion (λ t. t < tick) (take result.low (map (λ s. s.tick) frames.now)) }
+    ensures behind { AreFrom 0 (map (λ s. s.tick) frames.now) →
+        AllByRecursion (λ t. tick ≤ t) (drop result.high (map (λ s. s.tick) frames.now)) }
+{
+    let mut low = begin_at(frames, tick, near);
+    let mut step = 0;
+    while is_earlier(frames, low + step, tick) {
+        low += step + 1;
+        step += step + 1;
+    }
+    Part {
+        low,
+        high: frames.len().min(low + step),
+    }
+}
+
 /// The place of the first of these that was sent at this tick or later.
-fn first_place(frames: &[SmallSent], tick: u64) -> usize
+fn first_place(frames: &[SmallSent], tick: u64, near: usize) -> usize
     ensures within { result ≤ length frames.now }
     ensures first { AreFrom 0 (map (λ s. s.tick) frames.now) → IsFirstFrom tick result (map (λ s. s.tick) frames.now) }
 {
-    let mut low = 0;
-    let mut high = frames.len();
+    let part = part_from(frames, tick, near);
+    let mut low = part.low;
+    let mut high = part.high;
     while low < high {
         let middle = low + (high - low) / 2;
         if frames[middle].tick < tick {

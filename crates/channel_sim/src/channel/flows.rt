@@ -20,19 +20,19 @@ impl Channel {
     ghost use Rattle.channel_sim.specs.inner.Passes.{passes_of};
 
     /// The frames that the flow up hands over at this tick, in place of what stood there.
-    fn due_up(&self, due: &mut Vec<Due>) -> Result<(), AllocError>
+    fn due_up(&self, due: &mut Vec<Due>, near: &mut usize) -> Result<(), AllocError>
         ensures { (ahead floor : ℕ) (w : model.World) → StandsAt ahead floor (λ c. ahead) self.now w → OnOk result
             (map due_of due.new.items ≡ model.due_in (λ k. k.up) w.up_flow w.tick w.calls) }
     {
-        all_due(&self.calls, true, self.up_flow, self.tick, due)
+        all_due(&self.calls, true, self.up_flow, self.tick, due, near)
     }
 
     /// The frames that the flow down hands over at this tick, in place of what stood there.
-    fn due_down(&self, due: &mut Vec<Due>) -> Result<(), AllocError>
+    fn due_down(&self, due: &mut Vec<Due>, near: &mut usize) -> Result<(), AllocError>
         ensures { (ahead floor : ℕ) (w : model.World) → StandsAt ahead floor (λ c. ahead) self.now w → OnOk result
             (map due_of due.new.items ≡ model.due_in (λ k. k.down) w.down_flow w.tick w.calls) }
     {
-        all_due(&self.calls, false, self.down_flow, self.tick, due)
+        all_due(&self.calls, false, self.down_flow, self.tick, due, near)
     }
 
     /// Hands a frame to the point's session of a call, if it is there.
@@ -142,7 +142,7 @@ impl Channel {
             ahead ≡ self.old.tick →
             self.old.tick < floor + 2 ^ 32 → OnOk result (moments.new ≤ moments.old + passes_of (model.flows_up w)) }
     {
-        self.due_up(&mut room.due)?;
+        self.due_up(&mut room.due, &mut room.near.up)?;
         self.each_up(alloc, &room.due, &mut room.given, to, moments)
     }
 
@@ -194,7 +194,7 @@ impl Channel {
             ahead ≡ self.old.tick →
             self.old.tick < floor + 2 ^ 32 → OnOk result (moments.new ≤ moments.old + passes_of (model.flows_down w)) }
     {
-        self.due_down(&mut room.due)?;
+        self.due_down(&mut room.due, &mut room.near.down)?;
         self.each_down(alloc, &room.due, &mut room.given, to, moments)
     }
 

@@ -10,7 +10,7 @@ ghost use Rattle.channel_sim.specs.inner.Lag.{VehicleLags};
 use super::Channel;
 use crate::calls::{Call, act_session, catch_each_up, list_numbers, ticks_at_once};
 use crate::fault::SimFault;
-use crate::room::{Given, Room};
+use crate::room::{Given, Near, Room};
 use crate::sends::Sends;
 use ivs_machine::Ivs;
 use link_frames::{Items, Steps};
@@ -30,7 +30,7 @@ fn acts_at(passed: u64, due: Option<u32>, end: u64) -> u64
 }
 
 /// The tick behind `now` at which a flow hands the next of these frames over; at most `end`.
-fn hands_at(sends: &Sends, flow: u32, now: u64, end: u64) -> u64
+fn hands_at(sends: &Sends, near: usize, flow: u32, now: u64, end: u64) -> u64
     ensures most { result ≤ end }
     ensures quiet { (n : ℕ) → AreFrom 0 (ticks_of sends.now) → now + n < result → FramesRest n flow now sends.now }
 {
@@ -38,7 +38,7 @@ fn hands_at(sends: &Sends, flow: u32, now: u64, end: u64) -> u64
         return end;
     }
     let delay = u64::from(flow);
-    let place = sends.first_from(now.saturating_add(1).saturating_sub(delay));
+    let place = sends.first_from(now.saturating_add(1).saturating_sub(delay), near);
     match sends.tick(place) {
         Some(tick) => tick.saturating_add(delay).min(end),
         None => end,
@@ -111,7 +111,7 @@ impl Channel {
     }
 
     /// The tick at which something happens in a call; at most `end`.
-    fn call_moment(&self, call: &Call, end: u64) -> u64
+    fn call_moment(&self, call: &Call, near: &Near, end: u64) -> u64
         ensures most { result ≤ end }
         ensures quiet { (floor n : ℕ) (k : model.Call) → CallLags floor self.now.tick call.now k →
             CallInTime self.now.tick k →
@@ -122,19 +122,19 @@ impl Channel {
             None => None,
         };
         let acts = acts_at(call.passed, due, end);
-        let up = hands_at(&call.up, self.up_flow, self.tick, acts);
-        hands_at(&call.down, self.down_flow, self.tick, up)
+        let up = hands_at(&call.up, near.up, self.up_flow, self.tick, acts);
+        hands_at(&call.down, near.down, self.down_flow, self.tick, up)
     }
 
     /// The next tick at which something happens; at most `end`.
-    fn next_moment(&self, end: u64) -> u64
+    fn next_moment(&self, near: &Near, end: u64) -> u64
         ensures most { result ≤ end }
         ensures quiet { (floor n : ℕ) (w : model.World) → StandsAt self.now.tick floor (λ c. self.now.tick) self.now w →
             self.now.tick + n < result → QuietFor n w }
     {
         let mut next = acts_at(self.passed, self.vehicle.due(), end);
         for call in &self.calls {
-            next = self.call_moment(call, next);
+            next = self.call_moment(call, near, next);
         }
         next
     }
@@ -339,7 +339,7 @@ impl Channel {
     {
         let end = self.tick + u64::from(n);
         while self.tick < end {
-            let next = self.next_moment(end).max(self.tick + 1);
+            let next = self.next_moment(&room.near, end).max(self.tick + 1);
             self.moment(alloc, next, room, to, moments)?;
         }
         self.catch_all_up(moments);
