@@ -81,6 +81,29 @@ pub(crate) fn find(calls: &[Call], number: u32) -> Option<usize>
     ensures place { AreAbove 0 (map (λ k. k.number) calls.now) →
         result ≡ place_of number (map (λ k. k.number) calls.now) }
 {
+    let place = likely_place(calls, number);
+    if place < calls.len() {
+        if calls[place].number == number {
+            return Some(place);
+        }
+    }
+    bisect(calls, number)
+}
+
+/// Where the call of a number is if it is there, and no number is missing between the first and it.
+fn likely_place(calls: &[Call], number: u32) -> usize {
+    match calls.first() {
+        Some(first) => number.saturating_sub(first.number) as usize,
+        None => 0,
+    }
+}
+
+/// The index of the call of a number, if it is there, wherever that is.
+fn bisect(calls: &[Call], number: u32) -> Option<usize>
+    ensures within { IfSome result (λ i. i < length calls.now) }
+    ensures place { AreAbove 0 (map (λ k. k.number) calls.now) →
+        result ≡ place_of number (map (λ k. k.number) calls.now) }
+{
     let mut low = 0;
     let mut high = calls.len();
     while low < high {

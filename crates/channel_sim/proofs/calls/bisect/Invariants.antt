@@ -2,7 +2,7 @@ use Rattle.std.proofs.Common.{◌<◌, ◌≤◌, ◌-◌, length, take, drop}
 use Rattle.std.specs.List.{AllByRecursion}
 use Rattle.channel_sim.specs.Tidy.{AreAbove}
 use Rattle.channel_sim.proofs.PlaceLemmas.{numbers}
-use Rattle.channel_sim.proofs.calls.find.Given as goal
+use Rattle.channel_sim.proofs.calls.bisect.Given as goal
 
 -- what lies in front of the part that is left has lower numbers, and what lies behind it has greater ones
 abbrev pub invariant-loop-low : goal.invariant-loop-low
