@@ -11,6 +11,7 @@ mod SetsRead
 mod EncodeRead
 mod EncodeSaid
 mod ScriptRead
+mod MadeText
 mod TextSoFar
 mod Passes
 mod Safely

@@ -3,6 +3,7 @@ pub mod CutTraces
 pub mod Decode
 pub mod Encode
 pub mod Frames
+pub mod Make
 pub mod Outcome
 pub mod Refusals
 pub mod Replay

@@ -5,6 +5,7 @@ pub mod EncodeTurns
 pub mod Ends
 pub mod FrameTurns
 pub mod LineTurns
+pub mod Made
 pub mod Progress
 pub mod ReplayEnds
 pub mod RegisterTurns

@@ -27,6 +27,7 @@ mod frames;
 #[cfg(test)]
 mod frames_tests;
 mod laws;
+mod make;
 mod reading;
 mod refusal;
 #[cfg(test)]
