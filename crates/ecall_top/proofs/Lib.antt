@@ -12,12 +12,14 @@ mod EncodeRead
 mod EncodeSaid
 mod ScriptRead
 mod MadeText
+mod MadeScript
 mod TextSoFar
 mod Passes
 mod Safely
 mod SafelyCut
 mod Endings
 mod Staged
+mod Trialled
 mod Turned
 mod Registered
 mod Worded

@@ -17,7 +17,7 @@ use Rattle.ecall_top.specs.Run.{most_passes, script_passes}
 use Rattle.ecall_top.specs.inner.Progress.{event_of, passes_by, passes_in, world_left}
 
 -- the bounds of events one behind the other are added
-bound_from-append : (w : World) → (es fs : List Event)
+pub bound_from-append : (w : World) → (es fs : List Event)
     → bound_from w (es ++ fs) ≡ bound_from w es + bound_from (world_after w es) fs
 bound_from-append w [] fs = sym (zero-add (bound_from w fs))
 bound_from-append w (e ∷ es) fs =

@@ -22,7 +22,7 @@ use Rattle.ecall_top.specs.inner.Progress.{entries_in, passes_in, world_left}
 use Rattle.ecall_top.specs.inner.Stage.{StandsBy, StageStandsFor, StandsIn, Obeys, PlaysEvent, calls_by, calls_in, ticks_by, ticks_in}
 
 -- the world behind one more event
-world_after-push : (w : model.World) → (es : List Event) (e : Event)
+pub world_after-push : (w : model.World) → (es : List Event) (e : Event)
     → world_after w (es ++ e ∷ []) ≡ (step (world_after w es) e).world
 world_after-push w [] e = refl
 world_after-push w (x ∷ es) e = world_after-push (step w x).world es e

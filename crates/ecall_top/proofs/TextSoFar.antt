@@ -25,7 +25,7 @@ use Rattle.ecall_top.specs.inner.Standing.{IsTidy}
 use Rattle.ecall_top.proofs.ScriptRead.{facts_kept}
 
 -- events one behind the other are traced one behind the other
-trace_from-append : (w : World) → (es fs : List Event)
+pub trace_from-append : (w : World) → (es fs : List Event)
     → trace_from w (es ++ fs) ≡ trace_from w es ++ trace_from (world_after w es) fs
 trace_from-append w [] fs = refl
 trace_from-append w (e ∷ es) fs =

@@ -11,4 +11,5 @@ pub mod Register
 pub mod Replies
 pub mod Run
 pub mod Status
+pub mod Trial
 pub mod inner

@@ -13,3 +13,5 @@ pub mod RunTurns
 pub mod Stage
 pub mod Standing
 pub mod Taken
+pub mod TrialEnds
+pub mod Trialled

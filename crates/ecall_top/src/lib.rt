@@ -45,6 +45,7 @@ mod status;
 mod tests;
 #[cfg(test)]
 mod time_tests;
+mod trial;
 
 use crate::command::read_command;
 use call_io::{Block, Sink, Source, write_all};

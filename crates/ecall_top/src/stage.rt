@@ -137,7 +137,7 @@ impl Stage {
 }
 
 /// Plays an event in a world.
-fn play<H: Listener, L: Ledger>(
+pub(crate) fn play<H: Listener, L: Ledger>(
     world: &mut World,
     alloc: Global,
     event: &Event,
