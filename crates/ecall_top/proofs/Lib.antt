@@ -1,4 +1,7 @@
 mod Sets
+mod Shortest
+mod ConformTold
+mod Conformed
 mod FrameStreams
 mod FramesTold
 mod FramesTaken

@@ -1,4 +1,5 @@
 pub mod Commands
+pub mod Conform
 pub mod CutTraces
 pub mod Decode
 pub mod Encode

@@ -1,5 +1,6 @@
 -- Definitions that only contracts of private functions cite: how a command stands between two lines, and what one more
 -- line makes of it. No public contract rests on them.
+pub mod ConformLines
 pub mod DecodeTurns
 pub mod EncodeTurns
 pub mod Ends

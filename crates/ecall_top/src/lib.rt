@@ -17,6 +17,9 @@ ghost use Rattle.ecall_top.specs.inner.Ends.{EndsWithText, HandsOver};
 #[cfg(test)]
 mod block_tests;
 mod command;
+mod conform;
+#[cfg(test)]
+mod conform_tests;
 mod decode;
 #[cfg(test)]
 mod decode_tests;
