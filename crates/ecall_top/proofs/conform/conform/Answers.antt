@@ -1,4 +1,4 @@
-use Rattle.std.proofs.Common.{refl, inl, inr}
+use Rattle.std.proofs.Common.{rules, refl, inl, inr}
 use Rattle.hex.proofs.OnLiterals.{hex_on_literals}
 use Rattle.ecall_top.specs.Conform.{vector_texts}
 use Rattle.ecall_top.specs.inner.ConformLines.{lines_from}
@@ -8,8 +8,7 @@ use Rattle.ecall_top.proofs.conform.conform.Goals as goal
 -- each vector is hexadecimal
 pub write_lines-requires-clause-hex : goal.write_lines-requires-clause-hex
 unfolding hex_on_literals
-write_lines-requires-clause-hex g c =
-    (refl, (refl, (refl, (refl, (refl, (refl, (refl, (refl, (refl, (refl, (refl, (refl, (refl, (refl, (refl, (refl, tt))))))))))))))))
+write_lines-requires-clause-hex g c = search rules
 
 pub returns-in-Ok-clause-ends : goal.returns-in-Ok-clause-ends
 unfolding vector_texts

@@ -11,8 +11,8 @@ pub returns : goal.returns
 unfolding vector_line
 returns c =
     let octets =
-    text_octets c.args.text.now c.decode_to_slice.new.out _ c.decode_to_slice.result c.requires.hex c.requires.short refl
-    c.decode_to_slice.ensures.value in
+    text_octets c.args.text.now c.decode_to_slice.new.out _ c.decode_to_slice.result c.requires.hex c.requires.short
+    refl c.decode_to_slice.ensures.value in
     let number : c.try_extend_from_slice.new.self.items ≡ decimal c.args.number = search rules in
     c.push.ensures.items
     ∙ ap (λ (l : List ℕ). l ++ newline ∷ [])
