@@ -16,7 +16,7 @@ use Rattle.channel_sim.proofs.TidyLemmas.{all_with_legs, with_legs_all, with_leg
 pub did_done : (ahead : ℕ) (floor : ℕ) (clock : ℕ → ℕ) (kept new : kept_channel.Channel) (w : World) (v : Vehicle) (ks : List Call) (concerned : Option ℕ) (items : List Note)
     → IsReady ahead floor clock kept w v ks concerned
     → new ≡ record kept { calls = new.calls }
-    → CallsLag floor clock new.calls.items (with_legs (vehicle_call v) (map (carries (told w.tick items)) ks))
+    → CallsLag floor clock new.calls (with_legs (vehicle_call v) (map (carries (told w.tick items)) ks))
     → StandsAt ahead floor clock new (did w items v ks).world
 did_done ahead floor clock kept new w v ks concerned items r same calls =
     let es = told w.tick items in

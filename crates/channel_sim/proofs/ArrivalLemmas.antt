@@ -41,7 +41,7 @@ pub arrival_ready : (kept moved : kept_channel.Channel) (w : World) (v : Vehicle
     → StandsNow kept w
     → vehicle_call w.vehicle ≡ None
     → moved ≡ record kept { drawn = kept.drawn + 1; calls = moved.calls; vehicle = moved.vehicle }
-    → moved.calls.items ≡ kept.calls.items ++ record { number = kept.drawn + 1; session = None; passed = kept.tick; up = []; down = [] } ∷ []
+    → moved.calls ≡ kept.calls ++ record { number = kept.drawn + 1; session = None; passed = kept.tick; up = []; down = [] } ∷ []
     → IvsStandsFor moved.vehicle v
     → IsReady kept.tick kept.tick (λ d. kept.tick) moved (with_call w) v (with_call w).calls (Some (w.drawn + 1))
 arrival_ready kept moved w v s out same calls stands =
@@ -60,7 +60,7 @@ arrival_ready kept moved w v s out same calls stands =
       vehicle = vehicle_stands_now (kept.tick - moved.passed) moved.vehicle v (omega arith) stands;
       calls =
           subst (λ xs. CallsLag kept.tick (λ d. kept.tick) xs (w.calls ++ call ∷ [])) (sym calls)
-          (lag_append kept.tick (λ d. kept.tick) kept.calls.items w.calls _ call s.calls
+          (lag_append kept.tick (λ d. kept.tick) kept.calls w.calls _ call s.calls
           (record {
             number = ap (λ n. n + 1) s.drawn;
             up = refl;

@@ -77,7 +77,7 @@ down_line c place w frame e = at (vehicle_is_in c w) refl (slice_get (sent_down 
         (subst (λ g. Alike (hands_down d w) (performs (Hears (vehicle.Arrives g)) w)) (sym same) (down_alike d w f))
 
 -- what is kept with other calls that stand for the same
-pub with_calls : (ahead floor : ℕ) (clock : ℕ → ℕ) (kept moved : kept_channel.Channel) (w : World) → StandsAt ahead floor clock kept w → moved ≡ record kept { calls = moved.calls } → CallsLag floor clock moved.calls.items w.calls → StandsAt ahead floor clock moved w
+pub with_calls : (ahead floor : ℕ) (clock : ℕ → ℕ) (kept moved : kept_channel.Channel) (w : World) → StandsAt ahead floor clock kept w → moved ≡ record kept { calls = moved.calls } → CallsLag floor clock moved.calls w.calls → StandsAt ahead floor clock moved w
 with_calls ahead floor clock kept moved w s same calls =
     record {
       tick = s.tick ∙ sym (ap (λ x. x.tick) same);
@@ -92,7 +92,7 @@ with_calls ahead floor clock kept moved w s same calls =
     }
 
 -- all ends were caught up
-pub caught_all : (floor : ℕ) (kept moved : kept_channel.Channel) (w : World) → StandsAt kept.tick floor (λ c. kept.tick) kept w → moved ≡ record kept { calls = moved.calls } → kept.passed ≡ kept.tick → CallsLag kept.tick (λ c. kept.tick) moved.calls.items w.calls → StandsNow moved w
+pub caught_all : (floor : ℕ) (kept moved : kept_channel.Channel) (w : World) → StandsAt kept.tick floor (λ c. kept.tick) kept w → moved ≡ record kept { calls = moved.calls } → kept.passed ≡ kept.tick → CallsLag kept.tick (λ c. kept.tick) moved.calls w.calls → StandsNow moved w
 caught_all floor kept moved w s same passed calls =
     subst (λ x. StandsNow x w) (sym same)
     (record {

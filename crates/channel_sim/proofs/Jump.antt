@@ -307,7 +307,7 @@ onto [] rest = rest
 onto (k ∷ ks) rest = onto ks (k ∷ rest)
 
 -- all these calls have lower numbers
-abbrev AreBelow : ℕ → List Call → Type 0
+abbrev pub AreBelow : ℕ → List Call → Type 0
 AreBelow c calls = AllByRecursion (λ k. k.number < c) calls
 
 same_number : (c : ℕ) → nat_eq c c ≡ true
@@ -333,12 +333,12 @@ seated_first : (new : Option Point) (k : Call) (rest : List Call)
     → seated k.number new (k ∷ rest) ≡ record k { session = new } ∷ rest
 seated_first new k rest = rw (same_number k.number) refl
 
-all_onto : (P : Call → Type 0) → (passed rest : List Call) → AllByRecursion P passed → AllByRecursion P rest
+pub all_onto : (P : Call → Type 0) → (passed rest : List Call) → AllByRecursion P passed → AllByRecursion P rest
     → AllByRecursion P (onto passed rest)
 all_onto P [] rest a b = b
 all_onto P (k ∷ ks) rest a b = all_onto P ks (k ∷ rest) a.1 (a.0, b)
 
-below_more : (m n : ℕ) (calls : List Call) → m ≤ n → AreBelow m calls → AreBelow n calls
+pub below_more : (m n : ℕ) (calls : List Call) → m ≤ n → AreBelow m calls → AreBelow n calls
 below_more m n [] le h = tt
 below_more m n (k ∷ ks) le h = (omega (arith, h.0), below_more m n ks le h.1)
 
@@ -347,7 +347,7 @@ has_leg_in : (o : Option ℕ) (n : ℕ) (k : Call) (s : Option Point) → HasLeg
 has_leg_in o n k None h = h
 has_leg_in o n k (Some s) h = h
 
-has_leg : (o : Option ℕ) (n : ℕ) (k : Call) → HasLeg o k → HasLeg o (aged_call n k)
+pub has_leg : (o : Option ℕ) (n : ℕ) (k : Call) → HasLeg o k → HasLeg o (aged_call n k)
 has_leg o n k h = has_leg_in o n k k.session h
 
 quiet_acts : (u : World) (passed rest : List Call) (k : Call) (o : Option Point) → AreBelow k.number passed
@@ -368,7 +368,7 @@ quiet_acts u passed rest k (Some s) below legs rests =
     ∙ ap (λ (calls : List Call). settled (did w [] u.vehicle calls)) seats
     ∙ ap settled (nothing_did w u.vehicle (onto passed (record k { session = Some later } ∷ rest)) legs)
 
-quiet_session : (u : World) (passed rest : List Call) (k : Call) → AreBelow k.number passed
+pub quiet_session : (u : World) (passed rest : List Call) (k : Call) → AreBelow k.number passed
     → AllByRecursion (HasLeg (vehicle_call u.vehicle)) (onto passed (aged_call 1 k ∷ rest))
     → CallRests 1 k
     → session_passes k.number (record u { calls = onto passed (k ∷ rest) })
@@ -381,7 +381,7 @@ quiet_session u passed rest k below legs rests =
     ∙ quiet_acts u passed rest k k.session below legs rests
 
 -- a quiet step, and then one that is quiet too
-quiet_then : (a : Step) (f : World → Step) (x y : World) → a ≡ quiet_step x → f x ≡ quiet_step y
+pub quiet_then : (a : Step) (f : World → Step) (x y : World) → a ≡ quiet_step x → f x ≡ quiet_step y
     → and_then a f ≡ quiet_step y
 quiet_then a f x y first second = ap (λ (s : Step). and_then s f) first ∙ quiet_first (f x) ∙ second
 

@@ -1,6 +1,8 @@
 mod ActLemmas
 pub mod Acts
 mod ArrivalLemmas
+mod AsleepLemmas
+mod AsleepTicks
 mod BoundLemmas
 pub mod CallsKept
 mod CallsLemmas

@@ -53,7 +53,7 @@ seat_on m n None (Some s) h rests = absurd h
 seat_on m n (Some k) None h rests = absurd h
 seat_on m n (Some k) (Some s) h rests = session_on m n k s h rests
 
-calls_on : (floor t n : ℕ) (xs : List kept_call.Call) (ks : List Call) → CallsLag floor (λ c. t) xs ks → AllByRecursion (CallRests n) ks → CallsLag floor (λ c. t + n) xs (map (aged_call n) ks)
+pub calls_on : (floor t n : ℕ) (xs : List kept_call.Call) (ks : List Call) → CallsLag floor (λ c. t) xs ks → AllByRecursion (CallRests n) ks → CallsLag floor (λ c. t + n) xs (map (aged_call n) ks)
 calls_on floor t n [] [] h rests = tt
 calls_on floor t n [] (k ∷ ks) h rests = absurd h
 calls_on floor t n (x ∷ xs) [] h rests = absurd h
@@ -99,7 +99,7 @@ jumped floor n tick kept w s quiet next =
       passed = omega arith;
       from = s.from;
       vehicle = subst (λ m. VehicleLags m kept.vehicle (vehicle.aged n w.vehicle)) sum (lags_on (kept.tick - kept.passed) n kept.vehicle w.vehicle s.vehicle quiet.vehicle);
-      calls = calls_on floor kept.tick n kept.calls.items w.calls s.calls quiet.sessions;
+      calls = calls_on floor kept.tick n kept.calls w.calls s.calls quiet.sessions;
       tidy =
           record {
             numbers = tidy.numbers;
@@ -152,7 +152,7 @@ quiet_none : (floor t : ℕ) (kept : kept_channel.Channel) (w : World) → Stand
 quiet_none floor t kept w s =
     record {
       vehicle = vehicle_due_later w.vehicle;
-      sessions = calls_rest floor t kept.calls.items w.calls s.calls;
+      sessions = calls_rest floor t kept.calls w.calls s.calls;
       up = all_frames (λ k. k.up) w.up_flow w.tick w.calls;
       down = all_frames (λ k. k.down) w.down_flow w.tick w.calls;
     }

@@ -14,7 +14,7 @@ use Rattle.channel_sim.specs.declared.calls.Call as kept_call
 use Rattle.channel_sim.specs.declared.channel.Channel as kept_channel
 use Rattle.channel_sim.specs.World.{Call, World, Step, quiet_step, vehicle_passes, settled, session_acts, session_of, seated, did, carries, with_legs, left_by}
 use Rattle.channel_sim.specs.inner.Acts.{SessionDid, AreSameBut, IsReady, OtherHasLeg, seat_items, seat_after}
-use Rattle.channel_sim.specs.inner.Lag.{VehicleLags, CallLags, CallsLag, StandsAt}
+use Rattle.channel_sim.specs.inner.Lag.{VehicleLags, CallLags, CallsLag, StandsAt, waits, clock_of}
 use Rattle.channel_sim.specs.Tidy.{AreAbove, HasLeg, numbers_of}
 use Rattle.channel_sim.proofs.ActLemmas.{did_done}
 use Rattle.channel_sim.proofs.CallsLemmas.{carries_none}
@@ -47,7 +47,7 @@ pub rests_step : (ahead floor : ℕ) (old new : ℕ → ℕ) (kept moved : kept_
     → moved ≡ record kept { calls = moved.calls }
     → done ≡ false
     → given ≡ []
-    → SessionDid floor new done given moved.calls.items c row w.calls
+    → SessionDid floor new done given moved.calls c row w.calls
     → ((settled (session_acts c w row (session_of c w.calls))).entries ≡ []) × StandsAt ahead floor new moved (settled (session_acts c w row (session_of c w.calls))).world
 rests_step ahead floor old new kept moved w c done given row s same idle none h = at (session_of c w.calls) refl
   where
@@ -55,13 +55,13 @@ rests_step ahead floor old new kept moved w c done given row s same idle none h 
     at None e = (refl, nobody_did ahead floor old new kept moved w c done given row s same (ap is_some e) h)
     at (Some p) e =
         let kp = seated c (left_by (row p).new) w.calls in
-        let calls : CallsLag floor new moved.calls.items kp = subst (λ o. CallsLag floor new moved.calls.items (seated c (seat_after row o) w.calls)) e h.stands in
+        let calls : CallsLag floor new moved.calls kp = subst (λ o. CallsLag floor new moved.calls (seated c (seat_after row o) w.calls)) e h.stands in
         let ready : IsReady ahead floor new moved w w.vehicle kp (Some c) = subst (λ o. IsReady ahead floor new moved w w.vehicle (seated c (seat_after row o) w.calls) (Some c)) e (session_ready ahead floor old new kept moved w c done given row s same h) in
         let there : is_some (left_by (row p).new) ≡ true = ap (λ o. is_some (seat_after row o)) (sym e) ∙ h.rests idle ∙ ap is_some e in
         let stay : with_legs (vehicle_call w.vehicle) (map (carries []) kp) ≡ kp = ap (with_legs (vehicle_call w.vehicle)) (carries_none kp) ∙ with_legs_kept (vehicle_call w.vehicle) kp (seated_legs (vehicle_call w.vehicle) c (left_by (row p).new) w.calls s.tidy.legs there) in
         let nothing : [] ≡ (row p).items = sym none ∙ h.items ∙ ap (seat_items row) e in
         subst (λ items. ((settled (did w items w.vehicle kp)).entries ≡ []) × StandsAt ahead floor new moved (settled (did w items w.vehicle kp)).world) nothing
-        (refl, did_done ahead floor new moved moved w w.vehicle kp (Some c) [] ready refl (subst (CallsLag floor new moved.calls.items) (sym stay) calls))
+        (refl, did_done ahead floor new moved moved w w.vehicle kp (Some c) [] ready refl (subst (CallsLag floor new moved.calls) (sym stay) calls))
 
 -- The vehicle's unit tick.
 
@@ -85,14 +85,7 @@ vehicle_acts_now before passed due old new items v h least is gives stands =
     let same : vehicle.units due h.was ≡ vehicle.unit_row v = ap (λ n. vehicle.units n h.was) e ∙ vehicle_acts (before - passed) h.was h.quiet ∙ ap vehicle.unit_row (sym h.aged) in
     (gives ∙ ap (λ (r : Row Vehicle). r.items) same, subst (λ (r : Row Vehicle). IvsStandsFor new r.new) same stands)
 
--- The clocks of the sessions in the midst of a unit tick: those of these calls were not passed yet.
-
-abbrev pub waits : ℕ → List ℕ → Bool
-waits c [] = false
-waits c (n ∷ ns) = (n == c) || waits c ns
-
-abbrev pub clock_of : ℕ → List ℕ → ℕ → ℕ
-clock_of before waiting c = if waits c waiting then before else before + 1
+-- The clocks of the sessions in the midst of a unit tick.
 
 pub clock_first : (before n : ℕ) (ns : List ℕ) → clock_of before (n ∷ ns) n ≡ before
 clock_first before n ns = ap (λ b. if b || waits n ns then before else before + 1) (eq-eqb n n refl)
@@ -136,7 +129,7 @@ above_behind n (x ∷ ns) zero d h inside = h.1
 above_behind n (x ∷ ns) (suc i) d h inside = above_behind x ns i d h.1 (omega arith)
 
 -- another clock for the sessions
-pub reclocked : (ahead floor : ℕ) (old new : ℕ → ℕ) (kept : kept_channel.Channel) (w : World) → StandsAt ahead floor old kept w → CallsLag floor new kept.calls.items w.calls → StandsAt ahead floor new kept w
+pub reclocked : (ahead floor : ℕ) (old new : ℕ → ℕ) (kept : kept_channel.Channel) (w : World) → StandsAt ahead floor old kept w → CallsLag floor new kept.calls w.calls → StandsAt ahead floor new kept w
 reclocked ahead floor old new kept w s calls =
     record {
       tick = s.tick;
@@ -170,7 +163,7 @@ vehicle_passed_ready floor before clock kept moved w v call s next same passed s
       passed = omega arith;
       from = omega arith;
       vehicle = vehicle_stands_now (kept.tick - moved.passed) moved.vehicle v (omega arith) stands;
-      calls = subst (λ x. CallsLag floor clock x.calls.items w.calls) (sym same) s.calls;
+      calls = subst (λ x. CallsLag floor clock x.calls w.calls) (sym same) s.calls;
       numbers = s.tidy.numbers;
       below = s.tidy.below;
       others = subst (λ o. AllByRecursion (OtherHasLeg (vehicle_call v) o) w.calls) (sym e) (legs_others (vehicle_call w.vehicle) (vehicle_call v) w.calls s.tidy.legs);

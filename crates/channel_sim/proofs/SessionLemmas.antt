@@ -48,7 +48,7 @@ seated_others ic c new (k ∷ ks) h = at (k.number == c) refl (seated_others ic 
 pub seated_ready : (ahead floor : ℕ) (old new : ℕ → ℕ) (kept moved : kept_channel.Channel) (w : World) (c : ℕ) (after : Option Point)
     → StandsAt ahead floor old kept w
     → moved ≡ record kept { calls = moved.calls }
-    → CallsLag floor new moved.calls.items (seated c after w.calls)
+    → CallsLag floor new moved.calls (seated c after w.calls)
     → IsReady ahead floor new moved w w.vehicle (seated c after w.calls) (Some c)
 seated_ready ahead floor old new kept moved w c after s same calls =
     record {
@@ -70,7 +70,7 @@ seated_ready ahead floor old new kept moved w c after s same calls =
 pub session_ready : (ahead floor : ℕ) (old new : ℕ → ℕ) (kept moved : kept_channel.Channel) (w : World) (c : ℕ) (done : Bool) (given : List Note) (row : Point → Row Point)
     → StandsAt ahead floor old kept w
     → moved ≡ record kept { calls = moved.calls }
-    → SessionDid floor new done given moved.calls.items c row w.calls
+    → SessionDid floor new done given moved.calls c row w.calls
     → IsReady ahead floor new moved w w.vehicle (seated c (seat_after row (session_of c w.calls)) w.calls) (Some c)
 session_ready ahead floor old new kept moved w c done given row s same did =
     seated_ready ahead floor old new kept moved w c (seat_after row (session_of c w.calls)) s same did.stands
@@ -112,7 +112,7 @@ pub nobody_did : (ahead : ℕ) (floor : ℕ) (old new : ℕ → ℕ) (kept moved
     → StandsAt ahead floor old kept w
     → moved ≡ record kept { calls = moved.calls }
     → is_some (session_of c w.calls) ≡ false
-    → SessionDid floor new done given moved.calls.items c row w.calls
+    → SessionDid floor new done given moved.calls c row w.calls
     → StandsAt ahead floor new moved w
 nobody_did ahead floor old new kept moved w c done given row s same gone did =
     let none = no_one (session_of c w.calls) gone in
@@ -124,7 +124,7 @@ nobody_did ahead floor old new kept moved w c done given row s same gone did =
       passed = subst (λ n. n ≤ ahead) (sym (ap (λ x. x.passed) same)) s.passed;
       from = subst (λ n. floor ≤ n) (sym (ap (λ x. x.passed) same)) s.from;
       vehicle = subst (λ x. VehicleLags (ahead - x.passed) x.vehicle w.vehicle) (sym same) s.vehicle;
-      calls = subst (CallsLag floor new moved.calls.items) (ap (λ o. seated c (seat_after row o) w.calls) none ∙ seated_same c w.calls none) did.stands;
+      calls = subst (CallsLag floor new moved.calls) (ap (λ o. seated c (seat_after row o) w.calls) none ∙ seated_same c w.calls none) did.stands;
       tidy = s.tidy;
     }
 

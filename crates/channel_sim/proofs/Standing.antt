@@ -72,7 +72,7 @@ now_stands kept w h =
       passed = omega arith;
       from = omega arith;
       vehicle = vehicle_stands_now (kept.tick - kept.passed) kept.vehicle w.vehicle (omega arith) h.vehicle;
-      calls = calls_now kept.tick kept.calls.items w.calls h.calls;
+      calls = calls_now kept.tick kept.calls w.calls h.calls;
       tidy = h.tidy;
     }
 
@@ -87,7 +87,7 @@ stands_then kept w s =
       down_flow = s.down_flow;
       vehicle = vehicle_lag_none (kept.tick - kept.passed) kept.vehicle w.vehicle (omega arith) s.vehicle;
       passed = omega arith;
-      calls = calls_found kept.tick kept.calls.items w.calls s.calls;
+      calls = calls_found kept.tick kept.calls w.calls s.calls;
       tidy = s.tidy;
     }
 

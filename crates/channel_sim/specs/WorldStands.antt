@@ -45,7 +45,7 @@ pub record ChannelStandsFor (kept : kept_channel.Channel) (w : World) : Type 0 w
   pub down_flow : w.down_flow ≡ kept.down_flow
   pub vehicle : IvsStandsFor kept.vehicle w.vehicle
   pub passed : kept.passed ≡ kept.tick
-  pub calls : CallsStandFor kept.tick kept.calls.items w.calls
+  pub calls : CallsStandFor kept.tick kept.calls w.calls
   -- what every world of the definitions keeps
   pub tidy : IsTidy w
 

@@ -1,4 +1,5 @@
 pub mod Acts
+pub mod Asleep
 pub mod FitAt
 pub mod Lag
 pub mod Passes

@@ -10,6 +10,7 @@ ghost use Rattle.trace_text.specs.History.{told};
 ghost use Rattle.channel_sim.specs.Lines as lines;
 ghost use Rattle.channel_sim.specs.World as model;
 ghost use Rattle.channel_sim.specs.inner.Acts.{pushed, CallDid, SessionDid, IsCaught, AreSameBut, OtherHasLeg, due_by, due_of, sent_way};
+ghost use Rattle.channel_sim.specs.inner.Asleep.{AreAsleep, IsAwakePart, NothingDue, Sleeps};
 ghost use Rattle.channel_sim.specs.inner.Lag.{SessionLags, CallLags, CallsLag};
 ghost use Rattle.channel_sim.specs.inner.Places.{place_of};
 ghost use Rattle.channel_sim.specs.Tidy.{AreAbove, AreFrom, ticks_of, CallInTime, numbers_of};
@@ -19,6 +20,7 @@ use crate::sends::Sends;
 use link_frames::{End, Frame, Items, Note, Steps, Why};
 use psap_machine::{PointEvent, Session};
 use std::alloc::{AllocError, Global};
+use std::marker::Model;
 use std::sync::ledger::Ledger;
 
 /// A call with a leg up: the point's session, where its leg is up, the tick up to which it was passed, and the frames
@@ -75,6 +77,52 @@ impl Call {
     }
 }
 
+/// The calls with a leg up, by number, and how many of the first ones have nothing due.
+#[derive(Drop)]
+pub(crate) struct Calls {
+    list: Vec<Call>,
+    /// In so many of the first calls the session, if it is there, does nothing however many ticks pass.
+    asleep: usize,
+}
+
+impl Model for Calls {
+    ghost use Rattle.std.specs.Prelude.{List};
+    ghost use Rattle.channel_sim.specs.declared.calls.Call.{Call};
+    ghost use Rattle.channel_sim.specs.inner.Asleep.{AreAsleep};
+
+    ghost Value = { List Call };
+
+    ghost view = { λ s. s.list.items };
+
+    ghost invariant = { λ s. AreAsleep s.asleep s.list.items };
+}
+
+impl Calls {
+    /// No call.
+    pub(crate) fn new(alloc: Global) -> Calls
+        ensures { result ≡ [] }
+    {
+        Calls {
+            list: Vec::new(alloc),
+            asleep: 0,
+        }
+    }
+
+    /// All of them.
+    pub(crate) fn all(&self) -> &[Call]
+        ensures { result.now ≡ self.now }
+    {
+        &self.list
+    }
+
+    /// All but the first ones, whose sessions do nothing however many ticks pass.
+    pub(crate) fn awake(&self) -> &[Call]
+        ensures { IsAwakePart result.now self.now }
+    {
+        &self.list[self.asleep..]
+    }
+}
+
 /// The index of the call of a number, if it is there.
 pub(crate) fn find(calls: &[Call], number: u32) -> Option<usize>
     ensures within { IfSome result (λ i. i < length calls.now) }
@@ -122,10 +170,10 @@ fn bisect(calls: &[Call], number: u32) -> Option<usize>
 }
 
 /// Posts what one item sends into its call.
-fn post_one(calls: &mut Vec<Call>, tick: u64, note: &Note) -> Result<(), AllocError>
-    ensures { (floor : ℕ) (clock : ℕ → ℕ) (ks : List model.Call) → CallsLag floor clock calls.old.items ks →
+fn post_one(calls: &mut Calls, tick: u64, note: &Note) -> Result<(), AllocError>
+    ensures { (floor : ℕ) (clock : ℕ → ℕ) (ks : List model.Call) → CallsLag floor clock calls.old ks →
         AreAbove 0 (numbers_of ks) →
-        OnOk result (CallsLag floor clock calls.new.items (map (model.carries (told tick (note.now ∷ []))) ks)) }
+        OnOk result (CallsLag floor clock calls.new (map (model.carries (told tick (note.now ∷ []))) ks)) }
 {
     match note {
         Note::Send { end, call, frame } => post_frame(calls, tick, *end, *call, frame),
@@ -135,28 +183,31 @@ fn post_one(calls: &mut Vec<Call>, tick: u64, note: &Note) -> Result<(), AllocEr
 
 /// Posts a frame that an end sent into its call.
 fn post_frame(
-    calls: &mut Vec<Call>,
+    calls: &mut Calls,
     tick: u64,
     end: End,
     number: u32,
     frame: &Frame,
 ) -> Result<(), AllocError>
-    ensures { (floor : ℕ) (clock : ℕ → ℕ) (ks : List model.Call) → CallsLag floor clock calls.old.items ks →
+    ensures { (floor : ℕ) (clock : ℕ → ℕ) (ks : List model.Call) → CallsLag floor clock calls.old ks →
         AreAbove 0 (numbers_of ks) →
-        OnOk result (CallsLag floor clock calls.new.items (map (model.carries (told tick
+        OnOk result (CallsLag floor clock calls.new (map (model.carries (told tick
         (Note.Send end number frame.now ∷ []))) ks)) }
 {
-    match find(calls, number) {
-        Some(i) => calls[i].push(end, tick, frame),
+    match find(&calls.list, number) {
+        Some(i) => {
+            calls.asleep = calls.asleep.min(i);
+            calls.list[i].push(end, tick, frame)
+        }
         None => Ok(()),
     }
 }
 
 /// Posts each frame that these items send into its call.
-pub(crate) fn post(calls: &mut Vec<Call>, tick: u64, items: &[Note]) -> Result<(), AllocError>
-    ensures { (floor : ℕ) (clock : ℕ → ℕ) (ks : List model.Call) → CallsLag floor clock calls.old.items ks →
+pub(crate) fn post(calls: &mut Calls, tick: u64, items: &[Note]) -> Result<(), AllocError>
+    ensures { (floor : ℕ) (clock : ℕ → ℕ) (ks : List model.Call) → CallsLag floor clock calls.old ks →
         AreAbove 0 (numbers_of ks) →
-        OnOk result (CallsLag floor clock calls.new.items (map (model.carries (told tick items.now)) ks)) }
+        OnOk result (CallsLag floor clock calls.new (map (model.carries (told tick items.now)) ks)) }
 {
     for note in items {
         post_one(calls, tick, note)?;
@@ -165,15 +216,16 @@ pub(crate) fn post(calls: &mut Vec<Call>, tick: u64, items: &[Note]) -> Result<(
 }
 
 /// Drops the call of a number, in which the vehicle isn't, if its session isn't there.
-pub(crate) fn drop_without_session(calls: &mut Vec<Call>, number: u32)
+pub(crate) fn drop_without_session(calls: &mut Calls, number: u32)
     ensures { (floor : ℕ) (clock : ℕ → ℕ) (in_call : Option ℕ) (ks : List model.Call) →
-        CallsLag floor clock calls.old.items ks →
+        CallsLag floor clock calls.old ks →
         AreAbove 0 (numbers_of ks) → AllByRecursion (OtherHasLeg in_call (Some number)) ks →
-        model.is_number number in_call ≡ false → CallsLag floor clock calls.new.items (model.with_legs in_call ks) }
+        model.is_number number in_call ≡ false → CallsLag floor clock calls.new (model.with_legs in_call ks) }
 {
-    if let Some(i) = find(calls, number) {
-        if calls[i].session.is_none() {
-            calls.remove(i);
+    if let Some(i) = find(&calls.list, number) {
+        if calls.list[i].session.is_none() {
+            calls.asleep = calls.asleep.min(i);
+            calls.list.remove(i);
         }
     }
 }
@@ -205,50 +257,54 @@ pub(crate) fn sent_frame(calls: &[Call], up: bool, number: u32, place: usize) ->
 
 /// Adds a call behind the others, in which nothing was sent, and whose session is not there yet.
 pub(crate) fn add_call(
-    calls: &mut Vec<Call>,
+    calls: &mut Calls,
     alloc: Global,
     number: u32,
     passed: u64,
 ) -> Result<(), AllocError>
-    ensures { OnOk result (calls.new.items ≡ calls.old.items ++
+    ensures { OnOk result (calls.new ≡ calls.old ++
         record { number = number; session = None; passed = passed; up = []; down = [] } ∷ []) }
 {
-    calls.push(Call::new(alloc, number, passed))?;
+    calls.list.push(Call::new(alloc, number, passed))?;
     Ok(())
 }
 
 /// A session comes up in the call of a number.
-pub(crate) fn admit(calls: &mut Vec<Call>, number: u32, session: Session)
-    ensures { (tick : ℕ) (s : Point) (ks : List model.Call) → CallsLag tick (λ c. tick) calls.old.items ks →
+pub(crate) fn admit(calls: &mut Calls, number: u32, session: Session)
+    ensures { (tick : ℕ) (s : Point) (ks : List model.Call) → CallsLag tick (λ c. tick) calls.old ks →
         AreAbove 0 (numbers_of ks) → SessionStandsFor session s → model.left_by s ≡ Some s →
-        CallsLag tick (λ c. tick) calls.new.items (model.seated number (Some s) ks) }
+        CallsLag tick (λ c. tick) calls.new (model.seated number (Some s) ks) }
 {
-    if let Some(i) = find(calls, number) {
-        calls[i].session = Some(session);
+    if let Some(i) = find(&calls.list, number) {
+        calls.asleep = calls.asleep.min(i);
+        calls.list[i].session = Some(session);
     }
 }
 
 /// The session of a call hears this, and one that is over is gone: whether it is there. Its items stand in `items`.
 pub(crate) fn hear_session(
-    calls: &mut Vec<Call>,
+    calls: &mut Calls,
     number: u32,
     event: &PointEvent<'_>,
     items: &mut Items,
 ) -> bool
     ensures variant { (floor : ℕ) (clock : ℕ → ℕ) (ks : List model.Call) →
-        CallsLag floor clock calls.old.items ks → AreAbove 0 (numbers_of ks) →
+        CallsLag floor clock calls.old ks → AreAbove 0 (numbers_of ks) →
         result ≡ is_some (model.session_of number ks) }
-    ensures did { (floor : ℕ) (clock : ℕ → ℕ) (ks : List model.Call) → CallsLag floor clock calls.old.items ks →
-        AreAbove 0 (numbers_of ks) → IsCaught clock number calls.old.items →
-        SessionDid floor clock result items.new.items calls.new.items number
+    ensures did { (floor : ℕ) (clock : ℕ → ℕ) (ks : List model.Call) → CallsLag floor clock calls.old ks →
+        AreAbove 0 (numbers_of ks) → IsCaught clock number calls.old →
+        SessionDid floor clock result items.new.items calls.new number
         (λ s. point.point_row s (point.heard event.now)) ks }
-    ensures ended { (floor : ℕ) (clock : ℕ → ℕ) (ks : List model.Call) → CallsLag floor clock calls.old.items ks →
+    ensures ended { (floor : ℕ) (clock : ℕ → ℕ) (ks : List model.Call) → CallsLag floor clock calls.old ks →
         AreAbove 0 (numbers_of ks) → event.now ≡ PointEvent.Ended Why.Release →
-        SessionDid floor clock result items.new.items calls.new.items number
+        SessionDid floor clock result items.new.items calls.new number
         (λ s. point.point_row s (point.Ended Why.Release)) ks }
 {
-    match find(calls, number) {
-        Some(i) => hear_call(&mut calls[i], event, items),
+    match find(&calls.list, number) {
+        Some(i) => {
+            calls.asleep = calls.asleep.min(i);
+            hear_call(&mut calls.list[i], event, items)
+        }
         None => {
             items.clear();
             false
@@ -367,23 +423,26 @@ pub(crate) fn act_at<L: Ledger>(
 /// Passes the session of a call up to this tick, if it is there and does something at it, and one that is over is
 /// gone: whether it did. Its items stand in `items`.
 pub(crate) fn act_session<L: Ledger>(
-    calls: &mut Vec<Call>,
+    calls: &mut Calls,
     number: u32,
     tick: u64,
     items: &mut Items,
     moments: &mut Steps<L>,
 ) -> bool
     ensures did { (floor : ℕ) (before after : ℕ → ℕ) (ks : List model.Call) →
-        CallsLag floor before calls.old.items ks → AreAbove 0 (numbers_of ks) → before number + 1 ≡ tick →
+        CallsLag floor before calls.old ks → AreAbove 0 (numbers_of ks) → before number + 1 ≡ tick →
         after number ≡ tick → AreSameBut number before after →
-        SessionDid floor after result items.new.items calls.new.items number point.unit_row ks }
+        SessionDid floor after result items.new.items calls.new number point.unit_row ks }
     ensures none { result ≡ false → items.new.items ≡ [] }
     ensures passes { (floor : ℕ) (before : ℕ → ℕ) (ks : List model.Call) →
-        CallsLag floor before calls.old.items ks → AreAbove 0 (numbers_of ks) →
+        CallsLag floor before calls.old ks → AreAbove 0 (numbers_of ks) →
         moments.new ≤ moments.old + length items.new.items }
 {
-    match find(calls, number) {
-        Some(i) => act_at(&mut calls[i], tick, items, moments),
+    match find(&calls.list, number) {
+        Some(i) => {
+            calls.asleep = calls.asleep.min(i);
+            act_at(&mut calls.list[i], tick, items, moments)
+        }
         None => {
             items.clear();
             false
@@ -393,26 +452,38 @@ pub(crate) fn act_session<L: Ledger>(
 
 /// Passes the session of a call up to this tick, up to which it does nothing.
 pub(crate) fn catch_session_up<L: Ledger>(
-    calls: &mut Vec<Call>,
+    calls: &mut Calls,
     number: u32,
     tick: u64,
     moments: &mut Steps<L>,
 )
-    ensures lags { (floor : ℕ) (ks : List model.Call) → CallsLag floor (λ c. tick) calls.old.items ks →
-        AreAbove 0 (numbers_of ks) → CallsLag floor (λ c. tick) calls.new.items ks }
-    ensures caught { (floor : ℕ) (ks : List model.Call) → CallsLag floor (λ c. tick) calls.old.items ks →
-        AreAbove 0 (numbers_of ks) → IsCaught (λ c. tick) number calls.new.items }
-    ensures passes { (floor : ℕ) (ks : List model.Call) → CallsLag floor (λ c. tick) calls.old.items ks →
+    ensures lags { (floor : ℕ) (ks : List model.Call) → CallsLag floor (λ c. tick) calls.old ks →
+        AreAbove 0 (numbers_of ks) → CallsLag floor (λ c. tick) calls.new ks }
+    ensures caught { (floor : ℕ) (ks : List model.Call) → CallsLag floor (λ c. tick) calls.old ks →
+        AreAbove 0 (numbers_of ks) → IsCaught (λ c. tick) number calls.new }
+    ensures passes { (floor : ℕ) (ks : List model.Call) → CallsLag floor (λ c. tick) calls.old ks →
         AreAbove 0 (numbers_of ks) → tick < floor + 2 ^ 32 → moments.new ≤ moments.old + once_if
         (model.session_of number ks) }
 {
-    if let Some(i) = find(calls, number) {
-        catch_up(&mut calls[i], tick, moments);
+    if let Some(i) = find(&calls.list, number) {
+        calls.asleep = calls.asleep.min(i);
+        catch_up(&mut calls.list[i], tick, moments);
     }
 }
 
 /// Passes each session up to this tick, up to which it does nothing.
-pub(crate) fn catch_each_up<L: Ledger>(calls: &mut Vec<Call>, tick: u64, moments: &mut Steps<L>)
+pub(crate) fn catch_each_up<L: Ledger>(calls: &mut Calls, tick: u64, moments: &mut Steps<L>)
+    ensures lags { (floor : ℕ) (ks : List model.Call) → CallsLag floor (λ c. tick) calls.old ks → floor ≤ tick →
+        CallsLag tick (λ c. tick) calls.new ks }
+    ensures passes { (floor : ℕ) (ks : List model.Call) → CallsLag floor (λ c. tick) calls.old ks → floor ≤ tick →
+        tick < floor + 2 ^ 32 → moments.new ≤ moments.old + model.session_count ks }
+{
+    catch_listed_up(&mut calls.list, tick, moments);
+    calls.asleep = count_asleep(&calls.list);
+}
+
+/// Passes the session of each of these calls up to this tick, up to which it does nothing.
+fn catch_listed_up<L: Ledger>(calls: &mut Vec<Call>, tick: u64, moments: &mut Steps<L>)
     ensures lags { (floor : ℕ) (ks : List model.Call) → CallsLag floor (λ c. tick) calls.old.items ks → floor ≤ tick →
         CallsLag tick (λ c. tick) calls.new.items ks }
     ensures passes { (floor : ℕ) (ks : List model.Call) → CallsLag floor (λ c. tick) calls.old.items ks → floor ≤ tick →
@@ -421,6 +492,30 @@ pub(crate) fn catch_each_up<L: Ledger>(calls: &mut Vec<Call>, tick: u64, moments
     for call in calls.iter_mut() {
         catch_up(call, tick, moments);
     }
+}
+
+/// Whether the session of this call, if it is there, does nothing however many ticks pass.
+fn is_asleep(call: &Call) -> bool
+    ensures { result ≡ true → Sleeps call.now }
+{
+    match &call.session {
+        Some(session) => session.due().is_none(),
+        None => true,
+    }
+}
+
+/// In how many of the first of these calls the session, if it is there, does nothing however many ticks pass.
+fn count_asleep(calls: &[Call]) -> usize
+    ensures { AreAsleep result calls.now }
+{
+    let mut count = 0;
+    for call in calls {
+        if !is_asleep(call) {
+            return count;
+        }
+        count += 1;
+    }
+    count
 }
 
 /// What is due at the session, if that is not later than so many ticks.

@@ -5,7 +5,7 @@ mod deeds;
 mod flows;
 mod moments;
 
-use crate::calls::Call;
+use crate::calls::Calls;
 use crate::fault::SimFault;
 use crate::room::Room;
 use crate::turn::Turn;
@@ -24,7 +24,7 @@ pub(crate) struct Channel {
     /// The tick up to which the vehicle was passed.
     passed: u64,
     pub(crate) drawn: u32,
-    pub(crate) calls: Vec<Call>,
+    pub(crate) calls: Calls,
     /// After how many ticks a flow hands a frame over; 0 is off.
     up_flow: u32,
     down_flow: u32,
@@ -49,7 +49,7 @@ impl Channel {
             vehicle: Ivs::new(facts),
             passed: 0,
             drawn: 0,
-            calls: Vec::new(alloc),
+            calls: Calls::new(alloc),
             up_flow: 0,
             down_flow: 0,
         }

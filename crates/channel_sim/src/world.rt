@@ -79,8 +79,9 @@ impl World {
         ensures { (w : model.World) → WorldStandsFor self.now w →
             FoundStandsFor (option_copied result) (model.session_of call w.calls) }
     {
-        let i = find(&self.channel.calls, call)?;
-        self.channel.calls[i].session.as_ref()
+        let calls = self.channel.calls.all();
+        let i = find(calls, call)?;
+        calls[i].session.as_ref()
     }
 
     /// What one event line does: the listener hears each entry of the step, in order. After a failure the world is

@@ -79,7 +79,7 @@ pub record IsReady
   pub passed : kept.passed ≤ ahead
   pub from : floor ≤ kept.passed
   pub vehicle : VehicleLags (ahead - kept.passed) kept.vehicle v
-  pub calls : CallsLag floor clock kept.calls.items ks
+  pub calls : CallsLag floor clock kept.calls ks
   pub numbers : AreAbove 0 (numbers_of ks)
   pub below : AllByRecursion (λ n. n ≤ w.drawn) (numbers_of ks)
   pub others : AllByRecursion (OtherHasLeg (vehicle_call v) concerned) ks

@@ -2,7 +2,7 @@
 -- some ticks ago, and since then that end did nothing. How far the model's ends were passed is a clock for the vehicle
 -- and one for each call's session, and none was passed less far than up to the tick at which the line began, the floor.
 -- Cited by the private functions of `World` alone.
-use Rattle.std.specs.Prelude.{◌≡◌, ℕ, ◌≤◌, ◌<◌, ◌-◌, List, [], ◌∷◌, Option, Some, None, IfSome, Result, MatchResult}
+use Rattle.std.specs.Prelude.{◌≡◌, ℕ, ◌≤◌, ◌<◌, ◌+◌, ◌-◌, ◌==◌, ◌||◌, Bool, false, if◌then◌else◌, List, [], ◌∷◌, Option, Some, None, IfSome, Result, MatchResult}
 use Rattle.trace_text.specs.declared.entry.Entry.{Entry}
 use Rattle.ivs_machine.specs.declared.vehicle.Ivs.{Ivs}
 use Rattle.ivs_machine.specs.IvsStands.{IvsStandsFor}
@@ -60,7 +60,7 @@ pub record StandsAt (ahead floor : ℕ) (clock : ℕ → ℕ) (kept : kept_chann
   pub passed : kept.passed ≤ ahead
   pub from : floor ≤ kept.passed
   pub vehicle : VehicleLags (ahead - kept.passed) kept.vehicle w.vehicle
-  pub calls : CallsLag floor clock kept.calls.items w.calls
+  pub calls : CallsLag floor clock kept.calls w.calls
   pub tidy : IsTidy w
 
 -- Between lines no end lags.
@@ -89,3 +89,12 @@ abbrev pub CameNow :
     → Type 0
 CameNow Grew Partly result kept s =
     MatchResult result (λ _. Grew s.entries × StandsNow kept s.world) (λ _. Partly s.entries)
+
+-- The clocks of the sessions in the midst of a unit tick: those of these calls were not passed yet.
+
+abbrev pub waits : ℕ → List ℕ → Bool
+waits c [] = false
+waits c (n ∷ ns) = (n == c) || waits c ns
+
+abbrev pub clock_of : ℕ → List ℕ → ℕ → ℕ
+clock_of before waiting c = if waits c waiting then before else before + 1

@@ -32,9 +32,9 @@ impl Channel {
         ensures same { self.new ≡ record self.old { calls = self.new.calls } }
         ensures calls { (n : ℕ) (floor : ℕ) (clock : ℕ → ℕ) (v : Vehicle) (ks : List model.Call) →
             VehicleLags n self.old.vehicle v →
-            CallsLag floor clock self.old.calls.items ks → AreAbove 0 (numbers_of ks) →
+            CallsLag floor clock self.old.calls ks → AreAbove 0 (numbers_of ks) →
             AllByRecursion (OtherHasLeg (vehicle_call v) (Some number)) ks →
-            CallsLag floor clock self.new.calls.items (model.with_legs (vehicle_call v) ks) }
+            CallsLag floor clock self.new.calls (model.with_legs (vehicle_call v) ks) }
     {
         if self.vehicle.call() != Some(number) {
             drop_without_session(&mut self.calls, number);
@@ -46,9 +46,9 @@ impl Channel {
         ensures same { self.new ≡ record self.old { calls = self.new.calls } }
         ensures calls { (n : ℕ) (floor : ℕ) (clock : ℕ → ℕ) (v : Vehicle) (ks : List model.Call) →
             VehicleLags n self.old.vehicle v →
-            CallsLag floor clock self.old.calls.items ks → AreAbove 0 (numbers_of ks) →
+            CallsLag floor clock self.old.calls ks → AreAbove 0 (numbers_of ks) →
             AllByRecursion (OtherHasLeg (vehicle_call v) call) ks →
-            CallsLag floor clock self.new.calls.items (model.with_legs (vehicle_call v) ks) }
+            CallsLag floor clock self.new.calls (model.with_legs (vehicle_call v) ks) }
     {
         if let Some(number) = call {
             self.drop_call(number);
@@ -199,7 +199,7 @@ impl Channel {
     ) -> Result<(), SimFault>
         ensures step { (ahead : ℕ) (floor : ℕ) (clock : ℕ → ℕ) (w : model.World) →
             StandsAt ahead floor clock self.old w →
-            ahead ≡ self.old.tick → IsCaught clock number self.old.calls.items →
+            ahead ≡ self.old.tick → IsCaught clock number self.old.calls →
             Came (H.grew to.old to.new) (H.partly to.old to.new) result ahead floor clock self.new
             (model.performs (model.Session number (point.heard event.now)) w) }
         ensures tick { self.new.tick ≡ self.old.tick }
@@ -208,7 +208,7 @@ impl Channel {
         ensures counted { H.faults to.old ≤ H.faults to.new }
         ensures passes { (ahead : ℕ) (floor : ℕ) (clock : ℕ → ℕ) (w : model.World) →
             StandsAt ahead floor clock self.old w →
-            ahead ≡ self.old.tick → IsCaught clock number self.old.calls.items → self.old.tick < floor + 2 ^ 32 →
+            ahead ≡ self.old.tick → IsCaught clock number self.old.calls → self.old.tick < floor + 2 ^ 32 →
             OnOk result
             (moments.new ≤ moments.old + passes_of (model.performs (model.Session number (point.heard event.now)) w)) }
         ensures still { self.old.passed ≡ self.old.tick → (self.new.passed ≡ self.new.tick)

@@ -126,7 +126,7 @@ impl Channel {
         ensures counted { H.faults to.old ≤ H.faults to.new }
         ensures still { self.old.passed ≡ self.old.tick → moments.new ≡ moments.old }
     {
-        let at_point = has_session(&self.calls, number);
+        let at_point = has_session(self.calls.all(), number);
         if self.vehicle.call() == Some(number) {
             self.lose_both(alloc, number, at_point, given, to, moments)
         } else {
@@ -254,10 +254,10 @@ impl Channel {
             result ≡ option_map (λ s. s.frame) (if model.point_is_in number w
             then slice_get (lines.sent_up (model.call_of number w.calls)) place else None) }
     {
-        if !has_session(&self.calls, number) {
+        if !has_session(self.calls.all(), number) {
             return None;
         }
-        sent_frame(&self.calls, true, number, place)
+        sent_frame(self.calls.all(), true, number, place)
     }
 
     /// The frame sent down in a call at this place, from 0, if the vehicle is in it.
@@ -269,7 +269,7 @@ impl Channel {
         if self.vehicle.call() != Some(number) {
             return None;
         }
-        sent_frame(&self.calls, false, number, place)
+        sent_frame(self.calls.all(), false, number, place)
     }
 
     /// Hands a frame sent up in a call to the point.

@@ -24,7 +24,7 @@ impl Channel {
         ensures { (ahead floor : ℕ) (w : model.World) → StandsAt ahead floor (λ c. ahead) self.now w → OnOk result
             (map due_of due.new.items ≡ model.due_in (λ k. k.up) w.up_flow w.tick w.calls) }
     {
-        all_due(&self.calls, true, self.up_flow, self.tick, due, near)
+        all_due(self.calls.all(), true, self.up_flow, self.tick, due, near)
     }
 
     /// The frames that the flow down hands over at this tick, in place of what stood there.
@@ -32,7 +32,14 @@ impl Channel {
         ensures { (ahead floor : ℕ) (w : model.World) → StandsAt ahead floor (λ c. ahead) self.now w → OnOk result
             (map due_of due.new.items ≡ model.due_in (λ k. k.down) w.down_flow w.tick w.calls) }
     {
-        all_due(&self.calls, false, self.down_flow, self.tick, due, near)
+        all_due(
+            self.calls.all(),
+            false,
+            self.down_flow,
+            self.tick,
+            due,
+            near,
+        )
     }
 
     /// Hands a frame to the point's session of a call, if it is there.

@@ -87,9 +87,10 @@ impl Channel {
     ghost use Rattle.channel_sim.specs.World as model;
     ghost use Rattle.channel_sim.specs.SimFault.{SimFaultCause};
     ghost use Rattle.channel_sim.specs.inner.Acts.{AreSameBut};
-    ghost use Rattle.channel_sim.specs.inner.Lag.{CallLags, Came, CameNow, StandsAt, StandsNow};
+    ghost use Rattle.channel_sim.specs.inner.Asleep.{IsStirringPart};
+    ghost use Rattle.channel_sim.specs.inner.Lag.{CallLags, Came, CameNow, StandsAt, StandsNow, clock_of};
     ghost use Rattle.channel_sim.specs.inner.Quiet.{QuietFor, IsQuietCall};
-    ghost use Rattle.channel_sim.specs.Tidy.{CallInTime, numbers_of};
+    ghost use Rattle.channel_sim.specs.Tidy.{AreAbove, CallInTime};
     ghost use Rattle.channel_sim.specs.inner.Passes.{passes_of};
 
     /// Passes the vehicle up to this tick, up to which it does nothing.
@@ -126,6 +127,19 @@ impl Channel {
         hands_at(&call.down, near.down, self.down_flow, self.tick, up)
     }
 
+    /// The calls in which something may happen in time: not those whose sessions do nothing however many ticks pass,
+    /// while both flows are off.
+    fn stirring(&self) -> &[Call]
+        ensures { IsStirringPart self.now.up_flow self.now.down_flow result.now self.now.calls }
+    {
+        if self.up_flow == 0 {
+            if self.down_flow == 0 {
+                return self.calls.awake();
+            }
+        }
+        self.calls.all()
+    }
+
     /// The next tick at which something happens; at most `end`.
     fn next_moment(&self, near: &Near, end: u64) -> u64
         ensures most { result ≤ end }
@@ -133,7 +147,8 @@ impl Channel {
             self.now.tick + n < result → QuietFor n w }
     {
         let mut next = acts_at(self.passed, self.vehicle.due(), end);
-        for call in &self.calls {
+        let calls = self.stirring();
+        for call in calls {
             next = self.call_moment(call, near, next);
         }
         next
@@ -226,7 +241,7 @@ impl Channel {
         }
     }
 
-    /// The unit tick of each of these sessions, which are those of all calls.
+    /// The unit tick of each of these sessions, which are those of the calls that were not passed yet.
     fn each_session_passes<H: Listener, L: Ledger>(
         &mut self,
         alloc: Global,
@@ -235,18 +250,20 @@ impl Channel {
         to: &mut H,
         moments: &mut Steps<L>,
     ) -> Result<(), SimFault>
-        ensures step { (ahead floor before : ℕ) (w : model.World) → StandsAt ahead floor (λ c. before) self.old w →
-            ahead ≡ self.old.tick → before + 1 ≡ ahead → numbers.now ≡ numbers_of w.calls →
+        ensures step { (ahead floor before : ℕ) (w : model.World) →
+            StandsAt ahead floor (clock_of before numbers.now) self.old w →
+            ahead ≡ self.old.tick → before + 1 ≡ ahead → AreAbove 0 numbers.now →
             Came (H.grew to.old to.new) (H.partly to.old to.new) result ahead floor (λ c. ahead) self.new
-            (model.sessions_pass w) }
+            (model.each model.session_passes numbers.now w) }
         ensures tick { self.new.tick ≡ self.old.tick }
         ensures stood { OnOk result (H.faults to.new ≡ H.faults to.old) }
         ensures cause { IfErr result (λ e. SimFaultCause e (H.faults to.old) (H.faults to.new)) }
         ensures counted { H.faults to.old ≤ H.faults to.new }
-        ensures passes { (ahead floor before : ℕ) (w : model.World) → StandsAt ahead floor (λ c. before) self.old w →
-            ahead ≡ self.old.tick → before + 1 ≡ ahead → numbers.now ≡ numbers_of w.calls →
+        ensures passes { (ahead floor before : ℕ) (w : model.World) →
+            StandsAt ahead floor (clock_of before numbers.now) self.old w →
+            ahead ≡ self.old.tick → before + 1 ≡ ahead → AreAbove 0 numbers.now →
             self.old.tick < floor + 2 ^ 32 → OnOk result
-            (moments.new ≤ moments.old + passes_of (model.sessions_pass w)) }
+            (moments.new ≤ moments.old + passes_of (model.each model.session_passes numbers.now w)) }
     {
         for number in numbers {
             self.session_passes(alloc, *number, given, to, moments)?;
@@ -274,7 +291,7 @@ impl Channel {
             ahead ≡ self.old.tick → before + 1 ≡ ahead → self.old.tick < floor + 2 ^ 32 → OnOk result
             (moments.new ≤ moments.old + passes_of (model.sessions_pass w)) }
     {
-        list_numbers(&self.calls, &mut room.numbers)?;
+        list_numbers(self.calls.awake(), &mut room.numbers)?;
         self.each_session_passes(alloc, &room.numbers, &mut room.given, to, moments)
     }
 

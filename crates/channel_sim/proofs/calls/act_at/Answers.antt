@@ -1,5 +1,5 @@
 use Rattle.channel_sim.proofs.BoundLemmas.{seat_has, session_gives}
-use Rattle.std.proofs.Common.{true, ◌≡◌, ◌≤◌, ◌+◌, ◌-◌, suc, Some, ap, sym, ◌∙◌, subst, arith, length}
+use Rattle.std.proofs.Common.{true, ◌≡◌, ◌≤◌, ◌+◌, ◌-◌, suc, ap, sym, ◌∙◌, subst, arith, length}
 use Rattle.std.proofs.lemmas.Bool.{iff_false}
 use Rattle.link_frames.specs.Row.{Row}
 use Rattle.psap_machine.specs.Point.{Point}

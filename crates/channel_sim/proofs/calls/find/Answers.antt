@@ -1,4 +1,4 @@
-use Rattle.std.proofs.Common.{◌<◌, length, sym, arith}
+use Rattle.std.proofs.Common.{◌<◌, length, sym}
 use Rattle.channel_sim.proofs.PlaceLemmas.{found_place}
 use Rattle.channel_sim.proofs.calls.find.Goals as goal
 

@@ -8,7 +8,7 @@ use Rattle.channel_sim.proofs.TellingLemmas.{told-take_more}
 use Rattle.channel_sim.proofs.calls.post.Goals as goal
 
 pub loop-note-init : goal.loop-note-init
-loop-note-init c = λ floor clock ks h above. subst (CallsLag floor clock c.args.calls.now.items) (sym (carries_none ks)) h
+loop-note-init c = λ floor clock ks h above. subst (CallsLag floor clock c.args.calls.now) (sym (carries_none ks)) h
 
 pub loop-note-preserved : goal.loop-note-preserved
 loop-note-preserved c =
@@ -17,5 +17,5 @@ loop-note-preserved c =
     let one = told c.args.tick (c.note-item.result ∷ []) in
     let more : told c.args.tick (take (c.loop-note.note-index + 1) c.args.items.now) ≡ front ++ one =
     told-take_more c.args.tick c.args.items.now c.loop-note.note-index c.note-item.result c.loop-note-test.true c.note-item.is in
-    subst (CallsLag floor clock c.post_one.new.calls.items) (sym (ap (λ es. map (carries es) ks) more ∙ all_carry front one ks))
+    subst (CallsLag floor clock c.post_one.new.calls) (sym (ap (λ es. map (carries es) ks) more ∙ all_carry front one ks))
     (c.in_ok-post_one.ensures floor clock (map (carries front) ks) (c.loop-note.invariant floor clock ks h above) (subst (AreAbove 0) (sym (carried_numbers front ks)) above))

@@ -8,5 +8,5 @@ use Rattle.channel_sim.proofs.calls.post.Given as goal
 -- the calls carry the items so far
 abbrev pub invariant-loop-note : goal.invariant-loop-note
 invariant-loop-note l =
-    (floor : ℕ) (clock : ℕ → ℕ) (ks : List Call) → CallsLag floor clock l.initial.calls.items ks → AreAbove 0 (numbers_of ks) →
-    CallsLag floor clock l.calls.items (map (carries (told l.tick (take l.note-index l.items))) ks)
+    (floor : ℕ) (clock : ℕ → ℕ) (ks : List Call) → CallsLag floor clock l.initial.calls ks → AreAbove 0 (numbers_of ks) →
+    CallsLag floor clock l.calls (map (carries (told l.tick (take l.note-index l.items))) ks)

@@ -9,8 +9,9 @@ use Rattle.channel_sim.proofs.calls.post_frame.Goals as goal
 
 pub returns-in-Some : goal.returns-in-Some
 returns-in-Some c =
+    rw (← c.calls.view_is) (
     λ floor clock ks h above.
-    let xs = c.args.calls.now.items in
+    let xs = c.calls.inside.list.items in
     let place = found_at floor clock c.args.number c.deref.result.now xs ks _ c.deref.ensures.value c.in-Some.ensures.place h above in
     let sent : Sent = record { tick = c.args.tick; frame = c.args.frame.now } in
     on_ok c.push.result
@@ -18,9 +19,12 @@ returns-in-Some c =
     (sym (same ∙ ap (pushed c.args.end sent) c.index_mut.ensures.value))
     (posted_at floor clock 0 c.args.tick c.args.number c.args.end c.args.frame.now xs ks c.in-Some.i c.index_mut.result.now h above place))
     c.push.ensures
+    )
 
 pub returns-in-None : goal.returns-in-None
 returns-in-None c =
+    rw (← c.calls.view_is) (
     λ floor clock ks h above.
-    let place = found_at floor clock c.args.number c.deref.result.now c.args.calls.now.items ks _ c.deref.ensures.value c.in-None.ensures.place h above in
-    posted_elsewhere floor clock c.args.tick c.args.number c.args.end c.args.frame.now c.args.calls.now.items ks h place
+    let place = found_at floor clock c.args.number c.deref.result.now c.calls.inside.list.items ks _ c.deref.ensures.value c.in-None.ensures.place h above in
+    posted_elsewhere floor clock c.args.tick c.args.number c.args.end c.args.frame.now c.calls.inside.list.items ks h place
+    )

@@ -15,7 +15,7 @@ returns-in-Some-clause-step g c =
     let Partly = g.H.Listener.partly c.args.to.now c.session_performs.new.to in
     let frame = c.in-Some.frame in
     let heard = c.lend.ensures in
-    let did = c.session_performs.ensures.step kept.tick kept.tick (λ d. kept.tick) w s refl (all_caught kept.tick c.args.number kept.calls.items w.calls s.calls) in
+    let did = c.session_performs.ensures.step kept.tick kept.tick (λ d. kept.tick) w s refl (all_caught kept.tick c.args.number kept.calls w.calls s.calls) in
     came_alike_now Grew Partly c.session_performs.result c.session_performs.new.self
     (lines.or_nothing (if model.point_is_in c.args.number w then lines.hands_one lines.HandsUp c.args.number (slice_get (lines.sent_up (model.call_of c.args.number w.calls)) c.args.place) else []) w)
     (model.performs (model.Session c.args.number (point.Arrives frame)) w)

@@ -27,8 +27,8 @@ returns-clause-step g c =
     λ ahead floor clock w v ks ready.
     let es = told w.tick c.args.items.now in
     let same : told c.args.self.now.tick c.args.items.now ≡ es = ap (λ t. told t c.args.items.now) (sym ready.tick) in
-    let carried : CallsLag floor clock c.post.new.calls.items (map (carries es) ks) =
-    subst (λ z. CallsLag floor clock c.post.new.calls.items (map (carries z) ks)) same (c.in_ok-post.ensures floor clock ks ready.calls ready.numbers) in (
+    let carried : CallsLag floor clock c.post.new.calls (map (carries es) ks) =
+    subst (λ z. CallsLag floor clock c.post.new.calls (map (carries z) ks)) same (c.in_ok-post.ensures floor clock ks ready.calls ready.numbers) in (
       subst (g.H.Listener.grew c.args.to.now c.tell.new.to) same c.in_ok-tell.ensures.ok,
       did_done ahead floor clock c.args.self.now c.drop_concerned.new.self w v ks c.args.call c.args.items.now ready c.drop_concerned.ensures.same
           (c.drop_concerned.ensures.calls (ahead - c.args.self.now.passed) floor clock v (map (carries es) ks) ready.vehicle carried

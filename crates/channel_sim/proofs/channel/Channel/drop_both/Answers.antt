@@ -19,7 +19,7 @@ returns-then-eq-clause-step g c =
     let ends = lines.Does (model.Session c.args.number (point.Ended why.Lost)) in
     let inside = called (kept.tick - kept.passed) c.args.number kept.vehicle w.vehicle c.call.result c.call.ensures s.vehicle c.if-eq.ensures in
     let at_point : c.has_session-at_point.result ≡ is_some (model.session_of c.args.number w.calls) =
-    c.has_session-at_point.ensures kept.tick (λ d. kept.tick) w.calls (subst (λ xs. CallsLag kept.tick (λ d. kept.tick) xs w.calls) (sym c.deref.ensures.value) s.calls) s.tidy.numbers in
+    c.has_session-at_point.ensures kept.tick (λ d. kept.tick) w.calls (subst (λ xs. CallsLag kept.tick (λ d. kept.tick) xs w.calls) (sym c.all.ensures) s.calls) s.tidy.numbers in
     subst (λ b. CameNow Grew Partly c.lose_both.result c.lose_both.new.self (lines.or_nothing (lines.when b lost ++ lines.at_point c.args.number (point.Ended why.Lost) w) w)) (sym inside)
     (subst (λ b. CameNow Grew Partly c.lose_both.result c.lose_both.new.self (model.each lines.deed (lost ∷ lines.when b ends) w)) at_point
     (c.lose_both.ensures.step w s inside))

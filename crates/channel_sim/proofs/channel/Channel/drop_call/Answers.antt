@@ -17,5 +17,5 @@ pub returns-else-ne-clause-calls : goal.returns-else-ne-clause-calls
 returns-else-ne-clause-calls c =
     λ n floor clock v ks lags h above others.
     let call = lagging_call n c.args.self.now.vehicle v c.call.result c.call.ensures lags in
-    subst (λ z. CallsLag floor clock c.args.self.now.calls.items z)
+    subst (λ z. CallsLag floor clock c.args.self.now.calls z)
     (sym (concerned_has (vehicle_call v) c.args.number ks others (ap (is_number c.args.number) (sym call) ∙ sym (same_number c.call.result c.args.number) ∙ not_is_false _ (sym c.if-ne.ensures)))) h

@@ -16,5 +16,5 @@ pub returns-in_default-clause-calls : goal.returns-in_default-clause-calls
 returns-in_default-clause-calls c =
     λ n floor clock v ks lags h above others.
     let none = none_of c.args.call c.in_default.not-Some in
-    subst (λ z. CallsLag floor clock c.args.self.now.calls.items z)
+    subst (λ z. CallsLag floor clock c.args.self.now.calls z)
     (sym (none_concerned (vehicle_call v) ks (subst (λ o. AllByRecursion (OtherHasLeg (vehicle_call v) o) ks) none others))) h

@@ -10,7 +10,7 @@ pub returns : goal.returns
 returns c =
     λ ahead floor w s.
     let kept = c.args.self.now in
-    let calls = subst (λ xs. CallsLag floor (λ d. ahead) xs w.calls) (sym c.deref.ensures.value) s.calls in
+    let calls = subst (λ xs. CallsLag floor (λ d. ahead) xs w.calls) (sym c.all.ensures) s.calls in
     let in_time = subst (λ t. AllByRecursion (CallInTime t) w.calls) s.tick s.tidy.frames in
     let due = c.all_due.ensures floor (λ d. ahead) w.calls calls in_time in
     subst (λ t. OnOk c.all_due.result (map due_of c.all_due.new.due.items ≡ due_in (sent_way false) w.down_flow t w.calls)) (sym s.tick)

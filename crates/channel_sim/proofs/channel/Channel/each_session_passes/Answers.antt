@@ -1,13 +1,12 @@
 use Rattle.channel_sim.proofs.BoundLemmas.{passes_more}
 use Rattle.channel_sim.specs.inner.Passes.{passes_of}
-use Rattle.std.proofs.Common.{◌≡◌, suc, ◌+◌, ◌<◌, ◌≤◌, [], ◌∷◌, length, take, drop, get_or, refl, ap, sym, ◌∙◌, subst, add-one, drop-cons, ◌^◌, arith}
+use Rattle.std.proofs.Common.{◌≡◌, suc, ◌+◌, ◌<◌, ◌≤◌, ◌∷◌, length, take, drop, get_or, refl, ap, sym, ◌∙◌, subst, add-one, drop-cons, ◌^◌, arith}
 use Rattle.std.proofs.lemmas.List.{drop_all}
 use Rattle.std.proofs.lemmas.Result.{err_from_is_err_and}
 use Rattle.channel_sim.specs.World.{World, Step, each, session_passes}
-use Rattle.channel_sim.specs.inner.Lag.{StandsAt}
-use Rattle.channel_sim.specs.Tidy.{AreAbove, numbers_of}
-use Rattle.channel_sim.proofs.CallsLemmas.{same_numbers}
-use Rattle.channel_sim.proofs.PassLemmas.{clock_of, clock_first, clock_gone, clock_same, clocks_begin, above_behind, reclocked, same_at}
+use Rattle.channel_sim.specs.inner.Lag.{StandsAt, clock_of}
+use Rattle.channel_sim.specs.Tidy.{AreAbove}
+use Rattle.channel_sim.proofs.PassLemmas.{clock_first, clock_gone, clock_same, above_behind, same_at}
 use Rattle.channel_sim.proofs.StepLemmas.{each_more, each_all, take_all}
 use Rattle.channel_sim.proofs.channel.Channel.each_session_passes.Goals as goal
 
@@ -19,9 +18,7 @@ loop-number-init g c =
       passes = λ ahead floor before w s now next listed small. omega arith;
       came =
           λ ahead floor before w s now next listed.
-          let kept = c.args.self.now in
-          let e = listed in
-          (g.met.H.Listener.unchanged _, reclocked ahead floor (λ d. before) (clock_of before c.args.numbers.now) kept w s (clocks_begin floor before c.args.numbers.now kept.calls.items w.calls e s.calls));
+          (g.met.H.Listener.unchanged _, s);
     }
 
 pub loop-number-preserved : goal.loop-number-preserved
@@ -37,10 +34,9 @@ loop-number-preserved g c =
       passes =
           λ ahead floor before w s now next listed small.
           let kept = c.args.self.now in
-          let e = listed in
           let so_far = c.loop-number.invariant.came ahead floor before w s now next listed in
           let front : Step = each session_passes (take i ns) w in
-          let above : AreAbove x rest = above_behind 0 ns i 0 (subst (AreAbove 0) (sym e) s.tidy.numbers) inside in
+          let above : AreAbove x rest = above_behind 0 ns i 0 listed inside in
           let split : drop i ns ≡ x ∷ rest = drop-cons ns i 0 inside in
           let did = c.in_ok-session_passes.ensures.passes ahead floor (clock_of before (x ∷ rest)) (clock_of before rest) front.world
           (subst (λ ms. StandsAt ahead floor (clock_of before ms) c.loop-number.self front.world) split so_far.1) (now ∙ sym c.loop-number.invariant.tick)
@@ -52,10 +48,9 @@ loop-number-preserved g c =
       came =
           λ ahead floor before w s now next listed.
           let kept = c.args.self.now in
-          let e = listed in
           let so_far = c.loop-number.invariant.came ahead floor before w s now next listed in
           let u : World = (each session_passes (take i ns) w).world in
-          let above : AreAbove x rest = above_behind 0 ns i 0 (subst (AreAbove 0) (sym e) s.tidy.numbers) inside in
+          let above : AreAbove x rest = above_behind 0 ns i 0 listed inside in
           let split : drop i ns ≡ x ∷ rest = drop-cons ns i 0 inside in
           let did = c.in_ok-session_passes.ensures.step ahead floor (clock_of before (x ∷ rest)) (clock_of before rest) u
           (subst (λ ms. StandsAt ahead floor (clock_of before ms) c.loop-number.self u) split so_far.1) (now ∙ sym c.loop-number.invariant.tick)
@@ -77,10 +72,9 @@ returns-in_err-session_passes-clause-step g c =
     let x = get_or ns i 0 in
     let rest = drop (suc i) ns in
     let inside : i < length ns = c.loop-number-test.true in
-    let e = listed in
     let so_far = c.loop-number.invariant.came ahead floor before w s now next listed in
     let u : World = (each session_passes (take i ns) w).world in
-    let above : AreAbove x rest = above_behind 0 ns i 0 (subst (AreAbove 0) (sym e) s.tidy.numbers) inside in
+    let above : AreAbove x rest = above_behind 0 ns i 0 listed inside in
     let split : drop i ns ≡ x ∷ rest = drop-cons ns i 0 inside in
     let part = c.in_err-session_passes.ensures.step ahead floor (clock_of before (x ∷ rest)) (clock_of before rest) u
     (subst (λ ms. StandsAt ahead floor (clock_of before ms) c.loop-number.self u) split so_far.1) (now ∙ sym c.loop-number.invariant.tick)
@@ -90,7 +84,7 @@ returns-in_err-session_passes-clause-step g c =
     let Partly = g.H.Listener.partly c.args.to.now c.session_passes.new.to in
     let front = subst (λ (z : Step). Partly z.entries) (sym more) (g.met.H.Listener.then_partly _ _ _ _ _ so_far.0 part) in
     let whole = subst (λ (z : Step). Partly z.entries) (sym all) (g.met.H.Listener.longer _ _ _ _ front) in
-    rw failed.1 (subst (λ ms. Partly (each session_passes ms w).entries) e whole)
+    rw failed.1 whole
 
 pub returns-clause-step : goal.returns-clause-step
 returns-clause-step g c =
@@ -99,11 +93,10 @@ returns-clause-step g c =
     let ns = c.args.numbers.now in
     let i = c.loop-number.number-index in
     let past : length ns ≤ i = c.loop-number-test.false in
-    let e = listed in
     let so_far = c.loop-number.invariant.came ahead floor before w s now next listed in
-    let whole = subst (λ ms. g.H.Listener.grew c.args.to.now c.loop-number.to (each session_passes ms w).entries × StandsAt ahead floor (clock_of before (drop i ns)) c.loop-number.self (each session_passes ms w).world) (take_all i ns past ∙ e) so_far in
-    let ended = subst (λ ms. StandsAt ahead floor (clock_of before ms) c.loop-number.self (each session_passes (numbers_of w.calls) w).world) (drop_all i ns past) whole.1 in
-    (whole.0, subst (λ t. StandsAt ahead floor (λ d. t) c.loop-number.self (each session_passes (numbers_of w.calls) w).world) next ended)
+    let whole = subst (λ ms. g.H.Listener.grew c.args.to.now c.loop-number.to (each session_passes ms w).entries × StandsAt ahead floor (clock_of before (drop i ns)) c.loop-number.self (each session_passes ms w).world) (take_all i ns past) so_far in
+    let ended = subst (λ ms. StandsAt ahead floor (clock_of before ms) c.loop-number.self (each session_passes ns w).world) (drop_all i ns past) whole.1 in
+    (whole.0, subst (λ t. StandsAt ahead floor (λ d. t) c.loop-number.self (each session_passes ns w).world) next ended)
 
 pub returns-clause-passes : goal.returns-clause-passes
 returns-clause-passes g c =
@@ -111,5 +104,4 @@ returns-clause-passes g c =
     let ns = c.args.numbers.now in
     let i = c.loop-number.number-index in
     let past : length ns ≤ i = c.loop-number-test.false in
-    let e = listed in
-    subst (λ ms. c.loop-number.moments ≤ c.args.moments.now + passes_of (each session_passes ms w)) (take_all i ns past ∙ e) (c.loop-number.invariant.passes ahead floor before w s now next listed small)
+    subst (λ ms. c.loop-number.moments ≤ c.args.moments.now + passes_of (each session_passes ms w)) (take_all i ns past) (c.loop-number.invariant.passes ahead floor before w s now next listed small)

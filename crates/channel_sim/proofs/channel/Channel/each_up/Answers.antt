@@ -1,6 +1,6 @@
 use Rattle.channel_sim.proofs.BoundLemmas.{passes_more}
 use Rattle.channel_sim.specs.inner.Passes.{passes_of}
-use Rattle.std.proofs.Common.{◌≡◌, ◌+◌, ◌<◌, ◌≤◌, [], length, take, map, refl, ap, sym, ◌∙◌, subst, ◌^◌, arith}
+use Rattle.std.proofs.Common.{◌+◌, ◌<◌, ◌≤◌, length, take, map, refl, sym, ◌∙◌, subst, ◌^◌, arith}
 use Rattle.std.proofs.lemmas.Result.{err_from_is_err_and}
 use Rattle.channel_sim.specs.World.{World, Step, each, hands_up}
 use Rattle.channel_sim.specs.inner.Acts.{due_of}

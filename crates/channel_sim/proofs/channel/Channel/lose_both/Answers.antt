@@ -33,7 +33,7 @@ returns-then-at_point-clause-step g c =
     let did = subst (λ (z : model.Step). g.H.Listener.grew c.args.to.now c.vehicle_performs.new.to z.entries × StandsAt kept.tick kept.tick (λ d. kept.tick) c.vehicle_performs.new.self z.world)
     (sym (in_call_performs c.args.number vehicle.Lost w inside))
     (c.in_ok-vehicle_performs.ensures.step kept.tick kept.tick (λ d. kept.tick) w s (caught_now kept w s) refl) in
-    let then = c.session_performs.ensures.step kept.tick kept.tick (λ d. kept.tick) first.world did.1 (sym c.vehicle_performs.ensures.tick) (all_caught kept.tick c.args.number c.vehicle_performs.new.self.calls.items first.world.calls did.1.calls) in
+    let then = c.session_performs.ensures.step kept.tick kept.tick (λ d. kept.tick) first.world did.1 (sym c.vehicle_performs.ensures.tick) (all_caught kept.tick c.args.number c.vehicle_performs.new.self.calls first.world.calls did.1.calls) in
     let Grew = g.H.Listener.grew c.args.to.now c.session_performs.new.to in
     let Partly = g.H.Listener.partly c.args.to.now c.session_performs.new.to in
     subst (λ b. CameNow Grew Partly c.session_performs.result c.session_performs.new.self (model.each lines.deed (lost ∷ lines.when b ends) w)) (sym c.if-at_point.true)

@@ -21,7 +21,7 @@ returns-then-hear_session-clause-step g c =
     let Grew = g.H.Listener.grew c.args.to.now c.settles.new.to in
     let Partly = g.H.Listener.partly c.args.to.now c.settles.new.to in
     let heard = c.hear_session.ensures.did kept.tick clock w.calls s.calls s.tidy.numbers
-    (all_caught kept.tick number kept.calls.items w.calls s.calls) in
+    (all_caught kept.tick number kept.calls w.calls s.calls) in
     let there : is_some (model.session_of number w.calls) ≡ true =
     sym (c.hear_session.ensures.variant kept.tick clock w.calls s.calls s.tidy.numbers) ∙ c.if-hear_session.true in
     let after = model.seated number (seat_after row (model.session_of number w.calls)) w.calls in
@@ -51,7 +51,7 @@ returns-else-hear_session-clause-step g c =
     let Grew = g.H.Listener.grew c.args.to.now c.tell_nothing.new.to in
     let Partly = g.H.Listener.partly c.args.to.now c.tell_nothing.new.to in
     let heard = c.hear_session.ensures.did kept.tick clock w.calls s.calls s.tidy.numbers
-    (all_caught kept.tick number kept.calls.items w.calls s.calls) in
+    (all_caught kept.tick number kept.calls w.calls s.calls) in
     let gone : is_some (model.session_of number w.calls) ≡ false =
     sym (c.hear_session.ensures.variant kept.tick clock w.calls s.calls s.tidy.numbers) ∙ c.if-hear_session.false in
     let moved = record kept { calls = c.hear_session.new.calls } in

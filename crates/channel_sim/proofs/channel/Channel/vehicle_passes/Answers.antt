@@ -1,6 +1,6 @@
 use Rattle.channel_sim.proofs.BoundLemmas.{acted_ok}
 use Rattle.channel_sim.specs.inner.Passes.{passes_of}
-use Rattle.std.proofs.Common.{refl, ap, sym, ◌∙◌, subst, ◌+◌, ◌-◌, ◌≤◌, ◌<◌, ◌^◌, OnOk, length, arith}
+use Rattle.std.proofs.Common.{ap, sym, ◌∙◌, subst, ◌+◌, ◌-◌, ◌≤◌, ◌<◌, ◌^◌, OnOk, length, arith}
 use Rattle.ivs_machine.specs.VehicleRows as vehicle
 use Rattle.channel_sim.specs.World as model
 use Rattle.channel_sim.specs.inner.Lag.{Came, StandsAt}

@@ -1,4 +1,4 @@
-use Rattle.std.proofs.Common.{None, ap, sym, ◌∙◌, subst}
+use Rattle.std.proofs.Common.{None, get_or, ap, sym, ◌∙◌, subst}
 use Rattle.std.specs.Option.{option_copied}
 use Rattle.channel_sim.specs.World.{session_of}
 use Rattle.channel_sim.specs.WorldStands.{FoundStandsFor}
@@ -11,7 +11,7 @@ returns-in_err-i c =
     λ w h.
     let kept = c.args.self.now.channel in
     let s = now_stands kept w h in
-    let place = found_at kept.tick (λ d. kept.tick) c.args.call c.deref.result.now kept.calls.items w.calls _ c.deref.ensures.value c.in_err-i.ensures.place s.calls s.tidy.numbers in
+    let place = found_at kept.tick (λ d. kept.tick) c.args.call c.all-calls.result.now kept.calls w.calls _ c.all-calls.ensures c.in_err-i.ensures.place s.calls s.tidy.numbers in
     subst (λ r. FoundStandsFor (option_copied r) (session_of c.args.call w.calls)) (sym c.from_residual.ensures)
     (subst (FoundStandsFor None) (sym (no_session c.args.call w.calls place)) tt)
 
@@ -20,6 +20,6 @@ returns c =
     λ w h.
     let kept = c.args.self.now.channel in
     let s = now_stands kept w h in
-    let place = found_at kept.tick (λ d. kept.tick) c.args.call c.deref.result.now kept.calls.items w.calls _ c.deref.ensures.value c.in_ok-i.ensures.place s.calls s.tidy.numbers in
-    subst (λ o. FoundStandsFor o (session_of c.args.call w.calls)) (sym (c.as_ref.ensures.value ∙ ap (λ x. x.session) c.index.ensures))
-    (found_in kept.tick c.args.call kept.calls.items w.calls c.in_ok-i.i c.index.result.now h.calls place)
+    let place = found_at kept.tick (λ d. kept.tick) c.args.call c.all-calls.result.now kept.calls w.calls _ c.all-calls.ensures c.in_ok-i.ensures.place s.calls s.tidy.numbers in
+    subst (λ o. FoundStandsFor o (session_of c.args.call w.calls)) (sym (c.as_ref.ensures.value ∙ ap (λ xs. (get_or xs c.in_ok-i.i c.index-calls-i.result).session) c.all-calls.ensures))
+    (found_in kept.tick c.args.call kept.calls w.calls c.in_ok-i.i c.index-calls-i.result h.calls place)

@@ -1,7 +1,7 @@
 use Rattle.std.proofs.Common.{◌≡◌, ◌≤◌, ℕ, List, take, drop, ◌<◌, ◌+◌, ◌^◌}
 use Rattle.channel_sim.specs.World.{Call, session_count}
 use Rattle.channel_sim.specs.inner.Lag.{CallsLag}
-use Rattle.channel_sim.proofs.calls.catch_each_up.Given as goal
+use Rattle.channel_sim.proofs.calls.catch_listed_up.Given as goal
 
 -- the calls so far were caught up, and the rest is as it was
 abbrev pub invariant-loop-call : goal.invariant-loop-call

@@ -1,0 +1,134 @@
+-- Calls in whose sessions nothing is due: which of the first stay so when a call changes, and that they rest.
+use Rattle.std.proofs.Common.{◌≡◌, ℕ, zero, suc, ◌+◌, ◌-◌, ◌<◌, ◌≤◌, ◌⊎◌, inl, inr, Option, Some, None, IfSome, List, [], ◌∷◌, ◌++◌, length, get_or, take, drop, refl, ap, sym, ◌∙◌, subst, arith}
+use Rattle.std.proofs.Math.ListN.{set}
+use Rattle.std.proofs.lemmas.List.{length-set, length-append, take_more}
+use Rattle.std.specs.List.{AllByRecursion, remove}
+use Rattle.psap_machine.specs.declared.session.Session.{Session}
+use Rattle.psap_machine.specs.Point.{Point}
+use Rattle.psap_machine.specs.PointRows as point
+use Rattle.channel_sim.specs.declared.calls.Call as kept_call
+use Rattle.channel_sim.specs.World.{Call}
+use Rattle.channel_sim.specs.inner.Asleep.{NothingDue, Sleeps, AreAsleep}
+use Rattle.channel_sim.specs.inner.Lag.{SessionLags, SeatLags, CallLags, CallsLag}
+use Rattle.channel_sim.specs.inner.Quiet.{SessionRests, CallRests, IsQuietCall}
+use Rattle.channel_sim.proofs.Jump.{point_later}
+
+-- What is kept.
+
+fewer_sleep : (k n : ℕ) (xs : List kept_call.Call) → k ≤ n → AllByRecursion Sleeps (take n xs) → AllByRecursion Sleeps (take k xs)
+fewer_sleep zero n [] le h = tt
+fewer_sleep (suc k) n [] le h = tt
+fewer_sleep zero n (x ∷ xs) le h = tt
+fewer_sleep (suc k) zero (x ∷ xs) le h = absurd (omega arith)
+fewer_sleep (suc k) (suc n) (x ∷ xs) le h = (h.0, fewer_sleep k n xs (omega arith) h.1)
+
+set_sleep : (k i : ℕ) (xs : List kept_call.Call) (y : kept_call.Call) → k ≤ i → AllByRecursion Sleeps (take k xs) → AllByRecursion Sleeps (take k (set xs i y))
+set_sleep zero i [] y le h = tt
+set_sleep (suc k) i [] y le h = tt
+set_sleep zero zero (x ∷ xs) y le h = tt
+set_sleep zero (suc i) (x ∷ xs) y le h = tt
+set_sleep (suc k) zero (x ∷ xs) y le h = absurd (omega arith)
+set_sleep (suc k) (suc i) (x ∷ xs) y le h = (h.0, set_sleep k i xs y (omega arith) h.1)
+
+removed_sleep : (k i : ℕ) (xs : List kept_call.Call) → k ≤ i → AllByRecursion Sleeps (take k xs) → AllByRecursion Sleeps (take k (remove xs i))
+removed_sleep zero i xs le h = none (remove xs i)
+  where
+    none : (ys : List kept_call.Call) → AllByRecursion Sleeps (take zero ys)
+    none [] = tt
+    none (y ∷ ys) = tt
+removed_sleep (suc k) zero xs le h = absurd (omega arith)
+removed_sleep (suc k) (suc i) [] le h = tt
+removed_sleep (suc k) (suc i) (x ∷ xs) le h = (h.0, removed_sleep k i xs (omega arith) h.1)
+
+pushed_sleep : (n : ℕ) (xs ys : List kept_call.Call) → n ≤ length xs → AllByRecursion Sleeps (take n xs) → AllByRecursion Sleeps (take n (xs ++ ys))
+pushed_sleep zero [] [] le h = tt
+pushed_sleep zero [] (y ∷ ys) le h = tt
+pushed_sleep (suc n) [] ys le h = absurd (omega arith)
+pushed_sleep zero (x ∷ xs) ys le h = tt
+pushed_sleep (suc n) (x ∷ xs) ys le h = (h.0, pushed_sleep n xs ys (omega arith) h.1)
+
+-- the call at i changed, and so many before it still sleep
+pub asleep_set : (n k i : ℕ) (xs : List kept_call.Call) (y : kept_call.Call) → k ≤ n → k ≤ i → AreAsleep n xs → AreAsleep k (set xs i y)
+asleep_set n k i xs y fewer before h =
+    let inside : n ≤ length xs = h.within in
+    record {
+      within = omega (arith, length-set xs i y);
+      sleep = set_sleep k i xs y before (fewer_sleep k n xs fewer h.sleep);
+    }
+
+removed_length : (i : ℕ) (xs : List kept_call.Call) → i < length xs → length (remove xs i) + 1 ≡ length xs
+removed_length i [] inside = absurd (omega arith)
+removed_length zero (x ∷ xs) inside = omega arith
+removed_length (suc i) (x ∷ xs) inside = omega (arith, removed_length i xs (omega arith))
+
+-- the call at i is gone
+pub asleep_removed : (n k i : ℕ) (xs : List kept_call.Call) → i < length xs → k ≤ n → k ≤ i → AreAsleep n xs → AreAsleep k (remove xs i)
+asleep_removed n k i xs inside fewer before h =
+    record {
+      within = omega (arith, removed_length i xs inside);
+      sleep = removed_sleep k i xs before (fewer_sleep k n xs fewer h.sleep);
+    }
+
+-- one call more
+pub asleep_pushed : (n : ℕ) (xs ys : List kept_call.Call) → AreAsleep n xs → AreAsleep n (xs ++ ys)
+asleep_pushed n xs ys h =
+    let inside : n ≤ length xs = h.within in
+    record {
+      within = omega (arith, length-append xs ys);
+      sleep = pushed_sleep n xs ys inside h.sleep;
+    }
+
+last_sleeps : (xs : List kept_call.Call) (x : kept_call.Call) → AllByRecursion Sleeps xs → Sleeps x → AllByRecursion Sleeps (xs ++ x ∷ [])
+last_sleeps [] x h one = (one, tt)
+last_sleeps (y ∷ ys) x h one = (h.0, last_sleeps ys x h.1 one)
+
+-- one more sleeps
+pub one_more_sleeps : (i : ℕ) (xs : List kept_call.Call) (d : kept_call.Call) → i < length xs → AllByRecursion Sleeps (take i xs) → Sleeps (get_or xs i d) → AllByRecursion Sleeps (take (i + 1) xs)
+one_more_sleeps i xs d inside h one = subst (AllByRecursion Sleeps) (sym (take_more xs i d inside)) (last_sleeps (take i xs) (get_or xs i d) h one)
+
+-- What they stand for rests.
+
+none_later : (n : ℕ) (o : Option ℕ) → o ≡ None → IfSome o (λ due. n < due)
+none_later n None e = tt
+none_later n (Some due) e = cc
+
+-- n ticks on nothing is due either
+still_none : (m : ℕ) (kept : Session) (s : Point) → NothingDue (Some kept) → SessionLags m kept s → point.due_of s ≡ None
+still_none m kept s none h = at (point.due_of s) refl
+  where
+    at : (o : Option ℕ) → point.due_of s ≡ o → point.due_of s ≡ None
+    at None e = e
+    at (Some due) e =
+        let late : IfSome (point.due_of (point.aged m h.was)) (λ d. due < d) = point_later m due h.was (none_later (m + due) (point.due_of h.was) (none h.was h.stands)) in
+        let wrong : due < due = subst (λ o. IfSome o (λ d. due < d)) (ap point.due_of (sym h.aged) ∙ e) late in
+        absurd (omega arith)
+
+seat_rests : (m n : ℕ) (a : Option Session) (b : Option Point) → SeatLags m a b → NothingDue a → IfSome b (SessionRests n)
+seat_rests m n None None h none = tt
+seat_rests m n None (Some s) h none = absurd h
+seat_rests m n (Some k) None h none = absurd h
+seat_rests m n (Some k) (Some s) h none = record { due = none_later n (point.due_of s) (still_none m k s none h); live = h.live }
+
+pub call_rests : (floor clock n : ℕ) (x : kept_call.Call) (k : Call) → CallLags floor clock x k → Sleeps x → CallRests n k
+call_rests floor clock n x k h sleeps = seat_rests (clock - x.passed) n x.session k.session h.session sleeps
+
+quiet_asleep : (floor n tick : ℕ) (clock : ℕ → ℕ) (f : ℕ) (xs : List kept_call.Call) (ks : List Call) → CallsLag floor clock xs ks → AllByRecursion Sleeps (take f xs) → AllByRecursion (λ k. IsQuietCall n 0 0 tick k) (take f ks)
+quiet_asleep floor n tick clock zero [] [] h sleep = tt
+quiet_asleep floor n tick clock (suc f) [] [] h sleep = tt
+quiet_asleep floor n tick clock f [] (k ∷ ks) h sleep = absurd h
+quiet_asleep floor n tick clock f (x ∷ xs) [] h sleep = absurd h
+quiet_asleep floor n tick clock zero (x ∷ xs) (k ∷ ks) h sleep = tt
+quiet_asleep floor n tick clock (suc f) (x ∷ xs) (k ∷ ks) h sleep =
+    (record { session = call_rests floor (clock k.number) n x k h.0 sleep.0; up = tt; down = tt }, quiet_asleep floor n tick clock f xs ks h.1 sleep.1)
+
+none_taken : {A : Type 0} (P : A → Type 0) (xs : List A) → AllByRecursion P (take 0 xs)
+none_taken P [] = tt
+none_taken P (x ∷ xs) = tt
+
+-- the first calls are quiet, where they sleep while both flows are off, or there are none
+pub front_quiet : (floor n tick up down : ℕ) (clock : ℕ → ℕ) (f : ℕ) (xs : List kept_call.Call) (ks : List Call) → CallsLag floor clock xs ks → AllByRecursion Sleeps (take f xs) → (f ≡ 0) ⊎ ((up ≡ 0) × (down ≡ 0)) → AllByRecursion (λ k. IsQuietCall n up down tick k) (take f ks)
+front_quiet floor n tick up down clock f xs ks h sleep (inl none) =
+    subst (λ m. AllByRecursion (λ k. IsQuietCall n up down tick k) (take m ks)) (sym none) (none_taken (λ k. IsQuietCall n up down tick k) ks)
+front_quiet floor n tick up down clock f xs ks h sleep (inr off) =
+    subst (λ u. AllByRecursion (λ k. IsQuietCall n u down tick k) (take f ks)) (sym off.0)
+    (subst (λ d. AllByRecursion (λ k. IsQuietCall n 0 d tick k) (take f ks)) (sym off.1) (quiet_asleep floor n tick clock f xs ks h sleep))

@@ -1,0 +1,35 @@
+-- Sessions with nothing due: a session that waits for nothing does nothing, however many ticks pass. Cited by the model
+-- of the calls that are kept, and by the private functions on elapsed time.
+use Rattle.std.specs.Prelude.{◌≡◌, ◌≤◌, ◌⊎◌, ℕ, List, Option, Some, None, length, take, drop}
+use Rattle.std.specs.List.{AllByRecursion}
+use Rattle.psap_machine.specs.declared.session.Session.{Session}
+use Rattle.psap_machine.specs.Point.{Point}
+use Rattle.psap_machine.specs.PointRows.{due_of}
+use Rattle.psap_machine.specs.SessionStands.{SessionStandsFor}
+use Rattle.channel_sim.specs.declared.calls.Call.{Call}
+
+-- whatever state this session stands for, nothing is due in it
+abbrev pub NothingDue : Option Session → Type 0
+NothingDue None = Unit {0}
+NothingDue (Some session) = (s : Point) → SessionStandsFor session s → due_of s ≡ None
+
+abbrev pub Sleeps : Call → Type 0
+Sleeps k = NothingDue k.session
+
+-- in so many of the first of these calls nothing is due
+pub record AreAsleep (n : ℕ) (calls : List Call) : Type 0 where
+  pub within : n ≤ length calls
+  pub sleep : AllByRecursion Sleeps (take n calls)
+
+-- all of these calls but the first, in which nothing is due
+pub record IsAwakePart (part calls : List Call) : Type 0 where
+  pub front : ℕ
+  pub same : part ≡ drop front calls
+  pub sleep : AllByRecursion Sleeps (take front calls)
+
+-- the same, and none is left out while a flow is on
+pub record IsStirringPart (up_flow down_flow : ℕ) (part calls : List Call) : Type 0 where
+  pub front : ℕ
+  pub same : part ≡ drop front calls
+  pub sleep : AllByRecursion Sleeps (take front calls)
+  pub off : (front ≡ 0) ⊎ ((up_flow ≡ 0) × (down_flow ≡ 0))
