@@ -19,7 +19,7 @@ ghost use Rattle.ecall_top.specs.Frames.{frame_line, joined, rest_line};
 ghost use Rattle.ecall_top.specs.Outcome.{Outcome, ReadCause, Streams, WriteCause, streams_of};
 ghost use Rattle.ecall_top.specs.inner.EncodeTurns.{IsOfLine};
 ghost use Rattle.ecall_top.specs.inner.Ends.{EndsWithText};
-ghost use Rattle.ecall_top.specs.inner.FrameTurns.{FramesStanding, FrameTurn, TakesLine, TakesOn, TakesPiece, last_line};
+ghost use Rattle.ecall_top.specs.inner.FrameTurns.{FramesStanding, FrameTurn, TakesLine, TakesOn, TakesPiece, last_line, room_of};
 ghost use Rattle.ecall_top.specs.declared.command.Command.TheVariants as command;
 
 use crate::reading::read_line;
@@ -37,8 +37,9 @@ const MOST_OCTETS: usize = 256;
 /// of 140 octets, each but the first behind a space, and its newline.
 const LONGEST_LINE: usize = 294;
 
-/// The line of a frame that is being built.
-type FrameText = ArrayVec<u8, LONGEST_LINE>;
+/// The most bytes that the line of a frame without a set has: `app`, a request of 3 digits and `positive`, each but the
+/// first behind a space, and its newline.
+const LONGEST_SHORT: usize = 17;
 
 /// Writes the frames of the stream whose pieces the input has in hexadecimal, one on each line. It takes no memory.
 pub(crate) fn read_frames<I: Source, O: Sink>(input: &mut I, output: &mut Block<'_, O>) -> Status
@@ -216,7 +217,7 @@ fn write_whole<O: Sink>(reader: &Reader, output: &mut O) -> Result<(), Failed>
     ensures onward { Onward (O.way output.old) (O.way output.new) }
 {
     match reader.frame() {
-        Some(frame) => write_all(output, frame_text(&frame).as_slice()),
+        Some(frame) => write_frame(&frame, output),
         None => Ok(()),
     }
 }
@@ -246,71 +247,106 @@ fn rest_text(count: u8) -> ArrayVec<u8, 16>
     line
 }
 
-/// The line of a frame.
-fn frame_text(frame: &FrameRef<'_>) -> FrameText
-    ensures { result.items ≡ frame_line (lent frame.now) }
-{
-    let mut line = words_text(frame);
-    line.push(b'\n');
-    line
-}
-
-/// The words of a frame.
-fn words_text(frame: &FrameRef<'_>) -> FrameText
-    ensures bytes { result.items ≡ joined (frame_words (lent frame.now)) }
-    ensures len { array_vec_len result < LONGEST_LINE }
+/// Writes the line of a frame, in no more room than its kind may want.
+fn write_frame<O: Sink>(frame: &FrameRef<'_>, output: &mut O) -> Result<(), Failed>
+    ensures whole { OnOk result (Grew (O.held output.old) (O.held output.new) (frame_line (lent frame.now))) }
+    ensures partly { OnErr result (GrewPartly (O.held output.old) (O.held output.new) (frame_line (lent frame.now))) }
+    ensures cause { OnErr result (Rose (O.faults output.old) (O.faults output.new)) }
+    ensures stood { OnOk result (O.faults output.new ≡ O.faults output.old) }
+    ensures counted { O.faults output.old ≤ O.faults output.new }
+    ensures onward { Onward (O.way output.old) (O.way output.new) }
 {
     match frame {
-        FrameRef::Init => word_text("init"),
-        FrameRef::Start(request) => request_text("start", *request),
+        FrameRef::Content { .. } => {
+            let mut line = ArrayVec::<u8, LONGEST_LINE>::new();
+            push_frame(&mut line, frame);
+            write_all(output, line.as_slice())
+        }
+        FrameRef::Init
+        | FrameRef::Start(_)
+        | FrameRef::Nack(_)
+        | FrameRef::Ack(_)
+        | FrameRef::App { .. } => {
+            let mut line = ArrayVec::<u8, LONGEST_SHORT>::new();
+            push_frame(&mut line, frame);
+            write_all(output, line.as_slice())
+        }
+    }
+}
+
+/// Builds the line of a frame.
+fn push_frame<const N: usize>(line: &mut ArrayVec<u8, N>, frame: &FrameRef<'_>)
+    requires empty { line.old.items ≡ [] }
+    requires room { room_of (lent frame.now) ≤ N }
+    ensures { line.new.items ≡ frame_line (lent frame.now) }
+{
+    push_words(line, frame);
+    line.push(b'\n');
+}
+
+/// Appends the words of a frame.
+fn push_words<const N: usize>(line: &mut ArrayVec<u8, N>, frame: &FrameRef<'_>)
+    requires empty { line.old.items ≡ [] }
+    requires room { room_of (lent frame.now) ≤ N }
+    ensures bytes { line.new.items ≡ joined (frame_words (lent frame.now)) }
+    ensures len { array_vec_len line.new < N }
+{
+    match frame {
+        FrameRef::Init => push_first(line, "init"),
+        FrameRef::Start(request) => push_request(line, "start", *request),
         FrameRef::Content {
             request,
             attempt,
             octets,
-        } => data_text(*request, *attempt, octets),
-        FrameRef::Nack(request) => request_text("nack", *request),
-        FrameRef::Ack(request) => request_text("ack", *request),
-        FrameRef::App { request, answer } => app_text(*request, *answer),
+        } => push_data(line, *request, *attempt, octets),
+        FrameRef::Nack(request) => push_request(line, "nack", *request),
+        FrameRef::Ack(request) => push_request(line, "ack", *request),
+        FrameRef::App { request, answer } => push_app(line, *request, *answer),
     }
 }
 
-/// One word.
-fn word_text(word: &str) -> FrameText
-    requires { length word.now ≤ 5 }
-    ensures bytes { result.items ≡ joined (word.now ∷ []) }
-    ensures len { array_vec_len result ≡ length word.now }
+/// Puts the first word.
+fn push_first<const N: usize>(line: &mut ArrayVec<u8, N>, word: &str)
+    requires empty { line.old.items ≡ [] }
+    requires room { length word.now ≤ N }
+    ensures bytes { line.new.items ≡ joined (word.now ∷ []) }
+    ensures len { array_vec_len line.new ≡ length word.now }
 {
-    let mut line = ArrayVec::new();
     line.try_extend_from_slice(word.as_bytes()).unwrap();
-    line
 }
 
-/// A frame's first word with its request.
-fn request_text(word: &str, request: Request) -> FrameText
-    requires { length word.now ≤ 5 }
-    ensures bytes { result.items ≡ joined (word.now ∷ decimal request ∷ []) }
-    ensures len { array_vec_len result ≤ length word.now + 4 }
+/// Puts a frame's first word with its request.
+fn push_request<const N: usize>(line: &mut ArrayVec<u8, N>, word: &str, request: Request)
+    requires empty { line.old.items ≡ [] }
+    requires room { length word.now + 3 < N }
+    ensures bytes { line.new.items ≡ joined (word.now ∷ decimal request ∷ []) }
+    ensures len { array_vec_len line.new ≤ length word.now + 4 }
 {
-    let mut line = word_text(word);
-    push_number(&mut line, request.number());
-    line
+    push_first(line, word);
+    push_number(line, request.number());
 }
 
-/// The words of a frame that carries a set.
-fn data_text(request: Request, attempt: u8, octets: &[u8; OCTETS]) -> FrameText
-    ensures bytes { result.items
+/// Puts the words of a frame that carries a set.
+fn push_data<const N: usize>(
+    line: &mut ArrayVec<u8, N>,
+    request: Request,
+    attempt: u8,
+    octets: &[u8; OCTETS],
+)
+    requires empty { line.old.items ≡ [] }
+    requires room { 294 ≤ N }
+    ensures bytes { line.new.items
         ≡ joined (codes "data" ∷ decimal request ∷ decimal attempt ∷ encode_lower octets.now ∷ []) }
-    ensures len { array_vec_len result < LONGEST_LINE }
+    ensures len { array_vec_len line.new < N }
 {
-    let mut line = request_text("data", request);
-    push_number(&mut line, attempt);
-    push_octets(&mut line, octets);
-    line
+    push_request(line, "data", request);
+    push_number(line, attempt);
+    push_octets(line, octets);
 }
 
 /// Appends the octets of a set behind a space, in hexadecimal.
-fn push_octets(line: &mut FrameText, octets: &[u8; OCTETS])
-    requires { array_vec_len line.old ≤ 13 }
+fn push_octets<const N: usize>(line: &mut ArrayVec<u8, N>, octets: &[u8; OCTETS])
+    requires { array_vec_len line.old + 281 ≤ N }
     ensures bytes { line.new.items ≡ line.old.items ++ space ∷ encode_lower octets.now }
     ensures len { array_vec_len line.new ≡ array_vec_len line.old + 281 }
 {
@@ -320,14 +356,15 @@ fn push_octets(line: &mut FrameText, octets: &[u8; OCTETS])
     line.try_extend_from_slice(&digits).unwrap();
 }
 
-/// The words of the application acknowledgement.
-fn app_text(request: Request, answer: Answer) -> FrameText
-    ensures bytes { result.items ≡ joined (codes "app" ∷ decimal request ∷ answer_word answer ∷ []) }
-    ensures len { array_vec_len result < LONGEST_LINE }
+/// Puts the words of the application acknowledgement.
+fn push_app<const N: usize>(line: &mut ArrayVec<u8, N>, request: Request, answer: Answer)
+    requires empty { line.old.items ≡ [] }
+    requires room { 17 ≤ N }
+    ensures bytes { line.new.items ≡ joined (codes "app" ∷ decimal request ∷ answer_word answer ∷ []) }
+    ensures len { array_vec_len line.new < N }
 {
-    let mut line = request_text("app", request);
-    push_word(&mut line, answer_name(answer));
-    line
+    push_request(line, "app", request);
+    push_word(line, answer_name(answer));
 }
 
 fn answer_name(answer: Answer) -> &'static str

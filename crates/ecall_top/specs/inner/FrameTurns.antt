@@ -7,6 +7,7 @@ use Rattle.link_frames.specs.Reading as frames
 use Rattle.link_frames.specs.Streams.{Holds, FrameStops}
 use Rattle.link_frames.specs.declared.fault.FrameFault.{FrameFault}
 use Rattle.link_frames.specs.declared.frame.Frame.{Frame}
+use Rattle.link_frames.specs.declared.frame.Frame.TheVariants as frame
 use Rattle.trace_text.specs.Lines.{most_bytes}
 use Rattle.trace_text.specs.Reading.{Reading}
 use Rattle.trace_text.specs.declared.reason.Reason.{Reason}
@@ -37,6 +38,11 @@ pub record FramesStanding (start now : Streams) (reading : Reading) (reader : fr
 abbrev pub last_line : Option Frame → List ℕ
 last_line None = []
 last_line (Some frame) = frame_line frame
+
+-- the most bytes that the line of such a frame has
+abbrev pub room_of : Frame → ℕ
+room_of (frame.Content request attempt octets) = 294
+room_of _ = 17
 
 -- A piece went on with the stream, and the lines of the frames that end in it were written.
 pub record WentOn (stream : List ℕ) (ended : List Frame) (piece : List ℕ) (held held' : Option (List ℕ))
