@@ -1,8 +1,8 @@
 #!/usr/bin/env python3
 """run.py PROGRAM: how many sets of data `PROGRAM decode` reads and describes a second, in 4 MB of address space; how much
 processor time that takes beside a plain program and beside a decoder that asn1c generates from format2.asn1; what decoding alone
-takes of both; what encoding alone takes of both; with how many calls the text is written; and what `PROGRAM encode` and `PROGRAM run`
-take beside the plain program. Parts that need a tool that isn't there are skipped in a line."""
+takes of both; what encoding alone takes of both; with how many calls the text is written; and what `PROGRAM encode`, `PROGRAM run` and the
+other commands take beside the plain program. Parts that need a tool that isn't there are skipped in a line."""
 import glob
 import os
 import re
@@ -28,6 +28,17 @@ ENCODINGS = 50_000
 WRITES = 50_000
 # the kinds of scripts.py, each with how many it is measured with, and then with twice as many
 SCRIPTS = {"mixed": 2_000, "calls": 20_000, "flows": 1_000, "one": 200_000, "legs": 1_000, "callbacks": 150_000}
+# the other commands, each with what makes its input (none: the trace of a script, or nothing), a kind of it, and how much of it is
+# measured, and then twice as much, which has to stay below the greatest input
+OTHERS = [
+    (["register"], "scripts.py", ["mixed"], 2_000),
+    (["replay"], None, ["mixed"], 1_650),
+    (["replay"], "traces.py", ["again"], 20_000),
+    (["replay"], "traces.py", ["up"], 100_000),
+    (["frames"], "stream.py", [], 20_000),
+    (["make", "0"], None, [], None),
+    (["trial", "0"], None, [], None),
+]
 
 
 class Skipped(Exception):
@@ -165,18 +176,23 @@ def encodes(program, plain, folder):
         print(f"  {what:<34} {seconds:7.3f} s  {times[0] / seconds:5.2f}")
 
 
-def write_script(folder, kind, count):
-    path = os.path.join(folder, f"{kind}-{count}.script")
-    with open(path, "wb") as script:
-        subprocess.run([sys.executable, os.path.join(HERE, "scripts.py"), kind, str(count)], stdout=script, check=True)
+def written(folder, maker, *words):
+    """The file with what a script of this folder writes for these words."""
+    path = os.path.join(folder, "-".join([maker, *words]))
+    with open(path, "wb") as file:
+        subprocess.run([sys.executable, os.path.join(HERE, maker), *words], stdout=file, check=True)
     return path
 
 
-def same_trace(commands, path):
-    """The bytes of the trace of a script, which all commands write alike."""
+def write_script(folder, kind, count):
+    return written(folder, "scripts.py", kind, str(count))
+
+
+def same_text(commands, path):
+    """The bytes of the text of these commands, which all write alike."""
     text = [subprocess.run(command, stdin=open(path, "rb"), capture_output=True).stdout for command in commands]
     if any(other != text[0] for other in text):
-        raise OSError(f"the traces of {os.path.basename(path)} differ")
+        raise OSError(f"the texts of `{' '.join(commands[0][1:])}` over {os.path.basename(path)} differ")
     return len(text[0])
 
 
@@ -187,11 +203,42 @@ def plays(program, plain, folder):
     print(f"{'kind':>10} {'count':>8} {'trace':>10} {'ecall':>8} {'plain':>8} {'ratio':>6} {'doubled':>8} {'ratio':>6}")
     for kind, count in SCRIPTS.items():
         path, double = write_script(folder, kind, count), write_script(folder, kind, 2 * count)
-        size = same_trace(commands, path)
+        size = same_text(commands, path)
         times = least(commands, path)
         [twice] = least(commands[:1], double)
         beside_plain = f"{times[1]:8.3f} {times[0] / times[1]:6.2f}" if plain else f"{'-':>8} {'-':>6}"
         print(f"{kind:>10} {count:>8} {size:>10} {times[0]:8.3f} {beside_plain} {twice:8.3f} {twice / times[0]:6.2f}")
+
+
+def inputs(program, folder, maker, kind, count):
+    """The file that a command reads: what a script of this folder writes, or the trace of a script, or nothing."""
+    if maker:
+        return written(folder, maker, *kind, str(count))
+    path = os.path.join(folder, "-".join(["trace", *kind, str(count)]))
+    script = write_script(folder, kind[0], count) if kind else os.devnull
+    with open(script, "rb") as reads, open(path, "wb") as trace:
+        subprocess.run([program, "run"], stdin=reads, stdout=trace, check=True)
+    return path
+
+
+def others(program, plain, folder):
+    """The processor time of the other commands, beside the plain program's, and that of twice as much."""
+    print("\nOther commands: processor time of `ecall`, of the plain program, and of twice as much")
+    print(f"{'command':>10} {'input':>8} {'count':>8} {'ecall':>8} {'plain':>8} {'ratio':>6} {'doubled':>8} {'ratio':>6}")
+    for words, maker, kind, count in OTHERS:
+        commands = [[program, *words]] + ([[plain, *words]] if plain else [])
+        path = inputs(program, folder, maker, kind, count)
+        same_text(commands, path)
+        times = least(commands, path)
+        what = f"{' '.join(words):>10} {(kind or ['-'])[0]:>8} {count or '-':>8} {times[0]:8.3f}"
+        beside_plain = f"{times[1]:8.3f} {times[0] / times[1]:6.2f}" if plain else f"{'-':>8} {'-':>6}"
+        doubled = ""
+        if count:
+            [twice] = least(commands[:1], inputs(program, folder, maker, kind, 2 * count))
+            doubled = f"{twice:8.3f} {twice / times[0]:6.2f}"
+        print(f"{what} {beside_plain} {doubled}")
+    [played] = least([[program, "run"]], write_script(folder, "mixed", 2_000))
+    print(f"  (`make 0` writes the script of kind mixed, which `trial 0` plays; `run` takes {played:.3f} s for it)")
 
 
 def instructions(command, text):
@@ -297,6 +344,7 @@ def main(program):
         beside(program, plain, generated, known)
         encodes(program, plain, folder)
         plays(program, plain, folder)
+        others(program, plain, folder)
         attempt("decoding alone", lambda _: alone(program, generated, known), folder)
         attempt("encoding alone", lambda here: encoding(generated, known, here), os.path.join(folder, "encoder"))
         attempt("calls of write", lambda _: writes(program, known), folder)

@@ -1,0 +1,25 @@
+#!/usr/bin/env python3
+"""stream.py COUNT: writes a stream of frames in hexadecimal, COUNT times one of each kind, in pieces that seldom end
+with a frame; always the same for the same word."""
+import sys
+
+SET = "02000681d54970d65c3597ca0420c414640af05f080452e9960413e2550168".ljust(280, "0")
+PIECE = 250
+
+
+def main(count):
+    kept = ""
+    for k in range(count):
+        r = f"{1 + k % 255:02x}"
+        kept += f"0102{r}03{r}00{SET}04{r}05{r}06{r}0106{r}02"
+        end = len(kept) - len(kept) % PIECE
+        sys.stdout.writelines(f"{kept[at:at + PIECE]}\n" for at in range(0, end, PIECE))
+        kept = kept[end:]
+    if kept:
+        print(kept)
+
+
+if __name__ == "__main__":
+    if len(sys.argv) != 2:
+        sys.exit(__doc__)
+    main(int(sys.argv[1]))
