@@ -35,25 +35,29 @@ impl fmt::Display for Explanation<'_> {
 /// What holds of all that was written where the answer was cut short.
 const BEGINNING: &str = "what was written is the beginning of an answer";
 
-/// What the commands do that are built.
-const BUILT: &str =
+/// What the commands do.
+const COMMANDS: &str =
     "`ecall run` plays a script, `ecall register` writes the register of its calls, `ecall decode` describes sets of \
     data, `ecall encode` makes them, `ecall frames` reads a stream of frames and `ecall replay` audits a trace, from \
-    standard input";
+    standard input; `ecall make N` writes the script of a number, `ecall trial N` counts what it comes to, and \
+    `ecall conform` reads known vectors";
 
-/// Whether a command of this name is planned and not built yet.
-fn is_planned(word: &str) -> bool {
-    matches!(word, "trial" | "make" | "conform")
+/// Whether a command of this name wants a number.
+fn wants_number(word: &str) -> bool {
+    matches!(word, "trial" | "make")
 }
 
 /// Why the words are no form of words.
 fn write_usage<W: fmt::Write>(f: &mut fmt::Formatter<W>, word: Option<&str>) -> fmt::Result {
     match word {
-        None => write!(f, "no command was given: {BUILT}"),
-        Some(word) if is_planned(word) => {
-            write!(f, "`{word}` is planned and isn't built yet: {BUILT}")
+        None => write!(f, "no command was given: {COMMANDS}"),
+        Some(word) if wants_number(word) => {
+            write!(
+                f,
+                "`{word}` wants one number, 0 to 4294967295 without leading zeros, as in `ecall {word} 0`"
+            )
         }
-        Some(_) => write!(f, "these words are no command: {BUILT}"),
+        Some(_) => write!(f, "these words are no command: {COMMANDS}"),
     }
 }
 

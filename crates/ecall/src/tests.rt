@@ -226,7 +226,7 @@ fn explains_words_and_faults(rt: HostRuntime) -> Result<(), Fail> {
         (
             Status::Usage,
             Some("make"),
-            "`make` is planned and isn't built yet: ",
+            "`make` wants one number, 0 to 4294967295 without leading zeros, as in `ecall make 0`",
         ),
         (
             Status::Usage,

@@ -80,7 +80,7 @@ ends_done start now old new Stands left s reads =
         counted = counted_reply start.passes now.passes input _ script s.counted;
       },
       ap (λ x. (ended (text_of (script_trace x)) x.refused).status) script,
-      whole_end start now old new left s.front reads.taken s.taken reads.draws reads.limit reads.finds.0,
+      inl (whole_end start now old new left s.front reads.taken s.taken reads.draws reads.limit reads.finds.0),
     )
 
 -- the reply to a script that is known

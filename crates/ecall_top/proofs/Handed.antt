@@ -9,7 +9,7 @@ use Rattle.call_io.proofs.BytesLemmas.{GrewPartly-whole}
 use Rattle.ecall_top.specs.declared.command.Command.{Command}
 use Rattle.ecall_top.specs.declared.status.Status.{Status}
 use Rattle.ecall_top.specs.declared.status.Status.TheVariants as status
-use Rattle.ecall_top.specs.Outcome.{Streams, Answered, CutShort, Outcome, ReadCause}
+use Rattle.ecall_top.specs.Outcome.{Streams, Answered, CutShort, EndsUnread, Outcome, ReadCause}
 use Rattle.ecall_top.specs.Refusals.{Reply}
 use Rattle.ecall_top.specs.inner.Ends.{IsFault, HandsOver, stays, fails}
 
@@ -137,3 +137,9 @@ handed_memory answer result rest (stays same empty) memory = sym same ∙ memory
 handed_memory answer result rest (fails sound same) memory =
     let no : status.WriteFault ≡ status.Memory = sym same ∙ memory in
     absurd (cc no)
+
+-- handing over makes no other answer of one of what reads nothing
+pub handed_unread : (answer result : Status) (rest : List ℕ) → HandsOver answer rest result → EndsUnread answer
+    → EndsUnread result
+handed_unread answer result rest (stays same empty) ends = subst EndsUnread (sym same) ends
+handed_unread answer result rest (fails sound same) ends = subst EndsUnread (sym same) tt

@@ -253,7 +253,7 @@ module _ {last : List ℕ} (asked : Option Command) (Rest : ℕ → List (List �
       counted = omega (arith, s.still);
     },
     refl,
-    whole_end start now old new left s.front reads.taken s.taken reads.draws reads.limit reads.finds.0,
+    inl (whole_end start now old new left s.front reads.taken s.taken reads.draws reads.limit reads.finds.0),
   )
 
   -- the text at the end could not be written whole

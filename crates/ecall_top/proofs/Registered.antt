@@ -261,8 +261,8 @@ registers_ended start now old new stage rows left between held same answer write
             counted = counted_reply start.passes now.passes input _ script s.lines.counted;
           },
           refl,
-          whole_end (untold start) (untold now) old new left s.lines.front reads.taken s.lines.taken reads.draws
-              reads.limit reads.finds.0,
+          inl (whole_end (untold start) (untold now) old new left s.lines.front reads.taken s.lines.taken reads.draws
+              reads.limit reads.finds.0),
         )
     by_end (inl (inr h)) =
         subst (λ (a : Status). Outcome (Some command.Register) start (record now { left = left; held = held }) a)

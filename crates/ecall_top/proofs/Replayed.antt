@@ -110,7 +110,7 @@ module _ (left left' held held' : Option (List ℕ)) (passes : ℕ) where
         verdict_reply (verdict.Sound items),
         answered (verdict.Sound items) o.0 o.1 ends.1,
         refl,
-        o.2,
+        inl o.2,
       )
   replayed (verdict.Sound items) answer o (inr ends) =
       told answer status.WriteFault ends.0 (o.0, cut (verdict.Sound items) o.0 o.1 ends.1)

@@ -1,7 +1,8 @@
 -- Which command the words name: each form of words is an exact list. This project's profile. Cited by the reply to
 -- words and an input.
-use Rattle.std.specs.Prelude.{ℕ, Bool, true, false, List, [], ◌∷◌, Option, Some, None, codes, if◌then◌else◌}
+use Rattle.std.specs.Prelude.{ℕ, ◌^◌, Bool, true, false, List, [], ◌∷◌, Option, Some, None, codes, if◌then◌else◌}
 use Rattle.std.specs.Str.{bytes_eq}
+use Rattle.trace_text.specs.Numbers.{natural_below}
 use Rattle.ecall_top.specs.declared.command.Command.{Command}
 use Rattle.ecall_top.specs.declared.command.Command.TheVariants as command
 
@@ -14,17 +15,32 @@ command_named word =
     else if bytes_eq word (codes "encode") then Some command.Encode
     else if bytes_eq word (codes "frames") then Some command.Frames
     else if bytes_eq word (codes "replay") then Some command.Replay
+    else if bytes_eq word (codes "conform") then Some command.Conform
     else None
+
+-- the command of a word and a number
+abbrev pub command_numbered : List ℕ → ℕ → Option Command
+command_numbered word number =
+    if bytes_eq word (codes "make") then Some (command.Make number)
+    else if bytes_eq word (codes "trial") then Some (command.Trial number)
+    else None
+
+-- the same, where the second word is a number
+abbrev pub command_at : List ℕ → Option ℕ → Option Command
+command_at word None = None
+command_at word (Some number) = command_numbered word number
 
 -- the command that the words name; no other words are a form of words
 abbrev pub command_of : List (List ℕ) → Option Command
 command_of (word ∷ []) = command_named word
+command_of (word ∷ number ∷ []) = command_at word (natural_below (2 ^ 32) number)
 command_of _ = None
 
 -- whether a command plays a script, and so passes the ends of its calls
 abbrev pub plays : Option Command → Bool
 plays (Some command.Run) = true
 plays (Some command.Register) = true
+plays (Some (command.Trial number)) = true
 plays _ = false
 
 -- whether a command takes memory
@@ -32,4 +48,13 @@ abbrev pub takes_memory : Option Command → Bool
 takes_memory (Some command.Run) = true
 takes_memory (Some command.Replay) = true
 takes_memory (Some command.Register) = true
+takes_memory (Some (command.Trial number)) = true
 takes_memory _ = false
+
+-- whether a command reads an input
+abbrev pub reads : Option Command → Bool
+reads None = false
+reads (Some (command.Make number)) = false
+reads (Some (command.Trial number)) = false
+reads (Some command.Conform) = false
+reads _ = true

@@ -1,13 +1,14 @@
 -- What an answer of `ecall` says of the bytes that it took from its input and wrote to its output, of how often it
 -- passed the ends of its calls, and of the reads and writes that failed. This project's profile. Cited by the contract
 -- of `ecall`. Where a source or a sink doesn't tell its bytes, nothing is said of them.
-use Rattle.std.specs.Prelude.{◌≡◌, ℕ, ◌+◌, ◌<◌, ◌≤◌, ◌⊎◌, List, [], ◌∷◌, ◌++◌, length, Option}
+use Rattle.std.specs.Prelude.{◌≡◌, ℕ, ◌+◌, ◌<◌, ◌≤◌, ◌⊎◌, false, List, [], ◌++◌, length, Option}
 use Rattle.std.specs.List.{AllByRecursion}
 use Rattle.call_io.specs.Bytes.{Took, Grew, GrewPartly}
 use Rattle.call_io.specs.Counts.{Rose}
 use Rattle.trace_text.specs.Feed.{IsInner}
 use Rattle.trace_text.specs.Lines.{AreWholeLines, IsWhole, most_bytes, most_in_line}
 use Rattle.ecall_top.specs.declared.command.Command.{Command}
+use Rattle.ecall_top.specs.Commands.{reads}
 use Rattle.ecall_top.specs.declared.status.Status.{Status}
 use Rattle.ecall_top.specs.declared.status.Status.TheVariants as status
 use Rattle.ecall_top.specs.Refusals.{Reply}
@@ -62,10 +63,15 @@ pub record RunsOver (asked : Option Command) (input : List ℕ) : Type 0 where
   pub short : length unended ≤ most_in_line
   pub unrefused : (r : Reply) × Replies asked front r × (r.status ≡ status.Done)
 
+-- The input was read to its end, or the command reads none, and took nothing.
+abbrev pub IsRead : Option Command → (left : Option (List ℕ)) → (input : List ℕ) → Type 0
+IsRead asked left input = IsWhole left input ⊎ ((reads asked ≡ false) × (input ≡ []))
+
 -- what an answer says of the bytes taken and written
 abbrev pub Outcome : Option Command → (old new : Streams) → Status → Type 0
 Outcome asked old new status.Done =
-    (input : List ℕ) × (r : Reply) × Answered asked old new input r × (r.status ≡ status.Done) × IsWhole new.left input
+    (input : List ℕ) × (r : Reply) × Answered asked old new input r × (r.status ≡ status.Done)
+    × IsRead asked new.left input
 Outcome asked old new status.Usage = (r : Reply) × Answered asked old new [] r × (r.status ≡ status.Usage)
 Outcome asked old new (status.Refused why) =
     (input : List ℕ) × (r : Reply) × Answered asked old new input r × (r.status ≡ status.Refused why)
@@ -87,3 +93,11 @@ ReadCause _ old new = new ≡ old
 abbrev pub WriteCause : Status → (old new : ℕ) → Type 0
 WriteCause status.WriteFault old new = Rose old new
 WriteCause _ old new = new ≡ old
+
+-- the answers of what reads nothing
+abbrev pub EndsUnread : Status → Type 0
+EndsUnread status.Done = Unit {0}
+EndsUnread status.Usage = Unit {0}
+EndsUnread status.WriteFault = Unit {0}
+EndsUnread status.Memory = Unit {0}
+EndsUnread _ = ⊥

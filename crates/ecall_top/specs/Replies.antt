@@ -6,13 +6,16 @@ use Rattle.trace_text.specs.Script.{script_of}
 use Rattle.ecall_top.specs.declared.command.Command.{Command}
 use Rattle.ecall_top.specs.declared.command.Command.TheVariants as command
 use Rattle.ecall_top.specs.declared.status.Status.TheVariants as status
+use Rattle.ecall_top.specs.Conform.{IsConformed}
 use Rattle.ecall_top.specs.Decode.{IsDecoded}
 use Rattle.ecall_top.specs.Encode.{encode_reply}
 use Rattle.ecall_top.specs.Frames.{IsFrames}
+use Rattle.ecall_top.specs.Make.{made_script}
 use Rattle.ecall_top.specs.Refusals.{Reply}
 use Rattle.ecall_top.specs.Replay.{IsReplayed}
 use Rattle.ecall_top.specs.Register.{register_reply}
 use Rattle.ecall_top.specs.Run.{run_reply, script_passes}
+use Rattle.ecall_top.specs.Trial.{trial_reply}
 
 abbrev pub usage_line : List ℕ
 usage_line = codes "usage: ecall run|register|decode|encode|frames|replay|trial N|make N|conform" ++ newline ∷ []
@@ -26,9 +29,13 @@ Replies (Some command.Decode) input r = IsDecoded input r
 Replies (Some command.Encode) input r = r ≡ encode_reply input
 Replies (Some command.Frames) input r = IsFrames input r
 Replies (Some command.Replay) input r = IsReplayed input r
+Replies (Some (command.Make number)) input r = r ≡ record { text = made_script number; status = status.Done }
+Replies (Some (command.Trial number)) input r = r ≡ trial_reply number
+Replies (Some command.Conform) input r = IsConformed r.text × (r.status ≡ status.Done)
 
 -- how often the ends are passed at most for a command and an input: by playing its script
 abbrev pub passes_of : Option Command → List ℕ → ℕ
 passes_of (Some command.Run) input = script_passes (script_of input)
 passes_of (Some command.Register) input = script_passes (script_of input)
+passes_of (Some (command.Trial number)) input = script_passes (script_of (made_script number))
 passes_of _ input = 0

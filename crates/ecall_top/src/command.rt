@@ -2,7 +2,9 @@
 
 ghost use Rattle.std.specs.Prelude.{◌≡◌, map};
 ghost use Rattle.std.specs.String.{string_bytes};
-ghost use Rattle.ecall_top.specs.Commands.{command_of};
+ghost use Rattle.ecall_top.specs.Commands.{command_named, command_numbered, command_of};
+
+use trace_text::read_u32;
 
 /// What the words ask for.
 #[derive(Clone, Copy, Debug, PartialEq, Eq)]
@@ -19,6 +21,12 @@ pub enum Command {
     Frames,
     /// Say whether the trace that the input has is safe, and where it breaks a rule.
     Replay,
+    /// Write the script of a number.
+    Make(u32),
+    /// Play the script of a number, and write what its trace comes to.
+    Trial(u32),
+    /// Write the sets of the vectors, or why they are none.
+    Conform,
 }
 
 /// The command that the words name, if they name one.
@@ -26,23 +34,44 @@ pub(crate) fn read_command(words: &[String]) -> Option<Command>
     ensures { result ≡ command_of (map string_bytes words.now) }
 {
     match words {
-        [word] => {
-            if word.as_str() == "run" {
-                Some(Command::Run)
-            } else if word.as_str() == "register" {
-                Some(Command::Register)
-            } else if word.as_str() == "decode" {
-                Some(Command::Decode)
-            } else if word.as_str() == "encode" {
-                Some(Command::Encode)
-            } else if word.as_str() == "frames" {
-                Some(Command::Frames)
-            } else if word.as_str() == "replay" {
-                Some(Command::Replay)
-            } else {
-                None
-            }
-        }
+        [word] => read_word(word.as_str()),
+        [word, number] => read_numbered(word.as_str(), read_u32(number.as_bytes())?),
         _ => None,
+    }
+}
+
+/// The command of one word.
+fn read_word(word: &str) -> Option<Command>
+    ensures { result ≡ command_named word.now }
+{
+    if word == "run" {
+        Some(Command::Run)
+    } else if word == "register" {
+        Some(Command::Register)
+    } else if word == "decode" {
+        Some(Command::Decode)
+    } else if word == "encode" {
+        Some(Command::Encode)
+    } else if word == "frames" {
+        Some(Command::Frames)
+    } else if word == "replay" {
+        Some(Command::Replay)
+    } else if word == "conform" {
+        Some(Command::Conform)
+    } else {
+        None
+    }
+}
+
+/// The command of a word and a number.
+fn read_numbered(word: &str, number: u32) -> Option<Command>
+    ensures { result ≡ command_numbered word.now number }
+{
+    if word == "make" {
+        Some(Command::Make(number))
+    } else if word == "trial" {
+        Some(Command::Trial(number))
+    } else {
+        None
     }
 }

@@ -1,15 +1,15 @@
 //! The commands of `ecall`: words and a whole input in, text and a status out.
 #![tactic(auto)]
 
-ghost use Rattle.std.specs.Prelude.{true, ◌≡◌, ◌≤◌, ◌⊎◌, ◌++◌, [], List, ℕ, Some, None, map};
+ghost use Rattle.std.specs.Prelude.{true, false, ◌≡◌, ◌≤◌, ◌⊎◌, ◌++◌, [], List, ℕ, Some, None, map};
 ghost use Rattle.std.specs.String.{string_bytes};
 ghost use Rattle.call_io.specs.Blocks.{held, pending, sink, sink_name, way};
 ghost use Rattle.call_io.specs.Ways.{Onward};
 ghost use Rattle.trace_text.specs.Safety.{Agreed, Bounded, Finished, Opened};
 ghost use Rattle.trace_text.specs.Script.{script_of};
-ghost use Rattle.ecall_top.specs.Commands.{command_of, plays, takes_memory};
+ghost use Rattle.ecall_top.specs.Commands.{command_of, plays, reads, takes_memory};
 ghost use Rattle.ecall_top.specs.CutTraces.{IsSafelyCut};
-ghost use Rattle.ecall_top.specs.Outcome.{Outcome, ReadCause, WriteCause, streams_of};
+ghost use Rattle.ecall_top.specs.Outcome.{EndsUnread, Outcome, ReadCause, WriteCause, streams_of};
 ghost use Rattle.ecall_top.specs.Replies.{usage_line};
 ghost use Rattle.ecall_top.specs.Run.{script_tick, script_trace};
 ghost use Rattle.ecall_top.specs.inner.Ends.{EndsWithText, HandsOver};
@@ -31,6 +31,8 @@ mod frames;
 mod frames_tests;
 mod laws;
 mod make;
+#[cfg(test)]
+mod make_tests;
 mod reading;
 mod refusal;
 #[cfg(test)]
@@ -60,7 +62,7 @@ pub use status::Status;
 use std::alloc::Global;
 use std::sync::ledger::Ledger;
 
-/// What the program says to words that are no form of words. It names the commands that are planned, too.
+/// What the program says to words that are no form of words.
 const USAGE: &[u8] =
     b"usage: ecall run|register|decode|encode|frames|replay|trial N|make N|conform\n";
 
@@ -75,11 +77,16 @@ const USAGE: &[u8] =
 /// hexadecimal, one a line. `frames` reads a stream of frames in hexadecimal, a piece a line; it writes one line a frame,
 /// and at the end how many octets of an unfinished one are left. `replay` reads a trace and writes one line: that the
 /// trace is safe, or which line breaks which rule, or is refused, and why. It takes memory for the legs that are up,
-/// their muting, and the sets that were shown. Other words write the usage line.
+/// their muting, and the sets that were shown. `make N` writes the script of the number N, 0 to 4294967295 without
+/// leading zeros: two thousand calls under flows that change. `trial N` plays that script and writes five lines: how
+/// many entries its trace has, how many calls the point took, how many sets it showed and how many the vehicle counts as
+/// acknowledged, and the tick of the last entry. It takes memory as `run` does. `conform` decodes sixteen known vectors
+/// and writes for each its canonical octets, or why it is no set. Other words write the usage line. These four read
+/// nothing.
 ///
 /// What is written is handed to `output` in blocks: where one is full, before each read of `input`, and at the end.
-/// After a failed read or write nothing more is read or written. `moments` counts how often `run` and `register` pass
-/// an end of a call.
+/// After a failed read or write nothing more is read or written. `moments` counts how often `run`, `register` and
+/// `trial` pass an end of a call.
 pub fn ecall<I: Source, O: Sink, L: Ledger>(
     alloc: Global,
     words: &[String],
@@ -111,6 +118,10 @@ pub fn ecall<I: Source, O: Sink, L: Ledger>(
     ensures uncounted { (plays (command_of (map string_bytes words.now)) ≡ true) ⊎ (moments.new ≡ moments.old) }
     // Memory is wanted by those commands alone that take any.
     ensures in_place { result ≡ Status.Memory → takes_memory (command_of (map string_bytes words.now)) ≡ true }
+    // Words that name no command, and commands that read nothing, leave the input as it was, and are done, or couldn't
+    // write, or had no memory.
+    ensures untouched { reads (command_of (map string_bytes words.now)) ≡ false → I.left input.new ≡ I.left input.old }
+    ensures unrefused { reads (command_of (map string_bytes words.now)) ≡ false → EndsUnread result }
     // A read failed where the answer says so, and else none did; the same of writes.
     ensures unread { ReadCause result (I.faults input.old) (I.faults input.new) }
     ensures unwritten { WriteCause result (O.faults output.old) (O.faults output.new) }
@@ -137,6 +148,8 @@ fn carry_out<I: Source, O: Sink, L: Ledger>(
         (result ≡ Status.Usage) ⊎ (result ≡ Status.WriteFault) }
     ensures uncounted { (plays (command_of (map string_bytes words.now)) ≡ true) ⊎ (moments.new ≡ moments.old) }
     ensures in_place { result ≡ Status.Memory → takes_memory (command_of (map string_bytes words.now)) ≡ true }
+    ensures untouched { reads (command_of (map string_bytes words.now)) ≡ false → I.left input.new ≡ I.left input.old }
+    ensures unrefused { reads (command_of (map string_bytes words.now)) ≡ false → EndsUnread result }
     ensures unread { ReadCause result (I.faults input.old) (I.faults input.new) }
     ensures unwritten { WriteCause result (O.faults (sink output.old)) (O.faults (sink output.new)) }
     ensures reads_counted { I.faults input.old ≤ I.faults input.new }
@@ -162,6 +175,8 @@ fn reply<I: Source, O: Sink, L: Ledger>(
         (result ≡ Status.Usage) ⊎ (result ≡ Status.WriteFault) }
     ensures uncounted { (plays (command_of (map string_bytes words.now)) ≡ true) ⊎ (moments.new ≡ moments.old) }
     ensures in_place { result ≡ Status.Memory → takes_memory (command_of (map string_bytes words.now)) ≡ true }
+    ensures untouched { reads (command_of (map string_bytes words.now)) ≡ false → I.left input.new ≡ I.left input.old }
+    ensures unrefused { reads (command_of (map string_bytes words.now)) ≡ false → EndsUnread result }
     ensures unread { ReadCause result (I.faults input.old) (I.faults input.new) }
     ensures unwritten { WriteCause result (O.faults (sink output.old)) (O.faults (sink output.new)) }
     ensures reads_counted { I.faults input.old ≤ I.faults input.new }
@@ -175,6 +190,9 @@ fn reply<I: Source, O: Sink, L: Ledger>(
         Some(Command::Encode) => encode::encode_sets(input, output),
         Some(Command::Frames) => frames::read_frames(input, output),
         Some(Command::Replay) => replay::replay(alloc, input, output),
+        Some(Command::Make(number)) => make::make(number, output),
+        Some(Command::Trial(number)) => trial::trial(alloc, number, output, moments),
+        Some(Command::Conform) => conform::conform(output),
         None => usage(output),
     }
 }

@@ -278,7 +278,10 @@ fn refuses_and_ends(rt: HostRuntime) -> Result<(), Fail> {
         ("run", "\n\n# nothing\n", Status::Done, ""),
         ("run fast", "", Status::Usage, usage),
         ("decode all", "", Status::Usage, usage),
-        ("conform", "", Status::Usage, usage),
+        ("conform 1", "", Status::Usage, usage),
+        ("make", "", Status::Usage, usage),
+        ("make 01", "", Status::Usage, usage),
+        ("trial 4294967296", "", Status::Usage, usage),
         ("--help", "", Status::Usage, usage),
         ("", "", Status::Usage, usage),
     ];

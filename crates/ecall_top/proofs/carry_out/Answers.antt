@@ -2,7 +2,7 @@ use Rattle.std.specs.Prelude.{map}
 use Rattle.std.specs.String.{string_bytes}
 use Rattle.call_io.proofs.BlockLemmas.{Onward-append}
 use Rattle.ecall_top.specs.Commands.{command_of}
-use Rattle.ecall_top.proofs.Handed.{handed_over, handed_read, handed_usage, handed_memory}
+use Rattle.ecall_top.proofs.Handed.{handed_over, handed_read, handed_usage, handed_memory, handed_unread}
 use Rattle.ecall_top.proofs.carry_out.Goals as goal
 
 pub returns-clause-outcome : goal.returns-clause-outcome
@@ -22,6 +22,11 @@ pub returns-clause-in_place : goal.returns-clause-in_place
 returns-clause-in_place g c =
     λ wants. c.reply-status.ensures.in_place
     (handed_memory c.reply-status.result c.hand_over.result _ c.hand_over.ensures.over wants)
+
+pub returns-clause-unrefused : goal.returns-clause-unrefused
+returns-clause-unrefused g c =
+    λ nothing. handed_unread c.reply-status.result c.hand_over.result _ c.hand_over.ensures.over
+    (c.reply-status.ensures.unrefused nothing)
 
 pub returns-clause-unread : goal.returns-clause-unread
 returns-clause-unread g c =

@@ -1,10 +1,11 @@
 use Rattle.std.specs.Prelude.{map}
 use Rattle.std.specs.String.{string_bytes}
-use Rattle.std.proofs.Common.{sym, ◌∙◌, ap, Some, None}
+use Rattle.std.proofs.Common.{sym, ◌∙◌, ap, refl, arith, Some, None}
 use Rattle.call_io.specs.Blocks.{held}
 use Rattle.ecall_top.specs.Commands.{command_of}
 use Rattle.ecall_top.specs.declared.command.Command.TheVariants as command
-use Rattle.ecall_top.proofs.Worded.{used, named}
+use Rattle.ecall_top.specs.Make.{made_script}
+use Rattle.ecall_top.proofs.Worded.{used, named, unread_reply, tried}
 use Rattle.ecall_top.proofs.reply.Goals as goal
 
 pub returns-in-Some-Run-clause-outcome : goal.returns-in-Some-Run-clause-outcome
@@ -41,6 +42,32 @@ returns-in-Some-Replay-clause-outcome g c =
     named (command_of (map string_bytes c.args.words.now)) (Some command.Replay) _ _ c.replay.result
     (sym c.read_command.ensures ∙ (c.in-Some-Replay.is ∙ ap Some c.in-Some-Replay.field-0-is))
     (c.replay.ensures.outcome c.args.moments.now)
+
+pub returns-in-Some-Make-clause-outcome : goal.returns-in-Some-Make-clause-outcome
+returns-in-Some-Make-clause-outcome g c =
+    named (command_of (map string_bytes c.args.words.now)) (Some (command.Make c.in-Some-Make.number)) _ _ c.make.result
+    (sym c.read_command.ensures ∙ (c.in-Some-Make.is ∙ ap Some c.in-Some-Make.field-0-is))
+    (unread_reply (Some (command.Make c.in-Some-Make.number)) (g.I.Source.left c.args.input.now)
+    (held g.O.Sink.held c.args.output.now) (held g.O.Sink.held c.make.new.output) c.args.moments.now
+    c.args.moments.now (made_script c.in-Some-Make.number) refl refl c.make.result (λ done. omega arith)
+    c.make.ensures.ends)
+
+pub returns-in-Some-Trial-clause-outcome : goal.returns-in-Some-Trial-clause-outcome
+returns-in-Some-Trial-clause-outcome g c =
+    named (command_of (map string_bytes c.args.words.now)) (Some (command.Trial c.in-Some-Trial.number)) _ _
+    c.trial.result (sym c.read_command.ensures ∙ (c.in-Some-Trial.is ∙ ap Some c.in-Some-Trial.field-0-is))
+    (tried c.in-Some-Trial.number (g.I.Source.left c.args.input.now) (held g.O.Sink.held c.args.output.now)
+    (held g.O.Sink.held c.trial.new.output) c.args.moments.now c.trial.new.moments c.trial.result
+    c.trial.ensures.passes c.trial.ensures.ends)
+
+pub returns-in-Some-Conform-clause-outcome : goal.returns-in-Some-Conform-clause-outcome
+returns-in-Some-Conform-clause-outcome g c =
+    named (command_of (map string_bytes c.args.words.now)) (Some command.Conform) _ _ c.conform.result
+    (sym c.read_command.ensures ∙ (c.in-Some-Conform.is ∙ ap Some c.in-Some-Conform.field-0-is))
+    (let ends = c.conform.ensures.ends in
+    unread_reply (Some command.Conform) (g.I.Source.left c.args.input.now)
+    (held g.O.Sink.held c.args.output.now) (held g.O.Sink.held c.conform.new.output) c.args.moments.now
+    c.args.moments.now ends.0 refl (ends.1, refl) c.conform.result (λ done. omega arith) ends.2)
 
 pub returns-in-None-clause-outcome : goal.returns-in-None-clause-outcome
 returns-in-None-clause-outcome g c =
