@@ -12,13 +12,13 @@ use Rattle.psap_machine.specs.Point.{Point}
 use Rattle.psap_machine.specs.PointRows as point
 use Rattle.channel_sim.specs.declared.calls.Call as kept_call
 use Rattle.channel_sim.specs.declared.channel.Channel as kept_channel
-use Rattle.channel_sim.specs.World.{Call, World, unit, units}
+use Rattle.channel_sim.specs.World.{Call, World, quiet_step, unit, units}
 use Rattle.channel_sim.specs.inner.Lag.{SessionLags, SeatLags, VehicleLags, CallsLag, StandsAt}
 use Rattle.channel_sim.specs.inner.Quiet.{SessionRests, CallRests, FramesRest, QuietFor, aged_call, aged_world}
 use Rattle.channel_sim.specs.Tidy.{CallInTime, IsTidy}
 use Rattle.channel_sim.proofs.SeatLemmas.{due_later}
 use Rattle.channel_sim.proofs.VehicleLemmas.{vehicle_due_later}
-use Rattle.channel_sim.proofs.Jump.{less, vehicle_due_aged, vehicle_again, point_due_aged, point_again, point_live, aged_tidy, units_behind, units_one}
+use Rattle.channel_sim.proofs.Jump.{less, vehicle_due_aged, vehicle_again, point_due_aged, point_again, point_live, aged_tidy, jump, units_behind, units_one}
 
 more_left : (m n : ℕ) (o : Option ℕ) → IfSome o (λ due. m < due) → IfSome (less m o) (λ due. n < due) → IfSome o (λ due. m + n < due)
 more_left m n None h k = tt
@@ -117,6 +117,25 @@ still_same m kept v h =
 pub units_jump : (floor n : ℕ) (kept : kept_channel.Channel) (w : World) → StandsAt kept.tick floor (λ c. kept.tick) kept w → QuietFor n w → units (n + 1) w ≡ unit (aged_world n w)
 units_jump floor n kept w s quiet =
     units_behind n 1 w s.tidy (still_same (kept.tick - kept.passed) kept.vehicle w.vehicle s.vehicle) quiet ∙ units_one (aged_world n w)
+
+-- quiet ticks up to one at which nothing happens either
+pub quiet_end : (floor n tick : ℕ) (kept : kept_channel.Channel) (w : World) → StandsAt kept.tick floor (λ c. kept.tick) kept w → QuietFor n w → kept.tick + n ≡ tick → (units n w ≡ quiet_step (aged_world n w)) × StandsAt tick floor (λ c. tick) (record kept { tick = tick }) (aged_world n w)
+quiet_end floor n tick kept w s quiet e =
+    let within : kept.passed ≤ kept.tick = s.passed in
+    let sum : (kept.tick - kept.passed) + n ≡ tick - kept.passed = omega arith in (
+      jump n w s.tidy (still_same (kept.tick - kept.passed) kept.vehicle w.vehicle s.vehicle) quiet,
+      record {
+        tick = ap (λ t. t + n) s.tick ∙ e;
+        drawn = s.drawn;
+        up_flow = s.up_flow;
+        down_flow = s.down_flow;
+        passed = omega arith;
+        from = s.from;
+        vehicle = subst (λ m. VehicleLags m kept.vehicle (vehicle.aged n w.vehicle)) sum (lags_on (kept.tick - kept.passed) n kept.vehicle w.vehicle s.vehicle quiet.vehicle);
+        calls = subst (λ t. CallsLag floor (λ c. t) kept.calls (map (aged_call n) w.calls)) e (calls_on floor kept.tick n kept.calls w.calls s.calls quiet.sessions);
+        tidy = aged_tidy n w s.tidy;
+      },
+    )
 
 -- Nothing happens in no tick.
 

@@ -356,8 +356,14 @@ impl Channel {
     {
         let end = self.tick + u64::from(n);
         while self.tick < end {
-            let next = self.next_moment(&room.near, end).max(self.tick + 1);
-            self.moment(alloc, next, room, to, moments)?;
+            let next = self
+                .next_moment(&room.near, end.saturating_add(1))
+                .max(self.tick + 1);
+            if next > end {
+                self.tick = end;
+            } else {
+                self.moment(alloc, next, room, to, moments)?;
+            }
         }
         self.catch_all_up(moments);
         Ok(())

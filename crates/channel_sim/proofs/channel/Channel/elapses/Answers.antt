@@ -1,11 +1,12 @@
 use Rattle.channel_sim.proofs.BoundLemmas.{passes_more, units_ends, ends_more}
 use Rattle.channel_sim.specs.inner.Passes.{passes_of}
-use Rattle.std.proofs.Common.{◌≡◌, ◌≤◌, ◌+◌, ◌-◌, refl, ap, sym, ◌∙◌, subst, arith, ◌<◌, ◌^◌}
+use Rattle.std.proofs.Common.{◌≡◌, ◌≤◌, ◌+◌, ◌++◌, ◌-◌, refl, ap, sym, ◌∙◌, subst, arith, ◌<◌, ◌^◌}
 use Rattle.std.proofs.lemmas.Result.{err_from_is_err_and}
+use Rattle.channel_sim.specs.declared.channel.Channel.{Channel}
 use Rattle.channel_sim.specs.World.{World, Step, units, and_then, ends}
 use Rattle.channel_sim.specs.inner.Lag.{StandsAt, StandsNow}
 use Rattle.channel_sim.proofs.Jump.{units_add}
-use Rattle.channel_sim.proofs.MomentLemmas.{moment_quiet}
+use Rattle.channel_sim.proofs.MomentLemmas.{moment_quiet, quiet_end}
 use Rattle.channel_sim.proofs.channel.Channel.elapses.Goals as goal
 
 pub loop-self-init : goal.loop-self-init
@@ -23,6 +24,40 @@ loop-self-init g c =
           (g.met.H.Listener.unchanged _, s);
     }
 
+pub loop-self-preserved-then-next-end : goal.loop-self-preserved-then-next-end
+loop-self-preserved-then-next-end g c =
+    let start = c.args.self.now.tick in
+    let now = c.loop-self.self.tick in
+    let last = start + c.from.result in
+    let began : start ≤ now = c.loop-self.invariant.began in
+    let before : now < last = c.loop-self-test.true in
+    let n = last - now in
+    let k = now - start in
+    let ends_at : now + n ≡ last = omega arith in
+    let e : last - start ≡ k + n = omega arith in
+    record {
+      began = omega arith;
+      within = omega arith;
+      stood = c.loop-self.invariant.stood;
+      passes =
+          λ w s.
+          let front : Step = units k w in
+          let same : units (last - start) w ≡ and_then front (units n) = ap (λ m. units m w) e ∙ units_add k n w in
+          subst (λ (z : Step). c.loop-self.moments ≤ c.args.moments.now + passes_of z) (sym same)
+          (passes_more front (units n) c.args.moments.now c.loop-self.moments c.loop-self.moments (c.loop-self.invariant.passes w s) (omega arith));
+      came =
+          λ w s.
+          let so_far = c.loop-self.invariant.came w s in
+          let front : Step = units k w in
+          let quiet = c.next_moment.ensures.quiet start n front.world so_far.1 (omega (arith, c.max-next.ensures, c.if-next-end.true)) in
+          let ended = quiet_end start n last c.loop-self.self front.world so_far.1 quiet ends_at in
+          let moved : Channel = record c.loop-self.self { tick = last } in
+          let same : units (last - start) w ≡ and_then front (units n) = ap (λ m. units m w) e ∙ units_add k n w in
+          subst (λ (z : Step). g.H.Listener.grew c.args.to.now c.loop-self.to z.entries × StandsAt last start (λ d. last) moved z.world) (sym same)
+          (subst (λ (z : Step). g.H.Listener.grew c.args.to.now c.loop-self.to (front.entries ++ z.entries) × StandsAt last start (λ d. last) moved z.world) (sym ended.0)
+          (g.met.H.Listener.twice _ _ _ _ _ so_far.0 (g.met.H.Listener.unchanged _), ended.1));
+    }
+
 pub loop-self-preserved : goal.loop-self-preserved
 loop-self-preserved g c =
     let start = c.args.self.now.tick in
@@ -31,7 +66,7 @@ loop-self-preserved g c =
     let within : now ≤ (c.args.self.now.tick + c.from.result) = c.loop-self.invariant.within in
     record {
       began = omega (arith, c.moment.ensures.tick, c.max-next.ensures);
-      within = omega (arith, c.moment.ensures.tick, c.max-next.ensures, c.next_moment.ensures.most, c.loop-self-test.true);
+      within = omega (arith, c.moment.ensures.tick, c.if-next-end.false);
       stood = c.in_ok-moment.ensures.stood ∙ c.loop-self.invariant.stood;
       passes =
           λ w s.
@@ -42,7 +77,7 @@ loop-self-preserved g c =
           let n = quiet.0 in
           let next : now + n + 1 ≡ c.max-next.result = quiet.1 ∙ sym c.max-next.ensures in
           let few : c.args.n < 2 ^ 32 = c.ranges.n.fits in
-          let small : c.max-next.result < start + 2 ^ 32 = omega (arith, c.max-next.ensures, c.next_moment.ensures.most, c.loop-self-test.true, c.from.ensures) in
+          let small : c.max-next.result < start + 2 ^ 32 = omega (arith, c.if-next-end.false, c.from.ensures) in
           let did = c.in_ok-moment.ensures.passes start n front.world so_far.1 next quiet.2 small in
           let e : c.moment.new.self.tick - start ≡ k + (n + 1) = omega (arith, c.moment.ensures.tick) in
           let same : units (c.moment.new.self.tick - start) w ≡ and_then front (units (n + 1)) = ap (λ m. units m w) e ∙ units_add k (n + 1) w in
@@ -80,7 +115,7 @@ returns-in_err-moment-clause-step g c =
     let n = quiet.0 in
     let next : now + n + 1 ≡ c.max-next.result = quiet.1 ∙ sym c.max-next.ensures in
     let part = c.in_err-moment.ensures.step start n u so_far.1 next quiet.2 in
-    let within : c.max-next.result ≤ start + c.from.result = omega (arith, c.max-next.ensures, c.next_moment.ensures.most, c.loop-self-test.true) in
+    let within : c.max-next.result ≤ start + c.from.result = omega (arith, c.if-next-end.false) in
     let rest = (start + c.from.result) - c.max-next.result in
     let e : c.args.n ≡ (k + (n + 1)) + rest = omega (arith, c.from.ensures) in
     let Partly = g.H.Listener.partly c.args.to.now c.moment.new.to in
