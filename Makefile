@@ -19,3 +19,4 @@ test:
 
 bench: build
 	bench/run.py $(PROGRAM)
+	bench/refuse.py $(PROGRAM)
