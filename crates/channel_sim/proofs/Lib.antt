@@ -21,6 +21,7 @@ mod MomentLemmas
 mod PassLemmas
 mod PlaceLemmas
 mod Played
+mod PlayedLong
 mod Reached
 pub mod RowKept
 pub mod RowOwes

@@ -33,7 +33,7 @@ abbrev realistic_call : List Event
 realistic_call =
     event.Flow true 3 ∷ event.Flow false 3 ∷ event.Trigger cause.Auto ∷ event.Answer ∷ event.Tick 100 ∷ []
 
-abbrev realistic_trace : List ℕ → List Entry
+abbrev pub realistic_trace : List ℕ → List Entry
 realistic_trace octets =
     told 0 comes_up
     ++ told 3 (note.Send «end».Point 1 (frame.Start 1) ∷ [])
