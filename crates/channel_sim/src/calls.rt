@@ -15,7 +15,9 @@ ghost use Rattle.channel_sim.specs.inner.Lag.{SessionLags, CallLags, CallsLag};
 ghost use Rattle.channel_sim.specs.inner.Places.{place_of};
 ghost use Rattle.channel_sim.specs.Tidy.{AreAbove, AreFrom, ticks_of, CallInTime, numbers_of};
 ghost use Rattle.channel_sim.specs.inner.Passes.{once_if};
+ghost use Rattle.channel_sim.specs.inner.Sends.{full};
 
+use crate::kept::KeptFrame;
 use crate::sends::Sends;
 use link_frames::{End, Frame, Items, Note, Steps, Why};
 use psap_machine::{PointEvent, Session};
@@ -49,12 +51,12 @@ impl Call {
     }
 
     /// This end sent a frame at a tick.
-    fn push(&mut self, end: End, tick: u64, frame: &Frame) -> Result<(), AllocError>
+    fn push(&mut self, alloc: Global, end: End, tick: u64, frame: &Frame) -> Result<(), AllocError>
         ensures { OnOk result (self.new ≡ pushed end (record { tick = tick; frame = frame.now }) self.old) }
     {
         match end {
-            End::Vehicle => self.up.push(tick, frame),
-            End::Point => self.down.push(tick, frame),
+            End::Vehicle => self.up.push(alloc, tick, frame),
+            End::Point => self.down.push(alloc, tick, frame),
         }
     }
 
@@ -66,8 +68,9 @@ impl Call {
     }
 
     /// The frame sent up, or down, at this place, from 0.
-    fn frame(&self, up: bool, place: usize) -> Option<Frame>
-        ensures { result ≡ option_map (λ s. s.frame) (slice_get (if up then self.now.up else self.now.down) place) }
+    fn frame(&self, up: bool, place: usize) -> Option<&KeptFrame>
+        ensures { option_map (λ f. full f.now) result ≡
+            option_map (λ s. s.frame) (slice_get (if up then self.now.up else self.now.down) place) }
     {
         if up {
             self.up.frame(place)
@@ -170,13 +173,13 @@ fn bisect(calls: &[Call], number: u32) -> Option<usize>
 }
 
 /// Posts what one item sends into its call.
-fn post_one(calls: &mut Calls, tick: u64, note: &Note) -> Result<(), AllocError>
+fn post_one(calls: &mut Calls, alloc: Global, tick: u64, note: &Note) -> Result<(), AllocError>
     ensures { (floor : ℕ) (clock : ℕ → ℕ) (ks : List model.Call) → CallsLag floor clock calls.old ks →
         AreAbove 0 (numbers_of ks) →
         OnOk result (CallsLag floor clock calls.new (map (model.carries (told tick (note.now ∷ []))) ks)) }
 {
     match note {
-        Note::Send { end, call, frame } => post_frame(calls, tick, *end, *call, frame),
+        Note::Send { end, call, frame } => post_frame(calls, alloc, tick, *end, *call, frame),
         _ => Ok(()),
     }
 }
@@ -184,6 +187,7 @@ fn post_one(calls: &mut Calls, tick: u64, note: &Note) -> Result<(), AllocError>
 /// Posts a frame that an end sent into its call.
 fn post_frame(
     calls: &mut Calls,
+    alloc: Global,
     tick: u64,
     end: End,
     number: u32,
@@ -197,20 +201,25 @@ fn post_frame(
     match find(&calls.list, number) {
         Some(i) => {
             calls.asleep = calls.asleep.min(i);
-            calls.list[i].push(end, tick, frame)
+            calls.list[i].push(alloc, end, tick, frame)
         }
         None => Ok(()),
     }
 }
 
 /// Posts each frame that these items send into its call.
-pub(crate) fn post(calls: &mut Calls, tick: u64, items: &[Note]) -> Result<(), AllocError>
+pub(crate) fn post(
+    calls: &mut Calls,
+    alloc: Global,
+    tick: u64,
+    items: &[Note],
+) -> Result<(), AllocError>
     ensures { (floor : ℕ) (clock : ℕ → ℕ) (ks : List model.Call) → CallsLag floor clock calls.old ks →
         AreAbove 0 (numbers_of ks) →
         OnOk result (CallsLag floor clock calls.new (map (model.carries (told tick items.now)) ks)) }
 {
     for note in items {
-        post_one(calls, tick, note)?;
+        post_one(calls, alloc, tick, note)?;
     }
     Ok(())
 }
@@ -225,7 +234,7 @@ pub(crate) fn drop_without_session(calls: &mut Calls, number: u32)
     if let Some(i) = find(&calls.list, number) {
         if calls.list[i].session.is_none() {
             calls.asleep = calls.asleep.min(i);
-            calls.list.remove(i);
+            drop(calls.list.remove(i));
         }
     }
 }
@@ -243,10 +252,10 @@ pub(crate) fn has_session(calls: &[Call], number: u32) -> bool
 }
 
 /// The frame sent up, or down, in a call at this place, from 0.
-pub(crate) fn sent_frame(calls: &[Call], up: bool, number: u32, place: usize) -> Option<Frame>
+pub(crate) fn sent_frame(calls: &[Call], up: bool, number: u32, place: usize) -> Option<&KeptFrame>
     ensures { (floor : ℕ) (clock : ℕ → ℕ) (ks : List model.Call) → CallsLag floor clock calls.now ks →
-        AreAbove 0 (numbers_of ks) →
-        result ≡ option_map (λ s. s.frame) (slice_get (if up then lines.sent_up (model.call_of number ks)
+        AreAbove 0 (numbers_of ks) → option_map (λ f. full f.now) result ≡
+        option_map (λ s. s.frame) (slice_get (if up then lines.sent_up (model.call_of number ks)
         else lines.sent_down (model.call_of number ks)) place) }
 {
     match find(calls, number) {
@@ -537,17 +546,18 @@ fn due_at(session: &Session, lag: u64) -> Option<u32>
 #[derive(Drop)]
 pub(crate) struct Due {
     pub(crate) call: u32,
-    pub(crate) frame: Frame,
+    pub(crate) frame: KeptFrame,
 }
 
 /// Adds a frame of a call, if there is one.
-fn add_frame(due: &mut Vec<Due>, number: u32, frame: Option<Frame>) -> Result<(), AllocError>
-    ensures { OnOk result (map due_of due.new.items ≡ map due_of due.old.items ++ due_by number frame) }
+fn add_frame(due: &mut Vec<Due>, number: u32, frame: Option<&KeptFrame>) -> Result<(), AllocError>
+    ensures { OnOk result (map due_of due.new.items ≡ map due_of due.old.items ++
+        due_by number (option_map (λ f. full f.now) frame.entry)) }
 {
     if let Some(frame) = frame {
         due.push(Due {
             call: number,
-            frame,
+            frame: frame.share()?,
         })?;
     }
     Ok(())

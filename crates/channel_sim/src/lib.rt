@@ -5,6 +5,7 @@ mod calls;
 mod channel;
 mod consequence;
 mod fault;
+mod kept;
 mod laws;
 mod room;
 mod sends;

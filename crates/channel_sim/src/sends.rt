@@ -1,58 +1,39 @@
-//! The frames sent in one direction of a call, kept small.
+//! The frames sent in one direction of a call.
 
-ghost use Rattle.std.specs.Prelude.{◌≡◌, ◌≤◌, ◌<◌, ◌+◌, ◌++◌, ◌∷◌, ◌-◌, ℕ, List, [], true, false, OnOk, IfOk, length, map, get_or, slice_get, take, drop};
+ghost use Rattle.std.specs.Prelude.{◌≡◌, ◌≤◌, ◌<◌, ◌+◌, ◌++◌, ◌∷◌, [], true, false, OnOk, length, map, slice_get, take, drop};
 ghost use Rattle.std.specs.List.{AllByRecursion};
 ghost use Rattle.std.specs.Option.{option_map};
-ghost use Rattle.channel_sim.specs.inner.Sends.{full, HasSet, IsFirstFrom};
+ghost use Rattle.channel_sim.specs.inner.Sends.{full, IsFirstFrom};
 ghost use Rattle.channel_sim.specs.Tidy.{ticks_of, AreFrom};
 
-use link_frames::{Answer, Frame, OCTETS, Request};
+use crate::kept::{KeptFrame, kept_frame};
+use link_frames::{Frame, OCTETS};
 use std::alloc::{AllocError, Global};
 use std::marker::Model;
-
-/// A frame whose set is kept aside.
-#[derive(Clone, Copy)]
-pub(crate) enum Small {
-    Init,
-    Start(Request),
-    /// A set, by its place among those kept.
-    Content {
-        request: Request,
-        attempt: u8,
-        set: usize,
-    },
-    Nack(Request),
-    Ack(Request),
-    App {
-        request: Request,
-        answer: Answer,
-    },
-}
+use std::rc::Rc;
 
 /// A frame that was sent, and when.
-#[derive(Clone, Copy)]
-pub(crate) struct SmallSent {
+#[derive(Drop)]
+pub(crate) struct KeptSent {
     tick: u64,
-    frame: Small,
+    frame: KeptFrame,
 }
 
-/// The frames sent in one direction, in order, each with its tick; one copy of a set serves all that carry it.
+/// The frames sent in one direction, in order, each with its tick, and the last set that one of them carried.
 #[derive(Drop)]
 pub(crate) struct Sends {
-    frames: Vec<SmallSent>,
-    sets: Vec<[u8; OCTETS]>,
+    frames: Vec<KeptSent>,
+    last: Option<Rc<[u8; OCTETS]>>,
 }
 
 impl Model for Sends {
-    ghost use Rattle.std.specs.Prelude.{List, map, length};
+    ghost use Rattle.std.specs.Prelude.{List, map};
     ghost use Rattle.trace_text.specs.History.{Sent};
-    ghost use Rattle.channel_sim.specs.inner.Sends.{sent_of, HaveSets};
+    ghost use Rattle.channel_sim.specs.inner.Sends.{sent_of};
 
     ghost Value = { List Sent };
 
-    ghost view = { λ s. map (sent_of s.sets.items) s.frames.items };
-
-    ghost invariant = { λ s. HaveSets (length s.sets.items) s.frames.items };
+    ghost view = { λ s. map sent_of s.frames.items };
 }
 
 impl Sends {
@@ -62,7 +43,7 @@ impl Sends {
     {
         Sends {
             frames: Vec::new(alloc),
-            sets: Vec::new(alloc),
+            last: None,
         }
     }
 
@@ -85,22 +66,22 @@ impl Sends {
     }
 
     /// The k-th frame, from 0.
-    pub(crate) fn frame(&self, k: usize) -> Option<Frame>
-        ensures { result ≡ option_map (λ s. s.frame) (slice_get self.now k) }
+    pub(crate) fn frame(&self, k: usize) -> Option<&KeptFrame>
+        ensures { option_map (λ f. full f.now) result ≡ option_map (λ s. s.frame) (slice_get self.now k) }
     {
         if k < self.frames.len() {
-            Some(whole(&self.sets, &self.frames[k].frame))
+            Some(&self.frames[k].frame)
         } else {
             None
         }
     }
 
     /// A frame was sent at this tick.
-    pub(crate) fn push(&mut self, tick: u64, frame: &Frame) -> Result<(), AllocError>
+    pub(crate) fn push(&mut self, alloc: Global, tick: u64, frame: &Frame) -> Result<(), AllocError>
         ensures { OnOk result (self.new ≡ self.old ++ record { tick = tick; frame = frame.now } ∷ []) }
     {
-        let small = kept_small(&mut self.sets, frame)?;
-        self.frames.push(SmallSent { tick, frame: small })?;
+        let kept = kept_frame(&mut self.last, alloc, frame)?;
+        self.frames.push(KeptSent { tick, frame: kept })?;
         Ok(())
     }
 
@@ -113,89 +94,8 @@ impl Sends {
     }
 }
 
-/// A frame with its set.
-fn whole(sets: &[[u8; OCTETS]], frame: &Small) -> Frame
-    requires { HasSet (length sets.now) frame.now }
-    ensures { result ≡ full sets.now frame.now }
-{
-    match frame {
-        Small::Init => Frame::Init,
-        Small::Start(request) => Frame::Start(*request),
-        Small::Content {
-            request,
-            attempt,
-            set,
-        } => Frame::Content {
-            request: *request,
-            attempt: *attempt,
-            octets: sets[*set],
-        },
-        Small::Nack(request) => Frame::Nack(*request),
-        Small::Ack(request) => Frame::Ack(*request),
-        Small::App { request, answer } => Frame::App {
-            request: *request,
-            answer: *answer,
-        },
-    }
-}
-
-/// A frame whose set is among those kept now.
-fn kept_small(sets: &mut Vec<[u8; OCTETS]>, frame: &Frame) -> Result<Small, AllocError>
-    ensures grown { (more : List (List ℕ)) × (sets.new.items ≡ sets.old.items ++ more) }
-    ensures has { IfOk result (λ small. HasSet (length sets.new.items) small) }
-    ensures whole { IfOk result (λ small. full sets.new.items small ≡ frame.now) }
-{
-    match frame {
-        Frame::Init => Ok(Small::Init),
-        Frame::Start(request) => Ok(Small::Start(*request)),
-        Frame::Content {
-            request,
-            attempt,
-            octets,
-        } => {
-            let set = set_place(sets, octets)?;
-            Ok(Small::Content {
-                request: *request,
-                attempt: *attempt,
-                set,
-            })
-        }
-        Frame::Nack(request) => Ok(Small::Nack(*request)),
-        Frame::Ack(request) => Ok(Small::Ack(*request)),
-        Frame::App { request, answer } => Ok(Small::App {
-            request: *request,
-            answer: *answer,
-        }),
-    }
-}
-
-/// Whether the last set kept is this one.
-fn is_last(sets: &[[u8; OCTETS]], octets: &[u8; OCTETS]) -> bool
-    ensures some { result ≡ true → 0 < length sets.now }
-    ensures last { result ≡ true → get_or sets.now (length sets.now - 1) [] ≡ octets.now }
-{
-    match sets.last() {
-        Some(last) => *last == *octets,
-        None => false,
-    }
-}
-
-/// The place of a set among those kept: the last one's, where it is the same, else behind them.
-fn set_place(sets: &mut Vec<[u8; OCTETS]>, octets: &[u8; OCTETS]) -> Result<usize, AllocError>
-    ensures grown { (more : List (List ℕ)) × (sets.new.items ≡ sets.old.items ++ more) }
-    ensures place { IfOk result (λ place. place < length sets.new.items) }
-    ensures set { IfOk result (λ place. get_or sets.new.items place [] ≡ octets.now) }
-{
-    let count = sets.len();
-    if is_last(sets, octets) {
-        return Ok(count - 1);
-    }
-    sets.push(*octets)?;
-    Ok(count)
-}
-
 /// Whether there is a frame at this place, and it was sent earlier than at this tick.
-fn is_earlier(frames: &[SmallSent], place: usize, tick: u64) -> bool
+fn is_earlier(frames: &[KeptSent], place: usize, tick: u64) -> bool
     ensures within { result ≡ true → place < length frames.now }
     ensures front { result ≡ true → AreFrom 0 (map (λ s. s.tick) frames.now) →
         AllByRecursion (λ t. t < tick) (take (place + 1) (map (λ s. s.tick) frames.now)) }
@@ -209,7 +109,7 @@ fn is_earlier(frames: &[SmallSent], place: usize, tick: u64) -> bool
 }
 
 /// A place in front of which all were sent earlier than at this tick: the end, or `near`, or else the start.
-fn begin_at(frames: &[SmallSent], tick: u64, near: usize) -> usize
+fn begin_at(frames: &[KeptSent], tick: u64, near: usize) -> usize
     ensures within { result ≤ length frames.now }
     ensures front { AreFrom 0 (map (λ s. s.tick) frames.now) →
         AllByRecursion (λ t. t < tick) (take result (map (λ s. s.tick) frames.now)) }
@@ -238,7 +138,7 @@ struct Part {
 }
 
 /// The part of these in which the first is that was sent at this tick or later, by steps that double.
-fn part_from(frames: &[SmallSent], tick: u64, near: usize) -> Part
+fn part_from(frames: &[KeptSent], tick: u64, near: usize) -> Part
     ensures order { result.low ≤ result.high }
     ensures within { result.high ≤ length frames.now }
     ensures front { AreFrom 0 (map (λ s. s.tick) frames.now) →
@@ -259,7 +159,7 @@ fn part_from(frames: &[SmallSent], tick: u64, near: usize) -> Part
 }
 
 /// The place of the first of these that was sent at this tick or later.
-fn first_place(frames: &[SmallSent], tick: u64, near: usize) -> usize
+fn first_place(frames: &[KeptSent], tick: u64, near: usize) -> usize
     ensures within { result ≤ length frames.now }
     ensures first { AreFrom 0 (map (λ s. s.tick) frames.now) → IsFirstFrom tick result (map (λ s. s.tick) frames.now) }
 {

@@ -23,6 +23,7 @@ use Rattle.channel_sim.specs.declared.consequence.Consequence.TheVariants as con
 use Rattle.channel_sim.specs.declared.channel.Channel as kept_channel
 use Rattle.channel_sim.specs.World.{Act, Due, Session, InCall, Call, World, Step, flows_down, flows_up, is_number, left_by, seated, session_of}
 use Rattle.channel_sim.specs.inner.Lag.{VehicleLags, CallLags, CallsLag}
+use Rattle.channel_sim.specs.inner.Sends.{full}
 use Rattle.channel_sim.specs.Tidy.{AreAbove, HasLeg, CallInTime, numbers_of}
 
 -- the call, in which this end sent one frame more
@@ -103,7 +104,7 @@ AreSameBut c before after = (d : ℕ) → (d ≡ c → ⊥) → before d ≡ aft
 
 -- a frame that is due, as it is kept
 abbrev pub due_of : kept_due.Due → Due
-due_of d = record { call = d.call; frame = d.frame }
+due_of d = record { call = d.call; frame = full d.frame }
 
 -- the frame of a call, if there is one
 abbrev pub due_by : ℕ → Option Frame → List Due

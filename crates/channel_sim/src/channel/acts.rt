@@ -74,7 +74,7 @@ impl Channel {
         ensures passed { self.new.passed ≡ self.old.passed }
     {
         tell(alloc, self.tick, items, to)?;
-        post(&mut self.calls, self.tick, items)?;
+        post(&mut self.calls, alloc, self.tick, items)?;
         self.drop_concerned(call);
         Ok(())
     }

@@ -3,10 +3,11 @@
 use super::Channel;
 use crate::calls::{add_call, admit, has_session, hear_session, sent_frame};
 use crate::fault::SimFault;
+use crate::kept::KeptFrame;
 use crate::room::Given;
 use crate::telling::tell;
 use ivs_machine::VehicleEvent;
-use link_frames::{Frame, Note, Steps, Why};
+use link_frames::{Note, Steps, Why};
 use psap_machine::{PointEvent, Session};
 use std::alloc::Global;
 use std::sync::ledger::Ledger;
@@ -27,6 +28,7 @@ impl Channel {
     ghost use Rattle.psap_machine.specs.Point.{Point};
     ghost use Rattle.channel_sim.specs.inner.Acts.{IsArrival};
     ghost use Rattle.channel_sim.specs.inner.Lag.{CameNow, StandsNow};
+    ghost use Rattle.channel_sim.specs.inner.Sends.{full};
 
     /// Tells that a line applies to nothing.
     fn tell_nothing<H: Listener>(&self, alloc: Global, to: &mut H) -> Result<(), SimFault>
@@ -249,9 +251,9 @@ impl Channel {
     }
 
     /// The frame sent up in a call at this place, from 0, if the session is there to hear it.
-    fn frame_up(&self, number: u32, place: usize) -> Option<Frame>
-        ensures { (w : model.World) → StandsNow self.now w →
-            result ≡ option_map (λ s. s.frame) (if model.point_is_in number w
+    fn frame_up(&self, number: u32, place: usize) -> Option<&KeptFrame>
+        ensures { (w : model.World) → StandsNow self.now w → option_map (λ f. full f.now) result ≡
+            option_map (λ s. s.frame) (if model.point_is_in number w
             then slice_get (lines.sent_up (model.call_of number w.calls)) place else None) }
     {
         if !has_session(self.calls.all(), number) {
@@ -261,9 +263,9 @@ impl Channel {
     }
 
     /// The frame sent down in a call at this place, from 0, if the vehicle is in it.
-    fn frame_down(&self, number: u32, place: usize) -> Option<Frame>
-        ensures { (w : model.World) → StandsNow self.now w →
-            result ≡ option_map (λ s. s.frame) (if model.vehicle_is_in number w
+    fn frame_down(&self, number: u32, place: usize) -> Option<&KeptFrame>
+        ensures { (w : model.World) → StandsNow self.now w → option_map (λ f. full f.now) result ≡
+            option_map (λ s. s.frame) (if model.vehicle_is_in number w
             then slice_get (lines.sent_down (model.call_of number w.calls)) place else None) }
     {
         if self.vehicle.call() != Some(number) {
@@ -294,7 +296,8 @@ impl Channel {
     {
         match self.frame_up(number, place) {
             Some(frame) => {
-                let event = PointEvent::Frame(frame.lend());
+                let kept = frame.share()?;
+                let event = PointEvent::Frame(kept.lend());
                 self.session_performs(alloc, number, &event, given, to, moments)
             }
             None => self.tell_nothing(alloc, to),
@@ -323,7 +326,8 @@ impl Channel {
     {
         match self.frame_down(number, place) {
             Some(frame) => {
-                let event = VehicleEvent::Frame(frame.lend());
+                let kept = frame.share()?;
+                let event = VehicleEvent::Frame(kept.lend());
                 self.vehicle_performs(alloc, &event, given, to, moments)
             }
             None => self.tell_nothing(alloc, to),

@@ -3,9 +3,10 @@
 use super::Channel;
 use crate::calls::{Due, all_due, catch_session_up};
 use crate::fault::SimFault;
+use crate::kept::KeptFrame;
 use crate::room::{Given, Room};
 use ivs_machine::VehicleEvent;
-use link_frames::{Frame, Steps};
+use link_frames::Steps;
 use psap_machine::PointEvent;
 use std::alloc::{AllocError, Global};
 use std::sync::ledger::Ledger;
@@ -18,6 +19,7 @@ impl Channel {
     ghost use Rattle.channel_sim.specs.inner.Acts.{due_of, flows_by};
     ghost use Rattle.channel_sim.specs.inner.Lag.{Came, StandsAt};
     ghost use Rattle.channel_sim.specs.inner.Passes.{passes_of};
+    ghost use Rattle.channel_sim.specs.inner.Sends.{full};
 
     /// The frames that the flow up hands over at this tick, in place of what stood there.
     fn due_up(&self, due: &mut Vec<Due>, near: &mut usize) -> Result<(), AllocError>
@@ -47,7 +49,7 @@ impl Channel {
         &mut self,
         alloc: Global,
         number: u32,
-        frame: &Frame,
+        frame: &KeptFrame,
         given: &mut Given,
         to: &mut H,
         moments: &mut Steps<L>,
@@ -55,7 +57,7 @@ impl Channel {
         ensures step { (ahead floor : ℕ) (w : model.World) → StandsAt ahead floor (λ c. ahead) self.old w →
             ahead ≡ self.old.tick →
             Came (H.grew to.old to.new) (H.partly to.old to.new) result ahead floor (λ c. ahead) self.new
-            (model.hands_up (record { call = number; frame = frame.now }) w) }
+            (model.hands_up (record { call = number; frame = full frame.now }) w) }
         ensures tick { self.new.tick ≡ self.old.tick }
         ensures stood { OnOk result (H.faults to.new ≡ H.faults to.old) }
         ensures cause { IfErr result (λ e. SimFaultCause e (H.faults to.old) (H.faults to.new)) }
@@ -63,7 +65,7 @@ impl Channel {
         ensures passes { (ahead floor : ℕ) (w : model.World) → StandsAt ahead floor (λ c. ahead) self.old w →
             ahead ≡ self.old.tick →
             self.old.tick < floor + 2 ^ 32 → OnOk result (moments.new ≤ moments.old +
-            passes_of (model.hands_up (record { call = number; frame = frame.now }) w)) }
+            passes_of (model.hands_up (record { call = number; frame = full frame.now }) w)) }
     {
         catch_session_up(&mut self.calls, number, self.tick, moments);
         let event = PointEvent::Frame(frame.lend());
@@ -75,7 +77,7 @@ impl Channel {
         &mut self,
         alloc: Global,
         number: u32,
-        frame: &Frame,
+        frame: &KeptFrame,
         given: &mut Given,
         to: &mut H,
         moments: &mut Steps<L>,
@@ -83,7 +85,7 @@ impl Channel {
         ensures step { (ahead floor : ℕ) (w : model.World) → StandsAt ahead floor (λ c. ahead) self.old w →
             ahead ≡ self.old.tick →
             Came (H.grew to.old to.new) (H.partly to.old to.new) result ahead floor (λ c. ahead) self.new
-            (model.hands_down (record { call = number; frame = frame.now }) w) }
+            (model.hands_down (record { call = number; frame = full frame.now }) w) }
         ensures tick { self.new.tick ≡ self.old.tick }
         ensures stood { OnOk result (H.faults to.new ≡ H.faults to.old) }
         ensures cause { IfErr result (λ e. SimFaultCause e (H.faults to.old) (H.faults to.new)) }
@@ -91,7 +93,7 @@ impl Channel {
         ensures passes { (ahead floor : ℕ) (w : model.World) → StandsAt ahead floor (λ c. ahead) self.old w →
             ahead ≡ self.old.tick →
             self.old.tick < floor + 2 ^ 32 → OnOk result (moments.new ≤ moments.old +
-            passes_of (model.hands_down (record { call = number; frame = frame.now }) w)) }
+            passes_of (model.hands_down (record { call = number; frame = full frame.now }) w)) }
     {
         if self.vehicle.call() != Some(number) {
             return Ok(());

@@ -1,7 +1,9 @@
 use Rattle.std.proofs.Common.{◌≡◌, ◌≤◌, ◌<◌, ◌+◌, ◌++◌, length, map, take, ap, sym, ◌∙◌, subst, arith, append-nil, Some}
 use Rattle.std.specs.List.{AllByRecursion}
+use Rattle.std.specs.Option.{option_map}
 use Rattle.channel_sim.specs.World.{due_frames}
 use Rattle.channel_sim.specs.inner.Acts.{due_by, due_of}
+use Rattle.channel_sim.specs.inner.Sends.{full}
 use Rattle.channel_sim.specs.Tidy.{ticks_of}
 use Rattle.channel_sim.proofs.DueLemmas.{none_before, take_ticks, due_more, due_enough, tick_there, behind_later, eq_some, ne_some}
 use Rattle.channel_sim.proofs.StepLemmas.{take_all}
@@ -22,7 +24,7 @@ loop-k-preserved c =
     let k = c.loop-k.k in
     let at = sym c.tick.ensures ∙ eq_some c.tick.result c.args.tick (not_is_false _ (sym c.if-ne.ensures)) in
     c.in_ok-add_frame.ensures
-    ∙ ap (λ z. z ++ due_by c.args.number c.frame.result) (c.loop-k.invariant delay rise)
+    ∙ ap (λ z. z ++ due_by c.args.number (option_map (λ f. full f.now) c.frame.result)) (c.loop-k.invariant delay rise)
     ∙ ap (λ f. (map due_of c.args.due.now.items ++ due_frames c.args.number delay (c.args.tick + delay) (take k sends)) ++ due_by c.args.number f) c.frame.ensures
     ∙ due_more c.args.number delay c.args.tick k sends (map due_of c.args.due.now.items) at
 

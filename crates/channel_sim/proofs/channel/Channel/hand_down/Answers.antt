@@ -5,6 +5,7 @@ use Rattle.channel_sim.specs.World as model
 use Rattle.channel_sim.specs.inner.Lag.{Came}
 use Rattle.channel_sim.proofs.HandLemmas.{came_alike, down_alike}
 use Rattle.channel_sim.proofs.VehicleLemmas.{in_call}
+use Rattle.channel_sim.specs.inner.Sends.{full}
 use Rattle.channel_sim.proofs.channel.Channel.hand_down.Goals as goal
 
 pub returns-clause-step : goal.returns-clause-step
@@ -16,8 +17,8 @@ returns-clause-step g c =
     let inside = in_call (ahead - kept.passed) c.args.number kept.vehicle w.vehicle c.call.result c.call.ensures s.vehicle c.if-ne.ensures in
     let did = c.vehicle_performs.ensures.step ahead floor (λ d. ahead) w (c.catch_vehicle_up.ensures.caught ahead floor (λ d. ahead) w s now)
     (now ∙ sym (ap (λ x. x.passed) c.catch_vehicle_up.ensures.same)) (now ∙ sym (ap (λ x. x.tick) c.catch_vehicle_up.ensures.same)) in
-    came_alike Grew Partly c.vehicle_performs.result ahead floor (λ d. ahead) c.vehicle_performs.new.self (model.hands_down (record { call = c.args.number; frame = c.args.frame.now }) w)
-    (model.performs (model.Hears (vehicle.Arrives c.args.frame.now)) w) (down_alike (record { call = c.args.number; frame = c.args.frame.now }) w inside)
+    came_alike Grew Partly c.vehicle_performs.result ahead floor (λ d. ahead) c.vehicle_performs.new.self (model.hands_down (record { call = c.args.number; frame = full c.args.frame.now }) w)
+    (model.performs (model.Hears (vehicle.Arrives (full c.args.frame.now))) w) (down_alike (record { call = c.args.number; frame = full c.args.frame.now }) w inside)
     (subst (λ f. Came Grew Partly c.vehicle_performs.result ahead floor (λ d. ahead) c.vehicle_performs.new.self (model.performs (model.Hears (vehicle.Arrives f)) w)) c.lend.ensures did)
 
 pub returns-clause-passes : goal.returns-clause-passes
@@ -27,5 +28,5 @@ returns-clause-passes g c =
     let inside = in_call (ahead - kept.passed) c.args.number kept.vehicle w.vehicle c.call.result c.call.ensures s.vehicle c.if-ne.ensures in
     let same = c.catch_vehicle_up.ensures.same in
     let still = c.vehicle_performs.ensures.still (ap (λ x. x.passed) same ∙ sym (ap (λ x. x.tick) same)) in
-    handed_down_ok c.vehicle_performs.result (record { call = c.args.number; frame = c.args.frame.now }) w c.args.moments.now c.catch_vehicle_up.new.moments c.vehicle_performs.new.moments inside
+    handed_down_ok c.vehicle_performs.result (record { call = c.args.number; frame = full c.args.frame.now }) w c.args.moments.now c.catch_vehicle_up.new.moments c.vehicle_performs.new.moments inside
     (c.catch_vehicle_up.ensures.passes ahead floor (λ d. ahead) w s now small) still.1
