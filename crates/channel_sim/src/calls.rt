@@ -563,7 +563,7 @@ fn add_frame(due: &mut Vec<Due>, number: u32, frame: Option<&KeptFrame>) -> Resu
     Ok(())
 }
 
-/// Adds the frames of a call that were sent at this tick. `near` becomes the place where they begin.
+/// Adds the frames of a call that were sent at this tick. `near` becomes the place behind them, where the next ones are.
 pub(crate) fn add_due(
     due: &mut Vec<Due>,
     number: u32,
@@ -582,6 +582,7 @@ pub(crate) fn add_due(
             return Ok(());
         }
         add_frame(due, number, sends.frame(k))?;
+        *near = k + 1;
     }
     Ok(())
 }

@@ -13,7 +13,7 @@ pub(crate) struct Given {
     pub(crate) other: Items,
 }
 
-/// Where among the frames sent up, and down, those began that were handed over last: the next ones are near.
+/// The place among the frames sent up, and down, behind those that were handed over last: the next ones are near.
 #[derive(Drop)]
 pub(crate) struct Near {
     pub(crate) up: usize,
