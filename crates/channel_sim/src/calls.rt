@@ -362,8 +362,13 @@ pub(crate) fn ticks_at_once(left: u64, due: Option<u32>) -> u32
     }
 }
 
-/// Passes a session by ticks in which it does nothing.
-fn pass_quietly<L: Ledger>(session: &mut Session, lag: u64, moments: &mut Steps<L>)
+/// Passes a session by ticks in which it does nothing. `items` is room.
+fn pass_quietly<L: Ledger>(
+    session: &mut Session,
+    lag: u64,
+    items: &mut Items,
+    moments: &mut Steps<L>,
+)
     ensures lags { (s : Point) → SessionLags lag session.old s → SessionLags 0 session.new s }
     ensures passes { (s : Point) → SessionLags lag session.old s → lag < 2 ^ 32 → moments.new ≤ moments.old + 1 }
     ensures still { lag ≡ 0 → moments.new ≡ moments.old }
@@ -374,20 +379,25 @@ fn pass_quietly<L: Ledger>(session: &mut Session, lag: u64, moments: &mut Steps<
         if n == 0 {
             return;
         }
-        session.pass(n, moments);
+        session.pass_into(n, moments, items);
         left -= u64::from(n);
     }
 }
 
-/// Passes a call's session up to a tick, up to which it does nothing.
-pub(crate) fn catch_up<L: Ledger>(call: &mut Call, tick: u64, moments: &mut Steps<L>)
+/// Passes a call's session up to a tick, up to which it does nothing. `items` is room.
+pub(crate) fn catch_up<L: Ledger>(
+    call: &mut Call,
+    tick: u64,
+    items: &mut Items,
+    moments: &mut Steps<L>,
+)
     ensures same { call.new ≡ record call.old { session = call.new.session; passed = tick } }
     ensures caught { (floor : ℕ) (k : model.Call) → CallLags floor tick call.old k → CallLags floor tick call.new k }
     ensures passes { (floor : ℕ) (k : model.Call) → CallLags floor tick call.old k → tick < floor + 2 ^ 32 →
         moments.new ≤ moments.old + once_if k.session }
 {
     if let Some(session) = &mut call.session {
-        pass_quietly(session, tick.saturating_sub(call.passed), moments);
+        pass_quietly(session, tick.saturating_sub(call.passed), items, moments);
     }
     call.passed = tick;
 }
@@ -459,11 +469,12 @@ pub(crate) fn act_session<L: Ledger>(
     }
 }
 
-/// Passes the session of a call up to this tick, up to which it does nothing.
+/// Passes the session of a call up to this tick, up to which it does nothing. `items` is room.
 pub(crate) fn catch_session_up<L: Ledger>(
     calls: &mut Calls,
     number: u32,
     tick: u64,
+    items: &mut Items,
     moments: &mut Steps<L>,
 )
     ensures lags { (floor : ℕ) (ks : List model.Call) → CallsLag floor (λ c. tick) calls.old ks →
@@ -476,30 +487,40 @@ pub(crate) fn catch_session_up<L: Ledger>(
 {
     if let Some(i) = find(&calls.list, number) {
         calls.asleep = calls.asleep.min(i);
-        catch_up(&mut calls.list[i], tick, moments);
+        catch_up(&mut calls.list[i], tick, items, moments);
     }
 }
 
-/// Passes each session up to this tick, up to which it does nothing.
-pub(crate) fn catch_each_up<L: Ledger>(calls: &mut Calls, tick: u64, moments: &mut Steps<L>)
+/// Passes each session up to this tick, up to which it does nothing. `items` is room.
+pub(crate) fn catch_each_up<L: Ledger>(
+    calls: &mut Calls,
+    tick: u64,
+    items: &mut Items,
+    moments: &mut Steps<L>,
+)
     ensures lags { (floor : ℕ) (ks : List model.Call) → CallsLag floor (λ c. tick) calls.old ks → floor ≤ tick →
         CallsLag tick (λ c. tick) calls.new ks }
     ensures passes { (floor : ℕ) (ks : List model.Call) → CallsLag floor (λ c. tick) calls.old ks → floor ≤ tick →
         tick < floor + 2 ^ 32 → moments.new ≤ moments.old + model.session_count ks }
 {
-    catch_listed_up(&mut calls.list, tick, moments);
+    catch_listed_up(&mut calls.list, tick, items, moments);
     calls.asleep = count_asleep(&calls.list);
 }
 
-/// Passes the session of each of these calls up to this tick, up to which it does nothing.
-fn catch_listed_up<L: Ledger>(calls: &mut Vec<Call>, tick: u64, moments: &mut Steps<L>)
+/// Passes the session of each of these calls up to this tick, up to which it does nothing. `items` is room.
+fn catch_listed_up<L: Ledger>(
+    calls: &mut Vec<Call>,
+    tick: u64,
+    items: &mut Items,
+    moments: &mut Steps<L>,
+)
     ensures lags { (floor : ℕ) (ks : List model.Call) → CallsLag floor (λ c. tick) calls.old.items ks → floor ≤ tick →
         CallsLag tick (λ c. tick) calls.new.items ks }
     ensures passes { (floor : ℕ) (ks : List model.Call) → CallsLag floor (λ c. tick) calls.old.items ks → floor ≤ tick →
         tick < floor + 2 ^ 32 → moments.new ≤ moments.old + model.session_count ks }
 {
     for call in calls.iter_mut() {
-        catch_up(call, tick, moments);
+        catch_up(call, tick, items, moments);
     }
 }
 

@@ -254,7 +254,7 @@ impl Channel {
                 if self.vehicle.call() != Some(call) {
                     return Ok(());
                 }
-                self.catch_vehicle_up(moments);
+                self.catch_vehicle_up(items, moments);
                 self.vehicle_hears(alloc, &VehicleEvent::Hangup, items, to)
             }
         }

@@ -67,7 +67,7 @@ impl Channel {
             self.old.tick < floor + 2 ^ 32 → OnOk result (moments.new ≤ moments.old +
             passes_of (model.hands_up (record { call = number; frame = full frame.now }) w)) }
     {
-        catch_session_up(&mut self.calls, number, self.tick, moments);
+        catch_session_up(&mut self.calls, number, self.tick, &mut given.own, moments);
         let event = PointEvent::Frame(frame.lend());
         self.session_performs(alloc, number, &event, given, to, moments)
     }
@@ -98,7 +98,7 @@ impl Channel {
         if self.vehicle.call() != Some(number) {
             return Ok(());
         }
-        self.catch_vehicle_up(moments);
+        self.catch_vehicle_up(&mut given.own, moments);
         let event = VehicleEvent::Frame(frame.lend());
         self.vehicle_performs(alloc, &event, given, to, moments)
     }

@@ -45,8 +45,13 @@ fn hands_at(sends: &Sends, near: usize, flow: u32, now: u64, end: u64) -> u64
     }
 }
 
-/// Passes the vehicle by ticks in which it does nothing.
-fn pass_vehicle_quietly<L: Ledger>(ivs: &mut Ivs, lag: u64, moments: &mut Steps<L>)
+/// Passes the vehicle by ticks in which it does nothing. `items` is room.
+fn pass_vehicle_quietly<L: Ledger>(
+    ivs: &mut Ivs,
+    lag: u64,
+    items: &mut Items,
+    moments: &mut Steps<L>,
+)
     ensures lags { (v : Vehicle) → VehicleLags lag ivs.old v → VehicleLags 0 ivs.new v }
     ensures passes { (v : Vehicle) → VehicleLags lag ivs.old v → lag < 2 ^ 32 → moments.new ≤ moments.old + 1 }
     ensures still { lag ≡ 0 → moments.new ≡ moments.old }
@@ -57,7 +62,7 @@ fn pass_vehicle_quietly<L: Ledger>(ivs: &mut Ivs, lag: u64, moments: &mut Steps<
         if n == 0 {
             return;
         }
-        ivs.pass(n, moments);
+        ivs.pass_into(n, moments, items);
         left -= u64::from(n);
     }
 }
@@ -93,8 +98,8 @@ impl Channel {
     ghost use Rattle.channel_sim.specs.Tidy.{AreAbove, CallInTime};
     ghost use Rattle.channel_sim.specs.inner.Passes.{passes_of};
 
-    /// Passes the vehicle up to this tick, up to which it does nothing.
-    pub(super) fn catch_vehicle_up<L: Ledger>(&mut self, moments: &mut Steps<L>)
+    /// Passes the vehicle up to this tick, up to which it does nothing. `items` is room.
+    pub(super) fn catch_vehicle_up<L: Ledger>(&mut self, items: &mut Items, moments: &mut Steps<L>)
         ensures same { self.new ≡ record self.old { vehicle = self.new.vehicle; passed = self.old.tick } }
         ensures caught { (ahead : ℕ) (floor : ℕ) (clock : ℕ → ℕ) (w : model.World) →
             StandsAt ahead floor clock self.old w →
@@ -106,6 +111,7 @@ impl Channel {
         pass_vehicle_quietly(
             &mut self.vehicle,
             self.tick.saturating_sub(self.passed),
+            items,
             moments,
         );
         self.passed = self.tick;
@@ -324,16 +330,16 @@ impl Channel {
         self.flows(alloc, false, room, to, moments)
     }
 
-    /// Passes each end that lags up to this tick.
-    fn catch_all_up<L: Ledger>(&mut self, moments: &mut Steps<L>)
+    /// Passes each end that lags up to this tick. `items` is room.
+    fn catch_all_up<L: Ledger>(&mut self, items: &mut Items, moments: &mut Steps<L>)
         ensures tick { self.new.tick ≡ self.old.tick }
         ensures caught { (floor : ℕ) (w : model.World) → StandsAt self.old.tick floor (λ c. self.old.tick) self.old w →
             StandsNow self.new w }
         ensures passes { (floor : ℕ) (w : model.World) → StandsAt self.old.tick floor (λ c. self.old.tick) self.old w →
             self.old.tick < floor + 2 ^ 32 → moments.new ≤ moments.old + model.ends w }
     {
-        self.catch_vehicle_up(moments);
-        catch_each_up(&mut self.calls, self.tick, moments);
+        self.catch_vehicle_up(items, moments);
+        catch_each_up(&mut self.calls, self.tick, items, moments);
     }
 
     /// So many ticks elapse.
@@ -365,7 +371,7 @@ impl Channel {
                 self.moment(alloc, next, room, to, moments)?;
             }
         }
-        self.catch_all_up(moments);
+        self.catch_all_up(&mut room.given.own, moments);
         Ok(())
     }
 }

@@ -18,8 +18,8 @@ loop-left-preserved g c =
     record {
       lags =
           λ v lags.
-          vehicle_lags_by (c.loop-left.left - c.ticks_at_once-n.result) (c.loop-left.left - c.from-left.result) c.pass.new.self v (ap (λ m. c.loop-left.left - m) (sym c.from-left.ensures))
-          (vehicle_passed c.ticks_at_once-n.result c.loop-left.left c.loop-left.ivs c.pass.new.self v positive c.ticks_at_once-n.ensures.left (λ q one. c.pass.ensures.ticks.stands q one) (c.loop-left.invariant.lags v lags));
+          vehicle_lags_by (c.loop-left.left - c.ticks_at_once-n.result) (c.loop-left.left - c.from-left.result) c.pass_into.new.self v (ap (λ m. c.loop-left.left - m) (sym c.from-left.ensures))
+          (vehicle_passed c.ticks_at_once-n.result c.loop-left.left c.loop-left.ivs c.pass_into.new.self v positive c.ticks_at_once-n.ensures.left (λ q one. c.pass_into.ensures.ticks.stands q one) (c.loop-left.invariant.lags v lags));
       within = omega (arith, c.loop-left.invariant.within);
       still = λ none. absurd (omega (arith, none, c.loop-left.invariant.within, c.loop-left-test.true));
       once =
@@ -28,7 +28,7 @@ loop-left-preserved g c =
           let far : IfSome c.due.result (λ d. c.loop-left.left ≤ d) = subst (λ o. IfSome o (λ d. c.loop-left.left ≤ d)) (sym (c.due.ensures.value h.was h.stands)) (due_above c.loop-left.left (due_of h.was) h.quiet) in
           let whole : c.ticks_at_once-n.result ≡ c.loop-left.left = c.ticks_at_once-n.ensures.whole (omega (arith, c.loop-left.invariant.within, small)) far in
           let none = (c.loop-left.invariant.once v lags small).1 c.loop-left-test.true in
-          (omega (arith, none, c.pass.ensures.moments), λ left. absurd (omega (arith, left, whole, c.from-left.ensures)));
+          (omega (arith, none, c.pass_into.ensures.moments), λ left. absurd (omega (arith, left, whole, c.from-left.ensures)));
     }
 
 pub returns-then-n-eq0-clause-passes : goal.returns-then-n-eq0-clause-passes
