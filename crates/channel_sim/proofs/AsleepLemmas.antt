@@ -1,5 +1,5 @@
 -- Calls in whose sessions nothing is due: which of the first stay so when a call changes, and that they rest.
-use Rattle.std.proofs.Common.{◌≡◌, ℕ, zero, suc, ◌+◌, ◌-◌, ◌<◌, ◌≤◌, ◌⊎◌, inl, inr, Option, Some, None, IfSome, List, [], ◌∷◌, ◌++◌, length, get_or, take, drop, refl, ap, sym, ◌∙◌, subst, arith}
+use Rattle.std.proofs.Common.{◌≡◌, ℕ, zero, suc, ◌+◌, ◌-◌, ◌<◌, ◌≤◌, ◌⊎◌, inl, inr, Option, Some, None, IfSome, List, [], ◌∷◌, ◌++◌, length, get_or, take, refl, ap, sym, ◌∙◌, subst, arith}
 use Rattle.std.proofs.Math.ListN.{set}
 use Rattle.std.proofs.lemmas.List.{length-set, length-append, take_more}
 use Rattle.std.specs.List.{AllByRecursion, remove}
@@ -8,10 +8,11 @@ use Rattle.psap_machine.specs.Point.{Point}
 use Rattle.psap_machine.specs.PointRows as point
 use Rattle.channel_sim.specs.declared.calls.Call as kept_call
 use Rattle.channel_sim.specs.World.{Call}
-use Rattle.channel_sim.specs.inner.Asleep.{NothingDue, Sleeps, AreAsleep}
+use Rattle.channel_sim.specs.inner.Asleep.{NothingDue, Sleeps, AreAsleep, DueLater, Waits, AreWaiting}
 use Rattle.channel_sim.specs.inner.Lag.{SessionLags, SeatLags, CallLags, CallsLag}
 use Rattle.channel_sim.specs.inner.Quiet.{SessionRests, CallRests, IsQuietCall}
 use Rattle.channel_sim.proofs.Jump.{point_later}
+use Rattle.channel_sim.proofs.LagLemmas.{as_sum}
 
 -- What is kept.
 
@@ -78,13 +79,17 @@ asleep_pushed n xs ys h =
       sleep = pushed_sleep n xs ys inside h.sleep;
     }
 
-last_sleeps : (xs : List kept_call.Call) (x : kept_call.Call) → AllByRecursion Sleeps xs → Sleeps x → AllByRecursion Sleeps (xs ++ x ∷ [])
-last_sleeps [] x h one = (one, tt)
-last_sleeps (y ∷ ys) x h one = (h.0, last_sleeps ys x h.1 one)
+last_too : (P : kept_call.Call → Type 0) (xs : List kept_call.Call) (x : kept_call.Call) → AllByRecursion P xs → P x → AllByRecursion P (xs ++ x ∷ [])
+last_too P [] x h one = (one, tt)
+last_too P (y ∷ ys) x h one = (h.0, last_too P ys x h.1 one)
 
 -- one more sleeps
 pub one_more_sleeps : (i : ℕ) (xs : List kept_call.Call) (d : kept_call.Call) → i < length xs → AllByRecursion Sleeps (take i xs) → Sleeps (get_or xs i d) → AllByRecursion Sleeps (take (i + 1) xs)
-one_more_sleeps i xs d inside h one = subst (AllByRecursion Sleeps) (sym (take_more xs i d inside)) (last_sleeps (take i xs) (get_or xs i d) h one)
+one_more_sleeps i xs d inside h one = subst (AllByRecursion Sleeps) (sym (take_more xs i d inside)) (last_too Sleeps (take i xs) (get_or xs i d) h one)
+
+-- one more waits
+pub one_more_waits : (tick i : ℕ) (xs : List kept_call.Call) (d : kept_call.Call) → i < length xs → AllByRecursion (Waits tick) (take i xs) → Waits tick (get_or xs i d) → AllByRecursion (Waits tick) (take (i + 1) xs)
+one_more_waits tick i xs d inside h one = subst (AllByRecursion (Waits tick)) (sym (take_more xs i d inside)) (last_too (Waits tick) (take i xs) (get_or xs i d) h one)
 
 -- What they stand for rests.
 
@@ -109,8 +114,39 @@ seat_rests m n None (Some s) h none = absurd h
 seat_rests m n (Some k) None h none = absurd h
 seat_rests m n (Some k) (Some s) h none = record { due = none_later n (point.due_of s) (still_none m k s none h); live = h.live }
 
-pub call_rests : (floor clock n : ℕ) (x : kept_call.Call) (k : Call) → CallLags floor clock x k → Sleeps x → CallRests n k
+call_rests : (floor clock n : ℕ) (x : kept_call.Call) (k : Call) → CallLags floor clock x k → Sleeps x → CallRests n k
 call_rests floor clock n x k h sleeps = seat_rests (clock - x.passed) n x.session k.session h.session sleeps
+
+due_later : (n : ℕ) (a : Option Session) → NothingDue a → DueLater n a
+due_later n None none = tt
+due_later n (Some kept) none = λ s stands. none_later n (point.due_of s) (none s stands)
+
+sleepers_wait : (tick : ℕ) (xs : List kept_call.Call) → AllByRecursion Sleeps xs → AllByRecursion (Waits tick) xs
+sleepers_wait tick [] h = tt
+sleepers_wait tick (x ∷ xs) h = (due_later (tick - x.passed) x.session h.0, sleepers_wait tick xs h.1)
+
+-- those that sleep wait up to each tick
+pub asleep_wait : (tick n : ℕ) (xs : List kept_call.Call) → AreAsleep n xs → AreWaiting tick n xs
+asleep_wait tick n xs h = record { within = h.within; wait = sleepers_wait tick (take n xs) h.sleep }
+
+seat_waits : (m n : ℕ) (a : Option Session) (b : Option Point) → n ≡ m + 1 → SeatLags m a b → DueLater n a → IfSome b (SessionRests 1)
+seat_waits m n None None e h later = tt
+seat_waits m n None (Some s) e h later = absurd h
+seat_waits m n (Some k) None e h later = absurd h
+seat_waits m n (Some k) (Some s) e h later =
+    record {
+      due =
+          subst (λ z. IfSome (point.due_of z) (λ due. 1 < due)) (sym h.aged)
+          (point_later m 1 h.was (as_sum m 1 n (point.due_of h.was) e (later h.was h.stands)));
+      live = h.live;
+    }
+
+-- what waits up to the next tick rests in it
+pub call_waits : (floor before : ℕ) (x : kept_call.Call) (k : Call) → CallLags floor before x k → Waits (before + 1) x → CallRests 1 k
+call_waits floor before x k h wait =
+    let within : x.passed ≤ before = h.passed in
+    let sum : (before + 1) - x.passed ≡ (before - x.passed) + 1 = omega arith in
+    seat_waits (before - x.passed) ((before + 1) - x.passed) x.session k.session sum h.session wait
 
 quiet_asleep : (floor n tick : ℕ) (clock : ℕ → ℕ) (f : ℕ) (xs : List kept_call.Call) (ks : List Call) → CallsLag floor clock xs ks → AllByRecursion Sleeps (take f xs) → AllByRecursion (λ k. IsQuietCall n 0 0 tick k) (take f ks)
 quiet_asleep floor n tick clock zero [] [] h sleep = tt

@@ -1,15 +1,15 @@
--- The unit tick of the first calls, in whose sessions nothing is due: it gives nothing, and they are one tick on.
+-- The unit tick of the first calls, in whose sessions nothing is due at it: it gives nothing, and they are one tick on.
 use Rattle.std.proofs.Common.{◌≡◌, ℕ, zero, suc, ◌+◌, ◌<◌, ◌≤◌, Option, List, [], ◌∷◌, take, drop, refl, ap, sym, ◌∙◌, subst, arith}
 use Rattle.std.specs.List.{AllByRecursion}
 use Rattle.ivs_machine.specs.Vehicle.{vehicle_call}
 use Rattle.channel_sim.specs.declared.calls.Call as kept_call
 use Rattle.channel_sim.specs.declared.channel.Channel as kept_channel
 use Rattle.channel_sim.specs.World.{Call, World, Step, quiet_step, and_then, each, session_passes, sessions_pass}
-use Rattle.channel_sim.specs.inner.Asleep.{Sleeps}
+use Rattle.channel_sim.specs.inner.Asleep.{Waits}
 use Rattle.channel_sim.specs.inner.Lag.{CallLags, CallsLag, StandsAt, clock_of}
 use Rattle.channel_sim.specs.inner.Quiet.{CallRests, aged_call}
 use Rattle.channel_sim.specs.Tidy.{AreAbove, HasLeg, CallInTime, numbers_of}
-use Rattle.channel_sim.proofs.AsleepLemmas.{call_rests}
+use Rattle.channel_sim.proofs.AsleepLemmas.{call_waits}
 use Rattle.channel_sim.proofs.Jump.{onto, AreBelow, all_onto, below_more, has_leg, quiet_session, quiet_then}
 use Rattle.channel_sim.proofs.MomentLemmas.{calls_on}
 use Rattle.channel_sim.proofs.PassLemmas.{clock_gone, clocks_begin}
@@ -27,12 +27,12 @@ FrontRests zero ks = Unit {0}
 FrontRests (suc f) [] = Unit {0}
 FrontRests (suc f) (k ∷ ks) = CallRests 1 k × FrontRests f ks
 
-front_rests : (floor before f : ℕ) (xs : List kept_call.Call) (ks : List Call) → CallsLag floor (λ c. before) xs ks → AllByRecursion Sleeps (take f xs) → FrontRests f ks
-front_rests floor before zero xs ks h sleep = tt
-front_rests floor before (suc f) [] [] h sleep = tt
-front_rests floor before (suc f) [] (k ∷ ks) h sleep = absurd h
-front_rests floor before (suc f) (x ∷ xs) [] h sleep = absurd h
-front_rests floor before (suc f) (x ∷ xs) (k ∷ ks) h sleep = (call_rests floor before 1 x k h.0 sleep.0, front_rests floor before f xs ks h.1 sleep.1)
+front_rests : (floor before f : ℕ) (xs : List kept_call.Call) (ks : List Call) → CallsLag floor (λ c. before) xs ks → AllByRecursion (Waits (before + 1)) (take f xs) → FrontRests f ks
+front_rests floor before zero xs ks h wait = tt
+front_rests floor before (suc f) [] [] h wait = tt
+front_rests floor before (suc f) [] (k ∷ ks) h wait = absurd h
+front_rests floor before (suc f) (x ∷ xs) [] h wait = absurd h
+front_rests floor before (suc f) (x ∷ xs) (k ∷ ks) h wait = (call_waits floor before x k h.0 wait.0, front_rests floor before f xs ks h.1 wait.1)
 
 quiet_front : (n : ℕ) (u : World) (passed : List Call) (f : ℕ) (rest : List Call) → AreBelow (suc n) passed → AreAbove n (numbers_of rest)
     → AllByRecursion (HasLeg (vehicle_call u.vehicle)) passed
@@ -77,24 +77,24 @@ above_drop m (suc f) (n ∷ ns) h = let least : m < n = h.0 in above_less n m (d
 aged_lags : (floor before : ℕ) (x : kept_call.Call) (k : Call) → CallLags floor before x k → CallRests 1 k → CallLags floor (before + 1) x (aged_call 1 k)
 aged_lags floor before x k h rests = (calls_on floor before 1 (x ∷ []) (k ∷ []) (h, tt) (rests, tt)).0
 
--- those that sleep were passed without a look, and the others wait
-front_lags : (floor before m f : ℕ) (xs : List kept_call.Call) (ks : List Call) → CallsLag floor (λ c. before) xs ks → AllByRecursion Sleeps (take f xs) → AreAbove m (numbers_of ks) → CallsLag floor (clock_of before (drop f (numbers_of ks))) xs (front_aged f ks)
-front_lags floor before m zero xs ks h sleep above = clocks_begin floor before (numbers_of ks) xs ks refl h
-front_lags floor before m (suc f) [] [] h sleep above = tt
-front_lags floor before m (suc f) [] (k ∷ ks) h sleep above = absurd h
-front_lags floor before m (suc f) (x ∷ xs) [] h sleep above = absurd h
-front_lags floor before m (suc f) (x ∷ xs) (k ∷ ks) h sleep above =
+-- those that wait were passed without a look, and the others are to come
+front_lags : (floor before m f : ℕ) (xs : List kept_call.Call) (ks : List Call) → CallsLag floor (λ c. before) xs ks → AllByRecursion (Waits (before + 1)) (take f xs) → AreAbove m (numbers_of ks) → CallsLag floor (clock_of before (drop f (numbers_of ks))) xs (front_aged f ks)
+front_lags floor before m zero xs ks h wait above = clocks_begin floor before (numbers_of ks) xs ks refl h
+front_lags floor before m (suc f) [] [] h wait above = tt
+front_lags floor before m (suc f) [] (k ∷ ks) h wait above = absurd h
+front_lags floor before m (suc f) (x ∷ xs) [] h wait above = absurd h
+front_lags floor before m (suc f) (x ∷ xs) (k ∷ ks) h wait above =
     let gone : clock_of before (drop f (numbers_of ks)) k.number ≡ before + 1 = clock_gone before k.number (drop f (numbers_of ks)) (above_drop k.number f (numbers_of ks) above.1) in (
-      subst (λ z. CallLags floor z x (aged_call 1 k)) (sym gone) (aged_lags floor before x k h.0 (call_rests floor before 1 x k h.0 sleep.0)),
-      front_lags floor before k.number f xs ks h.1 sleep.1 above.1,
+      subst (λ z. CallLags floor z x (aged_call 1 k)) (sym gone) (aged_lags floor before x k h.0 (call_waits floor before x k h.0 wait.0)),
+      front_lags floor before k.number f xs ks h.1 wait.1 above.1,
     )
 
 -- the world whose first calls are one tick on
 abbrev pub front_passed : ℕ → World → World
 front_passed f w = record w { calls = front_aged f w.calls }
 
-pub sleepers_stand : (ahead floor before f : ℕ) (kept : kept_channel.Channel) (w : World) → StandsAt ahead floor (λ c. before) kept w → AllByRecursion Sleeps (take f kept.calls) → StandsAt ahead floor (clock_of before (drop f (numbers_of w.calls))) kept (front_passed f w)
-sleepers_stand ahead floor before f kept w s sleep =
+pub waiting_stand : (ahead floor before f : ℕ) (kept : kept_channel.Channel) (w : World) → StandsAt ahead floor (λ c. before) kept w → AllByRecursion (Waits (before + 1)) (take f kept.calls) → StandsAt ahead floor (clock_of before (drop f (numbers_of w.calls))) kept (front_passed f w)
+waiting_stand ahead floor before f kept w s wait =
     record {
       tick = s.tick;
       drawn = s.drawn;
@@ -103,7 +103,7 @@ sleepers_stand ahead floor before f kept w s sleep =
       passed = s.passed;
       from = s.from;
       vehicle = s.vehicle;
-      calls = front_lags floor before 0 f kept.calls w.calls s.calls sleep s.tidy.numbers;
+      calls = front_lags floor before 0 f kept.calls w.calls s.calls wait s.tidy.numbers;
       tidy =
           record {
             numbers = subst (AreAbove 0) (sym (front_numbers f w.calls)) s.tidy.numbers;
@@ -113,9 +113,9 @@ sleepers_stand ahead floor before f kept w s sleep =
           };
     }
 
-pub sleepers_pass : (ahead floor before f : ℕ) (kept : kept_channel.Channel) (w : World) → StandsAt ahead floor (λ c. before) kept w → AllByRecursion Sleeps (take f kept.calls) → sessions_pass w ≡ each session_passes (drop f (numbers_of w.calls)) (front_passed f w)
-sleepers_pass ahead floor before f kept w s sleep =
-    let rests : FrontRests f w.calls = front_rests floor before f kept.calls w.calls s.calls sleep in
+pub waiting_pass : (ahead floor before f : ℕ) (kept : kept_channel.Channel) (w : World) → StandsAt ahead floor (λ c. before) kept w → AllByRecursion (Waits (before + 1)) (take f kept.calls) → sessions_pass w ≡ each session_passes (drop f (numbers_of w.calls)) (front_passed f w)
+waiting_pass ahead floor before f kept w s wait =
+    let rests : FrontRests f w.calls = front_rests floor before f kept.calls w.calls s.calls wait in
     let front : each session_passes (take f (numbers_of w.calls)) w ≡ quiet_step (front_passed f w) = quiet_front 0 w [] f w.calls tt s.tidy.numbers tt s.tidy.legs rests in
     each_all session_passes (numbers_of w.calls) f w
     ∙ ap (λ (z : Step). and_then z (each session_passes (drop f (numbers_of w.calls)))) front

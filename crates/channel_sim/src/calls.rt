@@ -10,7 +10,7 @@ ghost use Rattle.trace_text.specs.History.{told};
 ghost use Rattle.channel_sim.specs.Lines as lines;
 ghost use Rattle.channel_sim.specs.World as model;
 ghost use Rattle.channel_sim.specs.inner.Acts.{pushed, CallDid, SessionDid, IsCaught, AreSameBut, OtherHasLeg, due_by, due_of, sent_way};
-ghost use Rattle.channel_sim.specs.inner.Asleep.{AreAsleep, IsAwakePart, NothingDue, Sleeps};
+ghost use Rattle.channel_sim.specs.inner.Asleep.{AreAsleep, AreWaiting, IsActingPart, IsAwakePart, NothingDue, Sleeps, Waits};
 ghost use Rattle.channel_sim.specs.inner.Lag.{SessionLags, CallLags, CallsLag};
 ghost use Rattle.channel_sim.specs.inner.Places.{place_of};
 ghost use Rattle.channel_sim.specs.Tidy.{AreAbove, AreFrom, ticks_of, CallInTime, numbers_of};
@@ -123,6 +123,14 @@ impl Calls {
         ensures { IsAwakePart result.now self.now }
     {
         &self.list[self.asleep..]
+    }
+
+    /// All from the first one on whose session does something at this tick.
+    pub(crate) fn acting(&self, tick: u64) -> &[Call]
+        ensures { IsActingPart tick result.now self.now }
+    {
+        let count = count_waiting(&self.list, self.asleep, tick);
+        &self.list[count..]
     }
 }
 
@@ -561,6 +569,30 @@ fn due_at(session: &Session, lag: u64) -> Option<u32>
     } else {
         None
     }
+}
+
+/// Whether the session of this call, if it is there, does nothing up to this tick.
+fn waits(call: &Call, tick: u64) -> bool
+    ensures { result ≡ true → Waits tick call.now }
+{
+    match &call.session {
+        Some(session) => due_at(session, tick.saturating_sub(call.passed)).is_none(),
+        None => true,
+    }
+}
+
+/// How many of the first of these calls wait up to this tick, where in so many of them nothing is due.
+fn count_waiting(calls: &[Call], asleep: usize, tick: u64) -> usize
+    ensures { AreAsleep asleep calls.now → AreWaiting tick result calls.now }
+{
+    let mut count = asleep;
+    while count < calls.len() {
+        if !waits(&calls[count], tick) {
+            return count;
+        }
+        count += 1;
+    }
+    count
 }
 
 /// A frame that is due, with its call.

@@ -297,7 +297,7 @@ impl Channel {
             ahead ≡ self.old.tick → before + 1 ≡ ahead → self.old.tick < floor + 2 ^ 32 → OnOk result
             (moments.new ≤ moments.old + passes_of (model.sessions_pass w)) }
     {
-        list_numbers(self.calls.awake(), &mut room.numbers)?;
+        list_numbers(self.calls.acting(self.tick), &mut room.numbers)?;
         self.each_session_passes(alloc, &room.numbers, &mut room.given, to, moments)
     }
 
