@@ -10,6 +10,7 @@ pub mod CallUp
 mod CatchLemmas
 mod ChangeLemmas
 mod DueLemmas
+mod FlowRests
 mod HandLemmas
 mod Jump
 mod LagLemmas

@@ -179,7 +179,7 @@ now_below : (t : ℕ) (ss : List Sent) → AllByRecursion (λ s. s.tick ≡ t) s
 now_below t [] h = tt
 now_below t (s ∷ ss) h = (omega (arith, h.0), now_below t ss h.1)
 
-sent_now : (e : End) (c now : ℕ) (items : List Note) → AllByRecursion (λ s. s.tick ≡ now) (sent_by e c (told now items))
+pub sent_now : (e : End) (c now : ℕ) (items : List Note) → AllByRecursion (λ s. s.tick ≡ now) (sent_by e c (told now items))
 sent_now e c now [] = tt
 sent_now e c now (x ∷ xs) = at x (sent_now e c now xs)
   where

@@ -7,7 +7,7 @@ use Rattle.ivs_machine.specs.VehicleRows as vehicle
 use Rattle.channel_sim.specs.declared.channel.Channel as kept_channel
 use Rattle.channel_sim.specs.World.{Call, World}
 use Rattle.channel_sim.specs.inner.Lag.{StandsAt}
-use Rattle.channel_sim.specs.inner.Quiet.{CallRests, FramesRest, IsQuietCall}
+use Rattle.channel_sim.specs.inner.Quiet.{CallRests, FramesRest, IsQuietCall, QuietFor, UpRests, DownRests}
 use Rattle.channel_sim.specs.Tidy.{CallInTime}
 use Rattle.channel_sim.proofs.Jump.{vehicle_later}
 
@@ -30,8 +30,8 @@ all_one_more P [] x h one = (one, tt)
 all_one_more P (y ∷ ys) x h one = (h.0, all_one_more P ys x h.1 one)
 
 -- one call more
-pub quiet_one_more : (n up down tick : ℕ) (i : ℕ) (ks : List Call) (k : Call) → take (suc i) ks ≡ take i ks ++ k ∷ [] → AllByRecursion (λ k. IsQuietCall n up down tick k) (take i ks) → IsQuietCall n up down tick k → AllByRecursion (λ k. IsQuietCall n up down tick k) (take (suc i) ks)
-quiet_one_more n up down tick i ks k e all one = subst (AllByRecursion (λ k. IsQuietCall n up down tick k)) (sym e) (all_one_more (λ k. IsQuietCall n up down tick k) (take i ks) k all one)
+pub one_call_more : (P : Call → Type 0) (i : ℕ) (ks : List Call) (k : Call) → take (suc i) ks ≡ take i ks ++ k ∷ [] → AllByRecursion P (take i ks) → P k → AllByRecursion P (take (suc i) ks)
+one_call_more P i ks k e all one = subst (AllByRecursion P) (sym e) (all_one_more P (take i ks) k all one)
 
 -- the first behind these is in time
 pub call_in_time_at : (tick i : ℕ) (ks rest : List Call) (k : Call) → drop i ks ≡ k ∷ rest → AllByRecursion (CallInTime tick) ks → CallInTime tick k
@@ -48,3 +48,14 @@ pub all_quiet : (n up down tick : ℕ) (ks : List Call) → AllByRecursion (λ k
 all_quiet n up down tick [] h = (tt, tt, tt)
 all_quiet n up down tick (k ∷ ks) h =
     let rest = all_quiet n up down tick ks h.1 in ((h.0.session, rest.0), (h.0.up, rest.1), (h.0.down, rest.2))
+
+-- up to the first of three ticks it is quiet
+pub quiet_until : (n t first acts up down : ℕ) (w : World) → first ≤ acts → first ≤ up → first ≤ down
+    → (t + n < acts → IfSome (vehicle.due_of w.vehicle) (λ due. n < due) × AllByRecursion (CallRests n) w.calls)
+    → (t + n < up → UpRests n w)
+    → (t + n < down → DownRests n w)
+    → t + n < first
+    → QuietFor n w
+quiet_until n t first acts up down w a b c rests no_up no_down low =
+    let ends = rests (omega arith) in
+    record { vehicle = ends.0; sessions = ends.1; up = no_up (omega arith); down = no_down (omega arith) }

@@ -26,6 +26,13 @@ FramesRest n zero tick sends = Unit {0}
 FramesRest n (suc d) tick sends =
     AllByRecursion (λ s. (s.tick + suc d ≤ tick) ⊎ (tick + n < s.tick + suc d)) sends
 
+-- no frame sent up, or down, is handed over in the next n ticks
+abbrev pub UpRests : ℕ → World → Type 0
+UpRests n w = AllByRecursion (λ k. FramesRest n w.up_flow w.tick k.up) w.calls
+
+abbrev pub DownRests : ℕ → World → Type 0
+DownRests n w = AllByRecursion (λ k. FramesRest n w.down_flow w.tick k.down) w.calls
+
 -- The world n ticks on, and what keeps n ticks quiet.
 
 abbrev pub aged_world : ℕ → World → World

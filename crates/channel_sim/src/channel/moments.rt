@@ -1,11 +1,12 @@
 //! Elapsed time: from one tick at which something happens to the next.
 ghost use Rattle.std.specs.Prelude.{◌≡◌, ◌≤◌, ◌+◌, ◌-◌, ◌^◌, ◌<◌, ℕ, Some, None, IfSome};
-ghost use Rattle.channel_sim.specs.inner.Quiet.{FramesRest};
+ghost use Rattle.channel_sim.specs.inner.Quiet.{FramesRest, CallRests};
 ghost use Rattle.channel_sim.specs.Tidy.{AreFrom, ticks_of};
 ghost use Rattle.ivs_machine.specs.IvsStands.{IvsStandsFor};
 ghost use Rattle.ivs_machine.specs.Vehicle.{Vehicle};
 ghost use Rattle.ivs_machine.specs.VehicleRows as vehicle;
-ghost use Rattle.channel_sim.specs.inner.Lag.{VehicleLags};
+ghost use Rattle.channel_sim.specs.inner.Lag.{VehicleLags, CallLags};
+ghost use Rattle.channel_sim.specs.World as model;
 
 use super::Channel;
 use crate::calls::{Call, act_session, catch_each_up, list_numbers, ticks_at_once};
@@ -29,6 +30,18 @@ fn acts_at(passed: u64, due: Option<u32>, end: u64) -> u64
     }
 }
 
+/// The tick at which the session of a call acts, if it is there; at most `end`.
+fn session_acts_at(call: &Call, end: u64) -> u64
+    ensures most { result ≤ end }
+    ensures rests { (floor tick n : ℕ) (k : model.Call) → CallLags floor tick call.now k →
+        tick + n < result → CallRests n k }
+{
+    match &call.session {
+        Some(session) => acts_at(call.passed, session.due(), end),
+        None => end,
+    }
+}
+
 /// The tick behind `now` at which a flow hands the next of these frames over; at most `end`.
 fn hands_at(sends: &Sends, near: usize, flow: u32, now: u64, end: u64) -> u64
     ensures most { result ≤ end }
@@ -43,6 +56,23 @@ fn hands_at(sends: &Sends, near: usize, flow: u32, now: u64, end: u64) -> u64
         Some(tick) => tick.saturating_add(delay).min(end),
         None => end,
     }
+}
+
+/// The next ticks at which an end acts, and at which frames are handed over, up and down.
+#[derive(Drop)]
+struct Next {
+    acts: u64,
+    up: u64,
+    down: u64,
+}
+
+/// The first of these ticks.
+fn first_of(next: &Next) -> u64
+    ensures acts { result ≤ next.now.acts }
+    ensures up { result ≤ next.now.up }
+    ensures down { result ≤ next.now.down }
+{
+    next.acts.min(next.up).min(next.down)
 }
 
 /// Passes the vehicle by ticks in which it does nothing. `items` is room.
@@ -84,6 +114,7 @@ fn vehicle_due_at(ivs: &Ivs, lag: u64) -> Option<u32>
 
 impl Channel {
     ghost use Rattle.std.specs.Option.{is_some};
+    ghost use Rattle.std.specs.List.{AllByRecursion};
     ghost use Rattle.ivs_machine.specs.IvsStands.{IvsStandsFor};
     ghost use Rattle.ivs_machine.specs.Vehicle.{Vehicle};
     ghost use Rattle.ivs_machine.specs.VehicleRows as vehicle;
@@ -91,11 +122,11 @@ impl Channel {
     ghost use Rattle.std.specs.Prelude.{true, false, IfSome, ◌≡◌, ◌+◌, ◌-◌, ◌^◌, ◌<◌, ◌≤◌, ℕ, List, [], ◌∷◌, Some, None, map, OnOk, OnErr, IfOk, IfErr, length};
     ghost use Rattle.channel_sim.specs.World as model;
     ghost use Rattle.channel_sim.specs.SimFault.{SimFaultCause};
-    ghost use Rattle.channel_sim.specs.inner.Acts.{AreSameBut};
+    ghost use Rattle.channel_sim.specs.inner.Acts.{AreSameBut, flows_by};
     ghost use Rattle.channel_sim.specs.inner.Asleep.{IsStirringPart};
-    ghost use Rattle.channel_sim.specs.inner.Lag.{CallLags, Came, CameNow, StandsAt, StandsNow, clock_of};
-    ghost use Rattle.channel_sim.specs.inner.Quiet.{QuietFor, IsQuietCall};
-    ghost use Rattle.channel_sim.specs.Tidy.{AreAbove, CallInTime};
+    ghost use Rattle.channel_sim.specs.inner.Lag.{Came, CameNow, StandsAt, StandsNow, clock_of};
+    ghost use Rattle.channel_sim.specs.inner.Quiet.{QuietFor, CallRests, UpRests, DownRests};
+    ghost use Rattle.channel_sim.specs.Tidy.{AreAbove};
     ghost use Rattle.channel_sim.specs.inner.Passes.{passes_of};
 
     /// Passes the vehicle up to this tick, up to which it does nothing. `items` is room.
@@ -117,22 +148,6 @@ impl Channel {
         self.passed = self.tick;
     }
 
-    /// The tick at which something happens in a call; at most `end`.
-    fn call_moment(&self, call: &Call, near: &Near, end: u64) -> u64
-        ensures most { result ≤ end }
-        ensures quiet { (floor n : ℕ) (k : model.Call) → CallLags floor self.now.tick call.now k →
-            CallInTime self.now.tick k →
-            self.now.tick + n < result → IsQuietCall n self.now.up_flow self.now.down_flow self.now.tick k }
-    {
-        let due = match &call.session {
-            Some(session) => session.due(),
-            None => None,
-        };
-        let acts = acts_at(call.passed, due, end);
-        let up = hands_at(&call.up, near.up, self.up_flow, self.tick, acts);
-        hands_at(&call.down, near.down, self.down_flow, self.tick, up)
-    }
-
     /// The calls in which something may happen in time: not those whose sessions do nothing however many ticks pass,
     /// while both flows are off.
     fn stirring(&self) -> &[Call]
@@ -146,18 +161,26 @@ impl Channel {
         self.calls.all()
     }
 
-    /// The next tick at which something happens; at most `end`.
-    fn next_moment(&self, near: &Near, end: u64) -> u64
-        ensures most { result ≤ end }
-        ensures quiet { (floor n : ℕ) (w : model.World) → StandsAt self.now.tick floor (λ c. self.now.tick) self.now w →
-            self.now.tick + n < result → QuietFor n w }
+    /// The next ticks at which something happens, each at most `end`.
+    fn next_moment(&self, near: &Near, end: u64) -> Next
+        ensures acts { (floor n : ℕ) (w : model.World) → StandsAt self.now.tick floor (λ c. self.now.tick) self.now w →
+            self.now.tick + n < result.acts →
+            IfSome (vehicle.due_of w.vehicle) (λ due. n < due) × AllByRecursion (CallRests n) w.calls }
+        ensures up { (floor n : ℕ) (w : model.World) → StandsAt self.now.tick floor (λ c. self.now.tick) self.now w →
+            self.now.tick + n < result.up → UpRests n w }
+        ensures down { (floor n : ℕ) (w : model.World) → StandsAt self.now.tick floor (λ c. self.now.tick) self.now w →
+            self.now.tick + n < result.down → DownRests n w }
     {
-        let mut next = acts_at(self.passed, self.vehicle.due(), end);
+        let mut acts = acts_at(self.passed, self.vehicle.due(), end);
+        let mut up = end;
+        let mut down = end;
         let calls = self.stirring();
         for call in calls {
-            next = self.call_moment(call, near, next);
+            acts = session_acts_at(call, acts);
+            up = hands_at(&call.up, near.up, self.up_flow, self.tick, up);
+            down = hands_at(&call.down, near.down, self.down_flow, self.tick, down);
         }
-        next
+        Next { acts, up, down }
     }
 
     /// Passes the vehicle up to this tick, if it does something at it: whether it did.
@@ -301,17 +324,47 @@ impl Channel {
         self.each_session_passes(alloc, &room.numbers, &mut room.given, to, moments)
     }
 
+    /// Hands over what was sent up, or down, so many ticks ago, unless the next frame comes after this tick.
+    fn flows_from<H: Listener, L: Ledger>(
+        &mut self,
+        alloc: Global,
+        up: bool,
+        next: u64,
+        room: &mut Room,
+        to: &mut H,
+        moments: &mut Steps<L>,
+    ) -> Result<(), SimFault>
+        ensures step { (ahead floor : ℕ) (w : model.World) → StandsAt ahead floor (λ c. ahead) self.old w →
+            ahead ≡ self.old.tick → (self.old.tick < next → flows_by up w ≡ model.quiet_step w) →
+            Came (H.grew to.old to.new) (H.partly to.old to.new) result ahead floor (λ c. ahead) self.new
+            (flows_by up w) }
+        ensures tick { self.new.tick ≡ self.old.tick }
+        ensures stood { OnOk result (H.faults to.new ≡ H.faults to.old) }
+        ensures cause { IfErr result (λ e. SimFaultCause e (H.faults to.old) (H.faults to.new)) }
+        ensures counted { H.faults to.old ≤ H.faults to.new }
+        ensures passes { (ahead floor : ℕ) (w : model.World) → StandsAt ahead floor (λ c. ahead) self.old w →
+            ahead ≡ self.old.tick → self.old.tick < floor + 2 ^ 32 →
+            OnOk result (moments.new ≤ moments.old + passes_of (flows_by up w)) }
+    {
+        if next > self.tick {
+            return Ok(());
+        }
+        self.flows(alloc, up, room, to, moments)
+    }
+
     /// The world jumps to this tick: nothing happens before it, and then its unit tick is played.
     fn moment<H: Listener, L: Ledger>(
         &mut self,
         alloc: Global,
         tick: u64,
+        next: &Next,
         room: &mut Room,
         to: &mut H,
         moments: &mut Steps<L>,
     ) -> Result<(), SimFault>
         ensures step { (floor n : ℕ) (w : model.World) → StandsAt self.old.tick floor (λ c. self.old.tick) self.old w →
             self.old.tick + n + 1 ≡ tick → QuietFor n w →
+            (tick < next.now.up → UpRests (n + 1) w) → (tick < next.now.down → DownRests (n + 1) w) →
             Came (H.grew to.old to.new) (H.partly to.old to.new) result tick floor (λ c. tick) self.new
             (model.units (n + 1) w) }
         ensures tick { self.new.tick ≡ tick }
@@ -320,14 +373,16 @@ impl Channel {
         ensures counted { H.faults to.old ≤ H.faults to.new }
         ensures passes { (floor n : ℕ) (w : model.World) → StandsAt self.old.tick floor
             (λ c. self.old.tick) self.old w →
-            self.old.tick + n + 1 ≡ tick → QuietFor n w → tick < floor + 2 ^ 32 → OnOk result
+            self.old.tick + n + 1 ≡ tick → QuietFor n w →
+            (tick < next.now.up → UpRests (n + 1) w) → (tick < next.now.down → DownRests (n + 1) w) →
+            tick < floor + 2 ^ 32 → OnOk result
             (moments.new ≤ moments.old + passes_of (model.units (n + 1) w)) }
     {
         self.tick = tick;
         self.vehicle_passes(alloc, &mut room.given, to, moments)?;
         self.sessions_pass(alloc, room, to, moments)?;
-        self.flows(alloc, true, room, to, moments)?;
-        self.flows(alloc, false, room, to, moments)
+        self.flows_from(alloc, true, next.up, room, to, moments)?;
+        self.flows_from(alloc, false, next.down, room, to, moments)
     }
 
     /// Passes each end that lags up to this tick. `items` is room.
@@ -362,13 +417,12 @@ impl Channel {
     {
         let end = self.tick + u64::from(n);
         while self.tick < end {
-            let next = self
-                .next_moment(&room.near, end.saturating_add(1))
-                .max(self.tick + 1);
-            if next > end {
+            let next = self.next_moment(&room.near, end.saturating_add(1));
+            let tick = first_of(&next).max(self.tick + 1);
+            if tick > end {
                 self.tick = end;
             } else {
-                self.moment(alloc, next, room, to, moments)?;
+                self.moment(alloc, tick, &next, room, to, moments)?;
             }
         }
         self.catch_all_up(&mut room.given.own, moments);

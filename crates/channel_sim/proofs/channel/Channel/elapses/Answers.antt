@@ -7,6 +7,7 @@ use Rattle.channel_sim.specs.World.{World, Step, units, and_then, ends}
 use Rattle.channel_sim.specs.inner.Lag.{StandsAt, StandsNow}
 use Rattle.channel_sim.proofs.Jump.{units_add}
 use Rattle.channel_sim.proofs.MomentLemmas.{moment_quiet, quiet_end}
+use Rattle.channel_sim.proofs.WaitLemmas.{quiet_until}
 use Rattle.channel_sim.proofs.channel.Channel.elapses.Goals as goal
 
 pub loop-self-init : goal.loop-self-init
@@ -24,8 +25,8 @@ loop-self-init g c =
           (g.met.H.Listener.unchanged _, s);
     }
 
-pub loop-self-preserved-then-next-end : goal.loop-self-preserved-then-next-end
-loop-self-preserved-then-next-end g c =
+pub loop-self-preserved-then-tick-end : goal.loop-self-preserved-then-tick-end
+loop-self-preserved-then-tick-end g c =
     let start = c.args.self.now.tick in
     let now = c.loop-self.self.tick in
     let last = start + c.from.result in
@@ -49,7 +50,9 @@ loop-self-preserved-then-next-end g c =
           λ w s.
           let so_far = c.loop-self.invariant.came w s in
           let front : Step = units k w in
-          let quiet = c.next_moment.ensures.quiet start n front.world so_far.1 (omega (arith, c.max-next.ensures, c.if-next-end.true)) in
+          let late : now + n < c.first_of.result = omega (arith, c.max-tick.ensures, c.if-tick-end.true) in
+          let quiet = quiet_until n now c.first_of.result c.next_moment-next.result.acts c.next_moment-next.result.up c.next_moment-next.result.down front.world c.first_of.ensures.acts c.first_of.ensures.up c.first_of.ensures.down
+          (c.next_moment-next.ensures.acts start n front.world so_far.1) (c.next_moment-next.ensures.up start n front.world so_far.1) (c.next_moment-next.ensures.down start n front.world so_far.1) late in
           let ended = quiet_end start n last c.loop-self.self front.world so_far.1 quiet ends_at in
           let moved : Channel = record c.loop-self.self { tick = last } in
           let same : units (last - start) w ≡ and_then front (units n) = ap (λ m. units m w) e ∙ units_add k n w in
@@ -65,20 +68,24 @@ loop-self-preserved g c =
     let began : start ≤ now = c.loop-self.invariant.began in
     let within : now ≤ (c.args.self.now.tick + c.from.result) = c.loop-self.invariant.within in
     record {
-      began = omega (arith, c.moment.ensures.tick, c.max-next.ensures);
-      within = omega (arith, c.moment.ensures.tick, c.if-next-end.false);
+      began = omega (arith, c.moment.ensures.tick, c.max-tick.ensures);
+      within = omega (arith, c.moment.ensures.tick, c.if-tick-end.false);
       stood = c.in_ok-moment.ensures.stood ∙ c.loop-self.invariant.stood;
       passes =
           λ w s.
           let so_far = c.loop-self.invariant.came w s in
           let k = now - start in
           let front : Step = units k w in
-          let quiet = moment_quiet start now c.next_moment.result c.loop-self.self front.world so_far.1 (λ n low. c.next_moment.ensures.quiet start n front.world so_far.1 low) in
+          let quiet = moment_quiet start now c.first_of.result c.loop-self.self front.world so_far.1
+          (λ n low. quiet_until n now c.first_of.result c.next_moment-next.result.acts c.next_moment-next.result.up c.next_moment-next.result.down front.world c.first_of.ensures.acts c.first_of.ensures.up c.first_of.ensures.down
+          (c.next_moment-next.ensures.acts start n front.world so_far.1) (c.next_moment-next.ensures.up start n front.world so_far.1) (c.next_moment-next.ensures.down start n front.world so_far.1) low) in
           let n = quiet.0 in
-          let next : now + n + 1 ≡ c.max-next.result = quiet.1 ∙ sym c.max-next.ensures in
+          let next : now + n + 1 ≡ c.max-tick.result = quiet.1 ∙ sym c.max-tick.ensures in
           let few : c.args.n < 2 ^ 32 = c.ranges.n.fits in
-          let small : c.max-next.result < start + 2 ^ 32 = omega (arith, c.if-next-end.false, c.from.ensures) in
-          let did = c.in_ok-moment.ensures.passes start n front.world so_far.1 next quiet.2 small in
+          let small : c.max-tick.result < start + 2 ^ 32 = omega (arith, c.if-tick-end.false, c.from.ensures) in
+          let did = c.in_ok-moment.ensures.passes start n front.world so_far.1 next quiet.2
+          (λ late. c.next_moment-next.ensures.up start (n + 1) front.world so_far.1 (omega (arith, late, next)))
+          (λ late. c.next_moment-next.ensures.down start (n + 1) front.world so_far.1 (omega (arith, late, next))) small in
           let e : c.moment.new.self.tick - start ≡ k + (n + 1) = omega (arith, c.moment.ensures.tick) in
           let same : units (c.moment.new.self.tick - start) w ≡ and_then front (units (n + 1)) = ap (λ m. units m w) e ∙ units_add k (n + 1) w in
           subst (λ (z : Step). c.moment.new.moments ≤ c.args.moments.now + passes_of z) (sym same)
@@ -88,10 +95,14 @@ loop-self-preserved g c =
           let so_far = c.loop-self.invariant.came w s in
           let k = now - start in
           let u : World = (units k w).world in
-          let quiet = moment_quiet start now c.next_moment.result c.loop-self.self u so_far.1 (λ n low. c.next_moment.ensures.quiet start n u so_far.1 low) in
+          let quiet = moment_quiet start now c.first_of.result c.loop-self.self u so_far.1
+          (λ n low. quiet_until n now c.first_of.result c.next_moment-next.result.acts c.next_moment-next.result.up c.next_moment-next.result.down u c.first_of.ensures.acts c.first_of.ensures.up c.first_of.ensures.down
+          (c.next_moment-next.ensures.acts start n u so_far.1) (c.next_moment-next.ensures.up start n u so_far.1) (c.next_moment-next.ensures.down start n u so_far.1) low) in
           let n = quiet.0 in
-          let next : now + n + 1 ≡ c.max-next.result = quiet.1 ∙ sym c.max-next.ensures in
-          let did = c.in_ok-moment.ensures.step start n u so_far.1 next quiet.2 in
+          let next : now + n + 1 ≡ c.max-tick.result = quiet.1 ∙ sym c.max-tick.ensures in
+          let did = c.in_ok-moment.ensures.step start n u so_far.1 next quiet.2
+          (λ late. c.next_moment-next.ensures.up start (n + 1) u so_far.1 (omega (arith, late, next)))
+          (λ late. c.next_moment-next.ensures.down start (n + 1) u so_far.1 (omega (arith, late, next))) in
           let e : c.moment.new.self.tick - start ≡ k + (n + 1) = omega (arith, c.moment.ensures.tick) in
           let same : units (c.moment.new.self.tick - start) w ≡ and_then (units k w) (units (n + 1)) = ap (λ m. units m w) e ∙ units_add k (n + 1) w in
           subst (λ (z : Step). g.H.Listener.grew c.args.to.now c.moment.new.to z.entries × StandsAt c.moment.new.self.tick start (λ d. c.moment.new.self.tick) c.moment.new.self z.world) (sym same) (
@@ -111,12 +122,16 @@ returns-in_err-moment-clause-step g c =
     let so_far = c.loop-self.invariant.came w s in
     let k = now - start in
     let u : World = (units k w).world in
-    let quiet = moment_quiet start now c.next_moment.result c.loop-self.self u so_far.1 (λ n low. c.next_moment.ensures.quiet start n u so_far.1 low) in
+    let quiet = moment_quiet start now c.first_of.result c.loop-self.self u so_far.1
+    (λ n low. quiet_until n now c.first_of.result c.next_moment-next.result.acts c.next_moment-next.result.up c.next_moment-next.result.down u c.first_of.ensures.acts c.first_of.ensures.up c.first_of.ensures.down
+    (c.next_moment-next.ensures.acts start n u so_far.1) (c.next_moment-next.ensures.up start n u so_far.1) (c.next_moment-next.ensures.down start n u so_far.1) low) in
     let n = quiet.0 in
-    let next : now + n + 1 ≡ c.max-next.result = quiet.1 ∙ sym c.max-next.ensures in
-    let part = c.in_err-moment.ensures.step start n u so_far.1 next quiet.2 in
-    let within : c.max-next.result ≤ start + c.from.result = omega (arith, c.if-next-end.false) in
-    let rest = (start + c.from.result) - c.max-next.result in
+    let next : now + n + 1 ≡ c.max-tick.result = quiet.1 ∙ sym c.max-tick.ensures in
+    let part = c.in_err-moment.ensures.step start n u so_far.1 next quiet.2
+    (λ late. c.next_moment-next.ensures.up start (n + 1) u so_far.1 (omega (arith, late, next)))
+    (λ late. c.next_moment-next.ensures.down start (n + 1) u so_far.1 (omega (arith, late, next))) in
+    let within : c.max-tick.result ≤ start + c.from.result = omega (arith, c.if-tick-end.false) in
+    let rest = (start + c.from.result) - c.max-tick.result in
     let e : c.args.n ≡ (k + (n + 1)) + rest = omega (arith, c.from.ensures) in
     let Partly = g.H.Listener.partly c.args.to.now c.moment.new.to in
     let front : Partly (units (k + (n + 1)) w).entries = subst (λ (z : Step). Partly z.entries) (sym (units_add k (n + 1) w)) (law.then_partly _ _ _ _ _ so_far.0 part) in
