@@ -141,6 +141,26 @@ due_enough c delay t k u xs rise e over =
     ∙ sym (frames_append c delay (t + delay) (take k xs) (drop k xs))
     ∙ ap (due_frames c delay (t + delay)) (take-append-drop k xs)
 
+take_none : (k : ℕ) (xs : List Sent) → slice_get (ticks_of xs) k ≡ None → take k xs ≡ xs
+take_none zero [] e = refl
+take_none (suc k) [] e = refl
+take_none zero (x ∷ xs) e = cc
+take_none (suc k) (x ∷ xs) e = ap (λ z. x ∷ z) (take_none k xs e)
+
+-- nothing is due where the first from a tick on is of another tick, or none
+pub none_here : (c delay t k : ℕ) (xs : List Sent) → AreFrom 0 (ticks_of xs) → IsFirstFrom t k (ticks_of xs) → (slice_get (ticks_of xs) k ≡ Some t → ⊥) → due_frames c delay (t + delay) xs ≡ []
+none_here c delay t k xs rise first other = at (slice_get (ticks_of xs) k) refl
+  where
+    front : due_frames c delay (t + delay) (take k xs) ≡ []
+    front = none_before c delay t (take k xs) (subst (AllByRecursion (λ x. x < t)) (sym (take_ticks k xs)) first.before)
+
+    at : (o : Option ℕ) → slice_get (ticks_of xs) k ≡ o → due_frames c delay (t + delay) xs ≡ []
+    at None e = sym (ap (due_frames c delay (t + delay)) (take_none k xs e)) ∙ front
+    at (Some u) e =
+        let least : t ≤ u = behind_later t k k u (ticks_of xs) first.behind (omega arith) e in
+        let apart : u ≡ t → ⊥ = λ same. other (e ∙ ap Some same) in
+        sym (due_enough c delay t k u xs rise e (omega (arith, apart))) ∙ front
+
 pub tick_there : (k : ℕ) (xs : List Sent) → k < length xs → (u : ℕ) × (slice_get (ticks_of xs) k ≡ Some u)
 tick_there k [] h = absurd (omega arith)
 tick_there zero (x ∷ xs) h = (x.tick, refl)

@@ -15,7 +15,7 @@ ghost use Rattle.channel_sim.specs.inner.Lag.{SessionLags, CallLags, CallsLag};
 ghost use Rattle.channel_sim.specs.inner.Places.{place_of};
 ghost use Rattle.channel_sim.specs.Tidy.{AreAbove, AreFrom, ticks_of, CallInTime, numbers_of};
 ghost use Rattle.channel_sim.specs.inner.Passes.{once_if};
-ghost use Rattle.channel_sim.specs.inner.Sends.{full};
+ghost use Rattle.channel_sim.specs.inner.Sends.{full, IsFirstFrom};
 
 use crate::kept::KeptFrame;
 use crate::sends::Sends;
@@ -616,6 +616,29 @@ fn add_frame(due: &mut Vec<Due>, number: u32, frame: Option<&KeptFrame>) -> Resu
     Ok(())
 }
 
+/// Adds the frames of a call that were sent at this tick, the first of which is at this place, and gives the place behind
+/// them. Out of line, so that a call in which nothing is due is soon passed over.
+#[inline(never)]
+fn add_from(
+    due: &mut Vec<Due>,
+    number: u32,
+    sends: &Sends,
+    tick: u64,
+    first: usize,
+) -> Result<usize, AllocError>
+    ensures { (delay : ℕ) → AreFrom 0 (ticks_of sends.now) → IsFirstFrom tick first (ticks_of sends.now) → OnOk result
+        (map due_of due.new.items ≡ map due_of due.old.items ++ model.due_frames number delay
+        (tick + delay) sends.now) }
+{
+    for k in first..sends.len() {
+        if sends.tick(k) != Some(tick) {
+            return Ok(k);
+        }
+        add_frame(due, number, sends.frame(k))?;
+    }
+    Ok(sends.len())
+}
+
 /// Adds the frames of a call that were sent at this tick. `near` becomes the place behind them, where the next ones are.
 pub(crate) fn add_due(
     due: &mut Vec<Due>,
@@ -630,13 +653,10 @@ pub(crate) fn add_due(
 {
     let first = sends.first_from(tick, *near);
     *near = first;
-    for k in first..sends.len() {
-        if sends.tick(k) != Some(tick) {
-            return Ok(());
-        }
-        add_frame(due, number, sends.frame(k))?;
-        *near = k + 1;
+    if sends.tick(first) != Some(tick) {
+        return Ok(());
     }
+    *near = add_from(due, number, sends, tick, first)?;
     Ok(())
 }
 
