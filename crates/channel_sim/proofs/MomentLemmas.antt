@@ -5,20 +5,20 @@ use Rattle.std.specs.Option.{option_map}
 use Rattle.std.proofs.lemmas.Bool.{ltb-true, ltb-false}
 use Rattle.trace_text.specs.History.{Sent}
 use Rattle.ivs_machine.specs.declared.vehicle.Ivs.{Ivs}
-use Rattle.ivs_machine.specs.Vehicle.{Vehicle}
+use Rattle.ivs_machine.specs.Vehicle.{Vehicle, vehicle_call}
 use Rattle.ivs_machine.specs.VehicleRows as vehicle
 use Rattle.psap_machine.specs.declared.session.Session.{Session}
 use Rattle.psap_machine.specs.Point.{Point}
 use Rattle.psap_machine.specs.PointRows as point
 use Rattle.channel_sim.specs.declared.calls.Call as kept_call
 use Rattle.channel_sim.specs.declared.channel.Channel as kept_channel
-use Rattle.channel_sim.specs.World.{Call, World, quiet_step, unit, units}
+use Rattle.channel_sim.specs.World.{Call, World, Step, quiet_step, and_then, vehicle_passes, sessions_pass, unit, units}
 use Rattle.channel_sim.specs.inner.Lag.{SessionLags, SeatLags, VehicleLags, CallsLag, StandsAt}
-use Rattle.channel_sim.specs.inner.Quiet.{SessionRests, CallRests, FramesRest, QuietFor, aged_call, aged_world}
-use Rattle.channel_sim.specs.Tidy.{CallInTime, IsTidy}
+use Rattle.channel_sim.specs.inner.Quiet.{SessionRests, CallRests, EndsRest, FramesRest, QuietFor, aged_call, aged_world}
+use Rattle.channel_sim.specs.Tidy.{CallInTime, HasLeg, IsTidy}
 use Rattle.channel_sim.proofs.SeatLemmas.{due_later}
 use Rattle.channel_sim.proofs.VehicleLemmas.{vehicle_due_later}
-use Rattle.channel_sim.proofs.Jump.{less, vehicle_due_aged, vehicle_again, point_due_aged, point_again, point_live, aged_tidy, jump, units_behind, units_one}
+use Rattle.channel_sim.proofs.Jump.{less, vehicle_due_aged, vehicle_again, vehicle_later, point_due_aged, point_again, point_later, point_live, call_stays, quiet_vehicle, quiet_sessions, quiet_then, aged_tidy, jump, units_behind, units_one}
 
 more_left : (m n : ℕ) (o : Option ℕ) → IfSome o (λ due. m < due) → IfSome (less m o) (λ due. n < due) → IfSome o (λ due. m + n < due)
 more_left m n None h k = tt
@@ -183,3 +183,54 @@ moment_quiet floor t next_due kept w s quiet = at (nat_lt t next_due) refl
     at : (b : Bool) → nat_lt t next_due ≡ b → (n : ℕ) × (t + n + 1 ≡ max next_due (t + 1)) × QuietFor n w
     at true e = let low : t < next_due = ltb-true t next_due e in (next_due - (t + 1), omega arith, quiet (next_due - (t + 1)) (omega arith))
     at false e = let high : next_due ≤ t = ltb-false t next_due e in (0, omega arith, quiet_none floor t kept w s)
+
+-- The unit ticks of the ends, where none is due.
+
+session_next : (n : ℕ) (o : Option Point) → IfSome o (SessionRests (n + 1)) → IfSome (option_map (point.aged n) o) (SessionRests 1)
+session_next n None h = tt
+session_next n (Some s) h = record { due = point_later n 1 s h.due; live = point_live n s h.live }
+
+sessions_next : (n : ℕ) (ks : List Call) → AllByRecursion (CallRests (n + 1)) ks → AllByRecursion (CallRests 1) (map (aged_call n) ks)
+sessions_next n [] h = tt
+sessions_next n (k ∷ ks) h = (session_next n k.session h.0, sessions_next n ks h.1)
+
+-- who rests in one tick more rests in the tick behind the others
+pub ends_next : (n : ℕ) (w : World) → EndsRest (n + 1) w → EndsRest 1 (record (aged_world n w) { tick = (aged_world n w).tick + 1 })
+ends_next n w h = (vehicle_later n 1 w.vehicle h.0, sessions_next n w.calls h.1)
+
+aged_frames : (n t : ℕ) (ks : List Call) → AllByRecursion (CallInTime t) ks → AllByRecursion (CallInTime t) (map (aged_call n) ks)
+aged_frames n t [] h = tt
+aged_frames n t (k ∷ ks) h = (record { up = h.0.up; down = h.0.down }, aged_frames n t ks h.1)
+
+quiet_ends : (w : World) → IsTidy w → EndsRest 1 w → and_then (vehicle_passes w) sessions_pass ≡ quiet_step (record w { vehicle = vehicle.aged 1 w.vehicle; calls = map (aged_call 1) w.calls })
+quiet_ends w tidy rests =
+    let passed : World = record w { vehicle = vehicle.aged 1 w.vehicle } in
+    let legs : AllByRecursion (HasLeg (vehicle_call passed.vehicle)) w.calls = subst (λ o. AllByRecursion (HasLeg o) w.calls) (sym (call_stays 1 w.vehicle)) tidy.legs in
+    quiet_then (vehicle_passes w) sessions_pass passed (record passed { calls = map (aged_call 1) w.calls })
+    (quiet_vehicle w rests.0 tidy.legs) (quiet_sessions passed tidy.numbers legs rests.1)
+
+pub ends_stand : (floor before : ℕ) (kept : kept_channel.Channel) (w : World) → StandsAt before floor (λ c. before) kept w → before + 1 ≡ kept.tick → EndsRest 1 w → ((and_then (vehicle_passes w) sessions_pass).entries ≡ []) × StandsAt kept.tick floor (λ c. kept.tick) kept (and_then (vehicle_passes w) sessions_pass).world
+ends_stand floor before kept w s next rests =
+    let within : kept.passed ≤ before = s.passed in
+    let sum : (before - kept.passed) + 1 ≡ kept.tick - kept.passed = omega arith in
+    let tidy : IsTidy (aged_world 1 w) = aged_tidy 1 w s.tidy in
+    subst (λ (z : Step). (z.entries ≡ []) × StandsAt kept.tick floor (λ c. kept.tick) kept z.world) (sym (quiet_ends w s.tidy rests)) (
+      refl,
+      record {
+        tick = s.tick;
+        drawn = s.drawn;
+        up_flow = s.up_flow;
+        down_flow = s.down_flow;
+        passed = omega arith;
+        from = s.from;
+        vehicle = subst (λ m. VehicleLags m kept.vehicle (vehicle.aged 1 w.vehicle)) sum (lags_on (before - kept.passed) 1 kept.vehicle w.vehicle s.vehicle rests.0);
+        calls = subst (λ t. CallsLag floor (λ c. t) kept.calls (map (aged_call 1) w.calls)) next (calls_on floor before 1 kept.calls w.calls s.calls rests.1);
+        tidy =
+            record {
+              numbers = tidy.numbers;
+              below = tidy.below;
+              legs = tidy.legs;
+              frames = aged_frames 1 w.tick w.calls s.tidy.frames;
+            };
+      },
+    )

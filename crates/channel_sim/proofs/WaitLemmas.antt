@@ -7,7 +7,7 @@ use Rattle.ivs_machine.specs.VehicleRows as vehicle
 use Rattle.channel_sim.specs.declared.channel.Channel as kept_channel
 use Rattle.channel_sim.specs.World.{Call, World}
 use Rattle.channel_sim.specs.inner.Lag.{StandsAt}
-use Rattle.channel_sim.specs.inner.Quiet.{CallRests, FramesRest, IsQuietCall, QuietFor, UpRests, DownRests}
+use Rattle.channel_sim.specs.inner.Quiet.{CallRests, FramesRest, IsQuietCall, QuietFor, EndsRest, UpRests, DownRests}
 use Rattle.channel_sim.specs.Tidy.{CallInTime}
 use Rattle.channel_sim.proofs.Jump.{vehicle_later}
 
@@ -51,7 +51,7 @@ all_quiet n up down tick (k ∷ ks) h =
 
 -- up to the first of three ticks it is quiet
 pub quiet_until : (n t first acts up down : ℕ) (w : World) → first ≤ acts → first ≤ up → first ≤ down
-    → (t + n < acts → IfSome (vehicle.due_of w.vehicle) (λ due. n < due) × AllByRecursion (CallRests n) w.calls)
+    → (t + n < acts → EndsRest n w)
     → (t + n < up → UpRests n w)
     → (t + n < down → DownRests n w)
     → t + n < first

@@ -26,6 +26,10 @@ FramesRest n zero tick sends = Unit {0}
 FramesRest n (suc d) tick sends =
     AllByRecursion (λ s. (s.tick + suc d ≤ tick) ⊎ (tick + n < s.tick + suc d)) sends
 
+-- no end is due in the next n ticks
+abbrev pub EndsRest : ℕ → World → Type 0
+EndsRest n w = IfSome (vehicle.due_of w.vehicle) (λ due. n < due) × AllByRecursion (CallRests n) w.calls
+
 -- no frame sent up, or down, is handed over in the next n ticks
 abbrev pub UpRests : ℕ → World → Type 0
 UpRests n w = AllByRecursion (λ k. FramesRest n w.up_flow w.tick k.up) w.calls

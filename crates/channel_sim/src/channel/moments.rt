@@ -125,7 +125,7 @@ impl Channel {
     ghost use Rattle.channel_sim.specs.inner.Acts.{AreSameBut, flows_by};
     ghost use Rattle.channel_sim.specs.inner.Asleep.{IsStirringPart};
     ghost use Rattle.channel_sim.specs.inner.Lag.{Came, CameNow, StandsAt, StandsNow, clock_of};
-    ghost use Rattle.channel_sim.specs.inner.Quiet.{QuietFor, CallRests, UpRests, DownRests};
+    ghost use Rattle.channel_sim.specs.inner.Quiet.{QuietFor, EndsRest, UpRests, DownRests};
     ghost use Rattle.channel_sim.specs.Tidy.{AreAbove};
     ghost use Rattle.channel_sim.specs.inner.Passes.{passes_of};
 
@@ -164,8 +164,7 @@ impl Channel {
     /// The next ticks at which something happens, each at most `end`.
     fn next_moment(&self, near: &Near, end: u64) -> Next
         ensures acts { (floor n : ℕ) (w : model.World) → StandsAt self.now.tick floor (λ c. self.now.tick) self.now w →
-            self.now.tick + n < result.acts →
-            IfSome (vehicle.due_of w.vehicle) (λ due. n < due) × AllByRecursion (CallRests n) w.calls }
+            self.now.tick + n < result.acts → EndsRest n w }
         ensures up { (floor n : ℕ) (w : model.World) → StandsAt self.now.tick floor (λ c. self.now.tick) self.now w →
             self.now.tick + n < result.up → UpRests n w }
         ensures down { (floor n : ℕ) (w : model.World) → StandsAt self.now.tick floor (λ c. self.now.tick) self.now w →
@@ -324,6 +323,34 @@ impl Channel {
         self.each_session_passes(alloc, &room.numbers, &mut room.given, to, moments)
     }
 
+    /// The unit tick of the vehicle, and then of each session, unless the next of them acts after this tick.
+    fn ends_from<H: Listener, L: Ledger>(
+        &mut self,
+        alloc: Global,
+        next: u64,
+        room: &mut Room,
+        to: &mut H,
+        moments: &mut Steps<L>,
+    ) -> Result<(), SimFault>
+        ensures step { (floor before : ℕ) (w : model.World) → StandsAt before floor (λ c. before) self.old w →
+            before + 1 ≡ self.old.tick → (self.old.tick < next → EndsRest 1 w) →
+            Came (H.grew to.old to.new) (H.partly to.old to.new) result self.old.tick floor (λ c. self.old.tick)
+            self.new (model.and_then (model.vehicle_passes w) model.sessions_pass) }
+        ensures tick { self.new.tick ≡ self.old.tick }
+        ensures stood { OnOk result (H.faults to.new ≡ H.faults to.old) }
+        ensures cause { IfErr result (λ e. SimFaultCause e (H.faults to.old) (H.faults to.new)) }
+        ensures counted { H.faults to.old ≤ H.faults to.new }
+        ensures passes { (floor before : ℕ) (w : model.World) → StandsAt before floor (λ c. before) self.old w →
+            before + 1 ≡ self.old.tick → self.old.tick < floor + 2 ^ 32 → OnOk result
+            (moments.new ≤ moments.old + passes_of (model.and_then (model.vehicle_passes w) model.sessions_pass)) }
+    {
+        if next > self.tick {
+            return Ok(());
+        }
+        self.vehicle_passes(alloc, &mut room.given, to, moments)?;
+        self.sessions_pass(alloc, room, to, moments)
+    }
+
     /// Hands over what was sent up, or down, so many ticks ago, unless the next frame comes after this tick.
     fn flows_from<H: Listener, L: Ledger>(
         &mut self,
@@ -346,7 +373,7 @@ impl Channel {
             ahead ≡ self.old.tick → self.old.tick < floor + 2 ^ 32 →
             OnOk result (moments.new ≤ moments.old + passes_of (flows_by up w)) }
     {
-        if next > self.tick {
+        if self.tick < next {
             return Ok(());
         }
         self.flows(alloc, up, room, to, moments)
@@ -364,7 +391,8 @@ impl Channel {
     ) -> Result<(), SimFault>
         ensures step { (floor n : ℕ) (w : model.World) → StandsAt self.old.tick floor (λ c. self.old.tick) self.old w →
             self.old.tick + n + 1 ≡ tick → QuietFor n w →
-            (tick < next.now.up → UpRests (n + 1) w) → (tick < next.now.down → DownRests (n + 1) w) →
+            (tick < next.now.acts → EndsRest (n + 1) w) → (tick < next.now.up → UpRests (n + 1) w) →
+            (tick < next.now.down → DownRests (n + 1) w) →
             Came (H.grew to.old to.new) (H.partly to.old to.new) result tick floor (λ c. tick) self.new
             (model.units (n + 1) w) }
         ensures tick { self.new.tick ≡ tick }
@@ -374,13 +402,13 @@ impl Channel {
         ensures passes { (floor n : ℕ) (w : model.World) → StandsAt self.old.tick floor
             (λ c. self.old.tick) self.old w →
             self.old.tick + n + 1 ≡ tick → QuietFor n w →
-            (tick < next.now.up → UpRests (n + 1) w) → (tick < next.now.down → DownRests (n + 1) w) →
+            (tick < next.now.acts → EndsRest (n + 1) w) → (tick < next.now.up → UpRests (n + 1) w) →
+            (tick < next.now.down → DownRests (n + 1) w) →
             tick < floor + 2 ^ 32 → OnOk result
             (moments.new ≤ moments.old + passes_of (model.units (n + 1) w)) }
     {
         self.tick = tick;
-        self.vehicle_passes(alloc, &mut room.given, to, moments)?;
-        self.sessions_pass(alloc, room, to, moments)?;
+        self.ends_from(alloc, next.acts, room, to, moments)?;
         self.flows_from(alloc, true, next.up, room, to, moments)?;
         self.flows_from(alloc, false, next.down, room, to, moments)
     }

@@ -84,6 +84,7 @@ loop-self-preserved g c =
           let few : c.args.n < 2 ^ 32 = c.ranges.n.fits in
           let small : c.max-tick.result < start + 2 ^ 32 = omega (arith, c.if-tick-end.false, c.from.ensures) in
           let did = c.in_ok-moment.ensures.passes start n front.world so_far.1 next quiet.2
+          (λ late. c.next_moment-next.ensures.acts start (n + 1) front.world so_far.1 (omega (arith, late, next)))
           (λ late. c.next_moment-next.ensures.up start (n + 1) front.world so_far.1 (omega (arith, late, next)))
           (λ late. c.next_moment-next.ensures.down start (n + 1) front.world so_far.1 (omega (arith, late, next))) small in
           let e : c.moment.new.self.tick - start ≡ k + (n + 1) = omega (arith, c.moment.ensures.tick) in
@@ -101,6 +102,7 @@ loop-self-preserved g c =
           let n = quiet.0 in
           let next : now + n + 1 ≡ c.max-tick.result = quiet.1 ∙ sym c.max-tick.ensures in
           let did = c.in_ok-moment.ensures.step start n u so_far.1 next quiet.2
+          (λ late. c.next_moment-next.ensures.acts start (n + 1) u so_far.1 (omega (arith, late, next)))
           (λ late. c.next_moment-next.ensures.up start (n + 1) u so_far.1 (omega (arith, late, next)))
           (λ late. c.next_moment-next.ensures.down start (n + 1) u so_far.1 (omega (arith, late, next))) in
           let e : c.moment.new.self.tick - start ≡ k + (n + 1) = omega (arith, c.moment.ensures.tick) in
@@ -128,6 +130,7 @@ returns-in_err-moment-clause-step g c =
     let n = quiet.0 in
     let next : now + n + 1 ≡ c.max-tick.result = quiet.1 ∙ sym c.max-tick.ensures in
     let part = c.in_err-moment.ensures.step start n u so_far.1 next quiet.2
+    (λ late. c.next_moment-next.ensures.acts start (n + 1) u so_far.1 (omega (arith, late, next)))
     (λ late. c.next_moment-next.ensures.up start (n + 1) u so_far.1 (omega (arith, late, next)))
     (λ late. c.next_moment-next.ensures.down start (n + 1) u so_far.1 (omega (arith, late, next))) in
     let within : c.max-tick.result ≤ start + c.from.result = omega (arith, c.if-tick-end.false) in
