@@ -114,7 +114,6 @@ fn vehicle_due_at(ivs: &Ivs, lag: u64) -> Option<u32>
 
 impl Channel {
     ghost use Rattle.std.specs.Option.{is_some};
-    ghost use Rattle.std.specs.List.{AllByRecursion};
     ghost use Rattle.ivs_machine.specs.IvsStands.{IvsStandsFor};
     ghost use Rattle.ivs_machine.specs.Vehicle.{Vehicle};
     ghost use Rattle.ivs_machine.specs.VehicleRows as vehicle;
