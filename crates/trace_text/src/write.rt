@@ -439,6 +439,38 @@ fn long_line(line: &mut LongText, entry: &Entry)
     line.push(b'\n');
 }
 
+/// Writes the line of an entry whose item has no octets of a set. After a failure a front of it was written.
+fn write_short<O: Sink>(entry: &Entry, out: &mut O) -> Result<(), Failed>
+    requires short { note_has_octets entry.now.note ≡ false }
+    ensures ok { OnOk result (Grew (O.held out.old) (O.held out.new) (line_of entry.now)) }
+    ensures partly { OnErr result (GrewPartly (O.held out.old) (O.held out.new) (line_of entry.now)) }
+    ensures stood { OnOk result (O.faults out.new ≡ O.faults out.old) }
+    ensures cause { OnErr result (Rose (O.faults out.old) (O.faults out.new)) }
+    ensures counted { O.faults out.old ≤ O.faults out.new }
+    ensures onward { Onward (O.way out.old) (O.way out.new) }
+{
+    let mut line = ShortText::new();
+    short_line(&mut line, entry);
+    write_all(out, &line)
+}
+
+/// Writes the line of an entry whose item has the octets of a set. After a failure a front of it was written.
+// Never inlined: a call has room for the longest line, which a short one would pay for, too.
+#[inline(never)]
+fn write_long<O: Sink>(entry: &Entry, out: &mut O) -> Result<(), Failed>
+    requires long { note_has_octets entry.now.note ≡ true }
+    ensures ok { OnOk result (Grew (O.held out.old) (O.held out.new) (line_of entry.now)) }
+    ensures partly { OnErr result (GrewPartly (O.held out.old) (O.held out.new) (line_of entry.now)) }
+    ensures stood { OnOk result (O.faults out.new ≡ O.faults out.old) }
+    ensures cause { OnErr result (Rose (O.faults out.old) (O.faults out.new)) }
+    ensures counted { O.faults out.old ≤ O.faults out.new }
+    ensures onward { Onward (O.way out.old) (O.way out.new) }
+{
+    let mut line = LongText::new();
+    long_line(&mut line, entry);
+    write_all(out, &line)
+}
+
 /// Writes the line of an entry. After a failure a front of it was written.
 pub fn write_entry<O: Sink>(entry: &Entry, out: &mut O) -> Result<(), Failed>
     ensures ok { OnOk result (Grew (O.held out.old) (O.held out.new) (line_of entry.now)) }
@@ -449,13 +481,9 @@ pub fn write_entry<O: Sink>(entry: &Entry, out: &mut O) -> Result<(), Failed>
     ensures onward { Onward (O.way out.old) (O.way out.new) }
 {
     if has_octets(&entry.note) {
-        let mut line = LongText::new();
-        long_line(&mut line, entry);
-        write_all(out, &line)
+        write_long(entry, out)
     } else {
-        let mut line = ShortText::new();
-        short_line(&mut line, entry);
-        write_all(out, &line)
+        write_short(entry, out)
     }
 }
 
