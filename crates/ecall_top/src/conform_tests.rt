@@ -2,7 +2,7 @@
 
 use crate::Status;
 use crate::conform::conform;
-use crate::tests::sink;
+use crate::tests::{same_status, same_text, sink};
 use std::test::Fail;
 
 /// The answers to the vectors.
@@ -30,7 +30,8 @@ const ANSWERS: &str = "1 02000681d54970d65c3597ca0420c4146005e0be1008a5d32c0827c
 fn tells_what_each_vector_comes_to(rt: HostRuntime) -> Result<(), Fail> {
     let alloc = rt.alloc();
     let mut output = sink(alloc, Vec::new(alloc))?;
-    assert_eq!(rt; conform(&mut output), Status::Done);
-    assert_eq!(rt; output.bytes(), ANSWERS.as_bytes());
+    let answer = conform(&mut output);
+    same_status(&rt, "conform", answer, Status::Done);
+    same_text(&rt, "conform", output.bytes(), ANSWERS);
     Ok(())
 }

@@ -1,9 +1,10 @@
 //! What no clause says: that the definitions mean, on sets worked out by hand, what the description of the format says.
 
-use crate::tests::{bad, call, sink, source};
+use crate::tests::{bad, expect, failing, same_status, same_text, source, told};
 use crate::{Refused, Status};
 use per_bits::{Reason as SetReason, Refusal};
 use std::alloc::{AllocError, Global};
+use std::process::Abort;
 use std::test::Fail;
 use trace_text::Reason;
 
@@ -68,17 +69,31 @@ fn no_set(place: u32, reason: SetReason, value: u64) -> Status {
     Status::Refused(Refused::Set { line: 1, refusal })
 }
 
+/// Checks how the command ends over these pieces of an input, and what it writes.
+fn expect_decoded(
+    rt: &impl Abort,
+    alloc: Global,
+    pieces: &[&str],
+    status: Status,
+    text: &str,
+) -> Result<(), Fail> {
+    let input = source(alloc, pieces, 4096, Vec::new(alloc))?;
+    expect(rt, alloc, "decode", text, input, status, text)
+}
+
+/// Two texts behind one another.
+fn joined(alloc: Global, first: &str, then: &str) -> Result<String, AllocError> {
+    let mut text = String::from_str(alloc, first)?;
+    text.push_str(then)?;
+    Ok(text)
+}
+
 #[test]
 fn describes_additions(rt: HostRuntime) -> Result<(), Fail> {
     let alloc = rt.alloc();
-    let mut input = source(alloc, &[ADDED, "\n", PETROL], 4096, Vec::new(alloc))?;
-    let mut output = sink(alloc, Vec::new(alloc))?;
-    let answer = call(alloc, "decode", &mut input, &mut output)?;
-    assert_eq!(rt; answer, Status::Done);
-    let mut want = String::from_str(alloc, ADDED_SAYS)?;
-    want.push_str(PETROL_SAYS)?;
-    assert_eq!(rt; output.bytes(), want.as_bytes());
-    Ok(())
+    let text = joined(alloc, ADDED_SAYS, PETROL_SAYS)?;
+    let pieces = [ADDED, "\n", PETROL];
+    expect_decoded(&rt, alloc, &pieces, Status::Done, text.as_str())
 }
 
 /// So many octets 2 in hexadecimal.
@@ -93,37 +108,48 @@ fn octets(alloc: Global, count: usize) -> Result<String, AllocError> {
 #[test]
 fn refuses_lines(rt: HostRuntime) -> Result<(), Fail> {
     let alloc = rt.alloc();
-    let over = octets(alloc, 141)?;
-    let long = octets(alloc, 256)?;
-    let table = [
-        ("0z", bad(1, Reason::Hex), "refused 1 6\n"),
-        ("02 00", bad(1, Reason::Count), "refused 1 3\n"),
-        // 141 octets, and as many as a line has room for.
-        (
-            over.as_str(),
-            no_set(0, SetReason::Size, 141),
-            "refused 1 set 0 11 141\n",
-        ),
-        (
-            long.as_str(),
-            no_set(0, SetReason::Size, 141),
-            "refused 1 set 0 11 141\n",
-        ),
-    ];
-    for (line, status, text) in &table {
-        let mut input = source(alloc, &[line, "\n"], 4096, Vec::new(alloc))?;
-        let mut output = sink(alloc, Vec::new(alloc))?;
-        let answer = call(alloc, "decode", &mut input, &mut output)?;
-        assert_eq!(rt; answer, *status);
-        assert_eq!(rt; output.bytes(), text.as_bytes());
-    }
+    let hex = bad(1, Reason::Hex);
+    expect_decoded(&rt, alloc, &["0z", "\n"], hex, "refused 1 6\n")?;
+    let count = bad(1, Reason::Count);
+    expect_decoded(&rt, alloc, &["02 00", "\n"], count, "refused 1 3\n")
+}
+
+/// Checks what comes of a line of so many octets, with this behind them.
+fn expect_long(
+    rt: &impl Abort,
+    alloc: Global,
+    count: usize,
+    then: &str,
+    status: Status,
+    text: &str,
+) -> Result<(), Fail> {
+    let line = octets(alloc, count)?;
+    expect_decoded(rt, alloc, &[line.as_str(), then], status, text)
+}
+
+#[test]
+fn refuses_long_lines(rt: HostRuntime) -> Result<(), Fail> {
+    let alloc = rt.alloc();
+    let size = no_set(0, SetReason::Size, 141);
+    // 141 octets, and as many as a line has room for.
+    expect_long(&rt, alloc, 141, "\n", size, "refused 1 set 0 11 141\n")?;
+    expect_long(&rt, alloc, 256, "\n", size, "refused 1 set 0 11 141\n")?;
     // One digit more than a line has room for.
-    let mut input = source(alloc, &[long.as_str(), "0"], 4096, Vec::new(alloc))?;
-    let mut output = sink(alloc, Vec::new(alloc))?;
-    let answer = call(alloc, "decode", &mut input, &mut output)?;
-    assert_eq!(rt; answer, bad(1, Reason::LineLong));
-    assert_eq!(rt; output.bytes(), b"refused 1 4\n".as_slice());
-    Ok(())
+    let long = bad(1, Reason::LineLong);
+    expect_long(&rt, alloc, 256, "0", long, "refused 1 4\n")
+}
+
+/// Checks what comes of this behind a comment, an empty line and the set of the petrol car.
+fn expect_behind(
+    rt: &impl Abort,
+    alloc: Global,
+    more: &str,
+    status: Status,
+    then: &str,
+) -> Result<(), Fail> {
+    let text = joined(alloc, PETROL_SAYS, then)?;
+    let pieces = ["# petrol\n\n", PETROL, more];
+    expect_decoded(rt, alloc, &pieces, status, text.as_str())
 }
 
 #[test]
@@ -139,26 +165,21 @@ fn describes_sets(rt: HostRuntime) -> Result<(), Fail> {
         ("\n02\t00\n", bad(4, Reason::Text), "refused 4 5\n"),
     ];
     for (more, status, then) in &table {
-        let mut input = source(
-            alloc,
-            &["# petrol\n\n", PETROL, more],
-            4096,
-            Vec::new(alloc),
-        )?;
-        let mut output = sink(alloc, Vec::new(alloc))?;
-        let answer = call(alloc, "decode", &mut input, &mut output)?;
-        assert_eq!(rt; answer, *status, "{more}");
-        assert!(rt;
-            output.bytes().starts_with(PETROL_SAYS.as_bytes()),
-            "{more}"
-        );
-        assert_eq!(rt;
-            &output.bytes()[PETROL_SAYS.len()..],
-            then.as_bytes(),
-            "{more}"
-        );
+        expect_behind(&rt, alloc, more, *status, then)?;
     }
     Ok(())
+}
+
+/// Checks what comes of a set that a source gives in pieces of seven bytes.
+fn expect_set(
+    rt: &impl Abort,
+    alloc: Global,
+    set: &str,
+    status: Status,
+    text: &str,
+) -> Result<(), Fail> {
+    let input = source(alloc, &[set, "\n"], 7, Vec::new(alloc))?;
+    expect(rt, alloc, "decode", set, input, status, text)
 }
 
 #[test]
@@ -201,60 +222,60 @@ fn refuses_sets(rt: HostRuntime) -> Result<(), Fail> {
         ),
     ];
     for (set, status, text) in &table {
-        let mut input = source(alloc, &[set, "\n"], 7, Vec::new(alloc))?;
-        let mut output = sink(alloc, Vec::new(alloc))?;
-        let answer = call(alloc, "decode", &mut input, &mut output)?;
-        assert_eq!(rt; answer, *status, "{set}");
-        assert_eq!(rt; output.bytes(), text.as_bytes(), "{set}");
+        expect_set(&rt, alloc, set, *status, text)?;
     }
     Ok(())
+}
+
+/// Checks that the line of the set's added part was written.
+fn has_added_part(rt: &impl Abort, written: &[u8]) {
+    let line = b"\nset_more 1 0:abcdef\n";
+    assert!(rt;
+        written
+            .windows(line.len())
+            .any(|window| window == line.as_slice())
+    );
 }
 
 #[test]
 fn shows_a_part_off_the_octet_grid(rt: HostRuntime) -> Result<(), Fail> {
     let alloc = rt.alloc();
     let set = "02200681d54970d65c3597ca0420c4146005e0be1008a5d32c0827c4aa02d0103abcdef0";
-    let mut input = source(alloc, &[set], 1, Vec::new(alloc))?;
-    let mut output = sink(alloc, Vec::new(alloc))?;
-    let answer = call(alloc, "decode", &mut input, &mut output)?;
-    assert_eq!(rt; answer, Status::Done);
-    let line = b"\nset_more 1 0:abcdef\n";
-    assert!(rt;
-        output
-            .bytes()
-            .windows(line.len())
-            .any(|window| window == line.as_slice())
-    );
+    let input = source(alloc, &[set], 1, Vec::new(alloc))?;
+    let (answer, output) = told(alloc, "decode", input, Vec::new(alloc))?;
+    same_status(&rt, set, answer, Status::Done);
+    has_added_part(&rt, output.bytes());
+    Ok(())
+}
+
+/// Checks where the command ends over two sets whose read or write of this number fails; 0 is none. The source gives a
+/// line and its newline a call, so the first description is written in front of the second read.
+fn expect_stop(
+    rt: &impl Abort,
+    alloc: Global,
+    reads: u64,
+    writes: u64,
+    status: Status,
+    text: &str,
+) -> Result<(), Fail> {
+    let pieces = [PETROL, "\n", PETROL, "\n"];
+    let fails = failing(alloc, reads)?;
+    let input = source(alloc, &pieces, PETROL.len() + 1, fails)?;
+    let (answer, output) = told(alloc, "decode", input, failing(alloc, writes)?)?;
+    same_status(rt, text, answer, status);
+    same_text(rt, text, output.bytes(), text);
     Ok(())
 }
 
 #[test]
 fn decoding_stops_at_a_failed_write_or_read(rt: HostRuntime) -> Result<(), Fail> {
-    let alloc = rt.alloc();
-    // The source gives a line and its newline a call, so the first description is written in front of the second read.
     for (reads, writes, status, text) in [
         (1u64, 0u64, Status::ReadFault, ""),
         (2, 0, Status::ReadFault, PETROL_SAYS),
         (0, 1, Status::WriteFault, ""),
         (0, 2, Status::WriteFault, PETROL_SAYS),
     ] {
-        let mut read_fails = Vec::new(alloc);
-        if reads > 0 {
-            read_fails.push(reads)?;
-        }
-        let mut write_fails = Vec::new(alloc);
-        if writes > 0 {
-            write_fails.push(writes)?;
-        }
-        let mut input = source(
-            alloc,
-            &[PETROL, "\n", PETROL, "\n"],
-            PETROL.len() + 1,
-            read_fails,
-        )?;
-        let mut output = sink(alloc, write_fails)?;
-        assert_eq!(rt; call(alloc, "decode", &mut input, &mut output)?, status);
-        assert_eq!(rt; output.bytes(), text.as_bytes());
+        expect_stop(&rt, rt.alloc(), reads, writes, status, text)?;
     }
     Ok(())
 }

@@ -3,8 +3,9 @@
 
 use crate::Status;
 use crate::decode_tests::PETROL;
-use crate::tests::{bad, call, sink, source};
+use crate::tests::{bad, expect, failing, same_status, same_text, source, told};
 use std::alloc::{AllocError, Global};
+use std::process::Abort;
 use std::test::Fail;
 use trace_text::Reason;
 
@@ -28,30 +29,60 @@ fn zeros(alloc: Global, count: usize) -> Result<String, AllocError> {
     Ok(text)
 }
 
+/// These pieces behind one another.
+fn joined(alloc: Global, pieces: &[&str]) -> Result<String, AllocError> {
+    let mut text = String::new(alloc);
+    for piece in pieces {
+        text.push_str(piece)?;
+    }
+    Ok(text)
+}
+
+/// Checks how the command ends over these pieces of an input, and what it writes.
+fn expect_encoded(
+    rt: &impl Abort,
+    alloc: Global,
+    pieces: &[&str],
+    status: Status,
+    text: &str,
+) -> Result<(), Fail> {
+    let input = source(alloc, pieces, 4096, Vec::new(alloc))?;
+    expect(rt, alloc, "encode", text, input, status, text)
+}
+
 #[test]
 fn encodes_facts_as_they_change(rt: HostRuntime) -> Result<(), Fail> {
     let alloc = rt.alloc();
     // A comment and an empty line stand in front, so the line that is refused has number 13.
-    let mut input = source(
-        alloc,
-        &[
-            "# a car\n\n",
-            CAR,
-            "write auto 1\nfuel 1000000\nwrite auto 1\nwrite auto 255\nanswer\n",
-        ],
-        4096,
-        Vec::new(alloc),
-    )?;
-    let mut output = sink(alloc, Vec::new(alloc))?;
-    let answer = call(alloc, "encode", &mut input, &mut output)?;
-    assert_eq!(rt; answer, bad(13, Reason::Word));
-    let mut want = String::from_str(alloc, LEAST)?;
-    want.push_str(PETROL)?;
-    want.push_str("\n0203fe")?;
-    want.push_str(BEHIND_CONTROL)?;
-    want.push_str("refused 13 1\n")?;
-    assert_eq!(rt; output.bytes(), want.as_bytes());
-    Ok(())
+    let input = [
+        "# a car\n\n",
+        CAR,
+        "write auto 1\nfuel 1000000\nwrite auto 1\nwrite auto 255\nanswer\n",
+    ];
+    let want = [LEAST, PETROL, "\n0203fe", BEHIND_CONTROL, "refused 13 1\n"];
+    let text = joined(alloc, &want)?;
+    let status = bad(13, Reason::Word);
+    expect_encoded(&rt, alloc, &input, status, text.as_str())
+}
+
+/// The car and what fills its set, with two candidates whose digits are these.
+fn candidates(alloc: Global, first: &str, second: &str) -> Result<String, AllocError> {
+    let pieces = [
+        CAR,
+        "fuel 1111111\nbefore1 10 -10\nbefore2 -512 511\npassengers 2\nextra 01 ",
+        first,
+        "\nextra 01 ",
+        second,
+        "\nwrite auto 1",
+    ];
+    joined(alloc, &pieces)
+}
+
+/// The set with the candidate of these digits.
+fn with_candidate(alloc: Global, digits: &str) -> Result<String, AllocError> {
+    let front =
+        "025c0681d54970d65c3597ca0420c41467ffebc17c20114ba658104f895405b053ec007fe040202c60";
+    joined(alloc, &[front, digits, "\n"])
 }
 
 #[test]
@@ -60,30 +91,21 @@ fn encodes_the_first_candidate_that_fits(rt: HostRuntime) -> Result<(), Fail> {
     // The first has 101 octets with its identifier and is passed over.
     let over = zeros(alloc, 200)?;
     let fits = zeros(alloc, 198)?;
-    let mut input = source(
-        alloc,
-        &[
-            CAR,
-            "fuel 1111111\nbefore1 10 -10\nbefore2 -512 511\npassengers 2\nextra 01 ",
-            &over,
-            "\nextra 01 ",
-            &fits,
-            "\nwrite auto 1",
-        ],
-        4096,
-        Vec::new(alloc),
-    )?;
-    let mut output = sink(alloc, Vec::new(alloc))?;
-    let answer = call(alloc, "encode", &mut input, &mut output)?;
-    assert_eq!(rt; answer, Status::Done);
-    let mut want = String::from_str(
-        alloc,
-        "025c0681d54970d65c3597ca0420c41467ffebc17c20114ba658104f895405b053ec007fe040202c60",
-    )?;
-    want.push_str(&fits)?;
-    want.push('\n')?;
-    assert_eq!(rt; output.bytes(), want.as_bytes());
-    Ok(())
+    let lines = candidates(alloc, over.as_str(), fits.as_str())?;
+    let text = with_candidate(alloc, fits.as_str())?;
+    expect_encoded(&rt, alloc, &[lines.as_str()], Status::Done, text.as_str())
+}
+
+/// Checks that a line is refused that stands in front of another.
+fn expect_refused(
+    rt: &impl Abort,
+    alloc: Global,
+    line: &str,
+    reason: Reason,
+    text: &str,
+) -> Result<(), Fail> {
+    let input = source(alloc, &[line, "\nvin 0"], 4096, Vec::new(alloc))?;
+    expect(rt, alloc, "encode", line, input, bad(1, reason), text)
 }
 
 #[test]
@@ -102,73 +124,59 @@ fn refuses_facts_and_questions(rt: HostRuntime) -> Result<(), Fail> {
         ("write auto 1", Reason::Missing, "refused 1 7\n"),
     ];
     for (line, reason, text) in &table {
-        let mut input = source(alloc, &[line, "\nvin 0"], 4096, Vec::new(alloc))?;
-        let mut output = sink(alloc, Vec::new(alloc))?;
-        let answer = call(alloc, "encode", &mut input, &mut output)?;
-        assert_eq!(rt; answer, bad(1, *reason), "{line}");
-        assert_eq!(rt; output.bytes(), text.as_bytes(), "{line}");
+        expect_refused(&rt, alloc, line, *reason, text)?;
     }
     Ok(())
 }
 
 #[test]
-fn refuses_long_lines_and_a_fifth_candidate(rt: HostRuntime) -> Result<(), Fail> {
+fn refuses_a_long_line(rt: HostRuntime) -> Result<(), Fail> {
     let alloc = rt.alloc();
     // 513 bytes, one of which may not stand in a line.
     let long = zeros(alloc, 512)?;
+    let status = bad(1, Reason::LineLong);
+    expect_encoded(&rt, alloc, &["\t", long.as_str()], status, "refused 1 4\n")
+}
+
+#[test]
+fn refuses_a_fifth_candidate(rt: HostRuntime) -> Result<(), Fail> {
+    let alloc = rt.alloc();
     let extra = "extra 01 00\n";
-    let table = [
-        (
-            ["\t", &long, "", "", ""],
-            bad(1, Reason::LineLong),
-            "refused 1 4\n",
-        ),
-        ([extra, extra, extra, extra, "kind 1"], Status::Done, ""),
-        (
-            [extra, extra, extra, extra, extra],
-            bad(5, Reason::Many),
-            "refused 5 9\n",
-        ),
-    ];
-    for (lines, status, text) in &table {
-        let mut input = source(alloc, lines.as_slice(), 4096, Vec::new(alloc))?;
-        let mut output = sink(alloc, Vec::new(alloc))?;
-        let answer = call(alloc, "encode", &mut input, &mut output)?;
-        assert_eq!(rt; answer, *status);
-        assert_eq!(rt; output.bytes(), text.as_bytes());
-    }
+    let four = [extra, extra, extra, extra, "kind 1"];
+    expect_encoded(&rt, alloc, &four, Status::Done, "")?;
+    let five = [extra, extra, extra, extra, extra];
+    let status = bad(5, Reason::Many);
+    expect_encoded(&rt, alloc, &five, status, "refused 5 9\n")
+}
+
+/// Checks where the command ends over two lines that ask for a set and whose read or write of this number fails; 0 is
+/// none. The source gives the facts and one such line a call, so the first set is written in front of the second read.
+fn expect_stop(
+    rt: &impl Abort,
+    alloc: Global,
+    reads: u64,
+    writes: u64,
+    status: Status,
+    text: &str,
+) -> Result<(), Fail> {
+    let asks = "write auto 1\n";
+    let most = CAR.len() + asks.len();
+    let input = source(alloc, &[CAR, asks, asks], most, failing(alloc, reads)?)?;
+    let (answer, output) = told(alloc, "encode", input, failing(alloc, writes)?)?;
+    same_status(rt, text, answer, status);
+    same_text(rt, text, output.bytes(), text);
     Ok(())
 }
 
 #[test]
 fn encoding_stops_at_a_failed_write_or_read(rt: HostRuntime) -> Result<(), Fail> {
-    let alloc = rt.alloc();
-    let asks = "write auto 1\n";
-    // The source gives the facts and one line that asks for a set a call, so the first set is written in front of the
-    // second read.
     for (reads, writes, status, text) in [
         (1u64, 0u64, Status::ReadFault, ""),
         (2, 0, Status::ReadFault, LEAST),
         (0, 1, Status::WriteFault, ""),
         (0, 2, Status::WriteFault, LEAST),
     ] {
-        let mut read_fails = Vec::new(alloc);
-        if reads > 0 {
-            read_fails.push(reads)?;
-        }
-        let mut write_fails = Vec::new(alloc);
-        if writes > 0 {
-            write_fails.push(writes)?;
-        }
-        let mut input = source(
-            alloc,
-            &[CAR, asks, asks],
-            CAR.len() + asks.len(),
-            read_fails,
-        )?;
-        let mut output = sink(alloc, write_fails)?;
-        assert_eq!(rt; call(alloc, "encode", &mut input, &mut output)?, status);
-        assert_eq!(rt; output.bytes(), text.as_bytes());
+        expect_stop(&rt, rt.alloc(), reads, writes, status, text)?;
     }
     Ok(())
 }

@@ -1,7 +1,7 @@
 //! What no clause says: that the definitions mean, on streams worked out by hand, what the description of the format
 //! says.
 
-use crate::tests::{bad, call, sink, source};
+use crate::tests::{bad, expect, source};
 use crate::{Refused, Status};
 use link_frames::{Fault, FrameFault};
 use std::alloc::{AllocError, Global};
@@ -27,12 +27,8 @@ fn expect_frames(
     status: Status,
     text: &str,
 ) -> Result<(), Fail> {
-    let mut input = source(alloc, &[lines], 7, Vec::new(alloc))?;
-    let mut output = sink(alloc, Vec::new(alloc))?;
-    let answer = call(alloc, "frames", &mut input, &mut output)?;
-    assert_eq!(rt; answer, status, "{lines}");
-    assert_eq!(rt; output.bytes(), text.as_bytes(), "{lines}");
-    Ok(())
+    let input = source(alloc, &[lines], 7, Vec::new(alloc))?;
+    expect(rt, alloc, "frames", lines, input, status, text)
 }
 
 #[test]
@@ -104,16 +100,28 @@ fn repeated(alloc: Global, text: &str, count: usize) -> Result<String, AllocErro
     Ok(all)
 }
 
+/// The first octets of a set's frame, and so many lines of ten octets behind them.
+fn ten_by_ten(alloc: Global, count: usize) -> Result<String, AllocError> {
+    let mut lines = String::from_str(alloc, "03\n01\n00\n")?;
+    lines.push_str(repeated(alloc, "000000000000000000AB\n", count)?.as_str())?;
+    Ok(lines)
+}
+
+/// What is written for such a frame of 14 lines.
+fn data_line(alloc: Global) -> Result<String, AllocError> {
+    let mut text = String::from_str(alloc, "data 1 0 ")?;
+    text.push_str(repeated(alloc, "000000000000000000ab", 14)?.as_str())?;
+    text.push_str("\nrest 0\n")?;
+    Ok(text)
+}
+
 /// A set comes in lines of ten octets each.
 #[test]
 fn reads_a_set_in_pieces(rt: HostRuntime) -> Result<(), Fail> {
     let alloc = rt.alloc();
-    let mut lines = String::from_str(alloc, "03\n01\n00\n")?;
-    lines.push_str(repeated(alloc, "000000000000000000AB\n", 13)?.as_str())?;
-    expect_frames(&rt, alloc, lines.as_str(), Status::Done, "rest 133\n")?;
-    lines.push_str("000000000000000000AB\n")?;
-    let mut text = String::from_str(alloc, "data 1 0 ")?;
-    text.push_str(repeated(alloc, "000000000000000000ab", 14)?.as_str())?;
-    text.push_str("\nrest 0\n")?;
-    expect_frames(&rt, alloc, lines.as_str(), Status::Done, text.as_str())
+    let most = ten_by_ten(alloc, 13)?;
+    expect_frames(&rt, alloc, most.as_str(), Status::Done, "rest 133\n")?;
+    let whole = ten_by_ten(alloc, 14)?;
+    let text = data_line(alloc)?;
+    expect_frames(&rt, alloc, whole.as_str(), Status::Done, text.as_str())
 }

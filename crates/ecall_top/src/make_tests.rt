@@ -2,7 +2,7 @@
 //! gave which was written from the same description, and that neither command gives up while memory is at hand.
 
 use crate::Status;
-use crate::tests::{FACTS, call};
+use crate::tests::{FACTS, call, same_status, same_text};
 use call_io::{MemSink, MemSource};
 use std::alloc::{AllocError, Global};
 use std::process::Abort;
@@ -37,7 +37,7 @@ fn written(
     let mut source = MemSource::new(bytes, 4096, Vec::new(alloc));
     let mut output = MemSink::new(alloc, room, Vec::new(alloc))?;
     let answer = call(alloc, words, &mut source, &mut output)?;
-    assert_eq!(rt; answer, Status::Done);
+    same_status(rt, words, answer, Status::Done);
     Ok(output)
 }
 
@@ -66,29 +66,42 @@ fn counts_of(alloc: Global, trace: &[u8]) -> Result<String, AllocError> {
     format!(in alloc; "items {items}\ncalls {calls}\nshown {shown}\nacked {acked}\n")
 }
 
+/// Checks the first lines of a script, and how many it has.
+fn same_script(rt: &impl Abort, script: &[u8], first: &str, count: usize) {
+    assert!(rt; script.starts_with(first.as_bytes()));
+    let lines = script.iter().filter(|byte| **byte == b'\n').count();
+    assert_eq!(rt; lines, count);
+}
+
 #[test]
 fn makes_the_first_call(rt: HostRuntime) -> Result<(), Fail> {
     let alloc = rt.alloc();
     let mut first = String::from_str(alloc, FACTS)?;
     first.push_str(FIRST_CALL)?;
     let output = written(&rt, alloc, "make 0", b"", 400_000)?;
-    let script = output.bytes();
-    assert!(rt; script.starts_with(first.as_bytes()));
-    let lines = script.iter().filter(|byte| **byte == b'\n').count();
-    assert_eq!(rt; lines, 20_007);
+    same_script(&rt, output.bytes(), first.as_str(), 20_007);
     Ok(())
+}
+
+/// Checks that the counts of the trial of the number 0 are these.
+fn expect_counts(rt: &impl Abort, alloc: Global) -> Result<(), Fail> {
+    let trial = written(rt, alloc, "trial 0", b"", 200)?;
+    same_text(rt, "trial", trial.bytes(), COUNTS);
+    Ok(())
+}
+
+/// The counts of the trace of the script of the number 0, which is made and then run.
+fn told_of_run(rt: &impl Abort, alloc: Global) -> Result<String, Fail> {
+    let script = written(rt, alloc, "make 0", b"", 400_000)?;
+    let trace = written(rt, alloc, "run", script.bytes(), 33_554_432)?;
+    Ok(counts_of(alloc, trace.bytes())?)
 }
 
 #[test]
 fn counts_what_run_writes(rt: HostRuntime) -> Result<(), Fail> {
     let alloc = rt.alloc();
-    let script = written(&rt, alloc, "make 0", b"", 400_000)?;
-    let trace = written(&rt, alloc, "run", script.bytes(), 33_554_432)?;
-    let told = counts_of(alloc, trace.bytes())?;
-    let trial = written(&rt, alloc, "trial 0", b"", 200)?;
-    assert!(rt; trial.bytes().starts_with(told.as_bytes()));
-    assert_eq!(rt; trial.bytes(), COUNTS.as_bytes());
-    let again = written(&rt, alloc, "trial 0", b"", 200)?;
-    assert_eq!(rt; again.bytes(), COUNTS.as_bytes());
-    Ok(())
+    let told = told_of_run(&rt, alloc)?;
+    assert!(rt; COUNTS.as_bytes().starts_with(told.as_bytes()));
+    expect_counts(&rt, alloc)?;
+    expect_counts(&rt, alloc)
 }

@@ -2,8 +2,8 @@
 //! description.
 
 use crate::Status;
-use crate::tests::{FACTS, bad, call, sink, source};
-use std::alloc::Global;
+use crate::tests::{FACTS, bad, expect, source};
+use std::alloc::{AllocError, Global};
 use std::process::Abort;
 use std::test::Fail;
 use trace_text::Reason;
@@ -17,12 +17,8 @@ fn expect_run(
     status: Status,
     text: &str,
 ) -> Result<(), Fail> {
-    let mut input = source(alloc, &[facts, script], 4096, Vec::new(alloc))?;
-    let mut output = sink(alloc, Vec::new(alloc))?;
-    let answer = call(alloc, "run", &mut input, &mut output)?;
-    assert_eq!(rt; answer, status, "{script}");
-    assert_eq!(rt; output.bytes(), text.as_bytes(), "{script}");
-    Ok(())
+    let input = source(alloc, &[facts, script], 4096, Vec::new(alloc))?;
+    expect(rt, alloc, "run", script, input, status, text)
 }
 
 /// The facts are seven lines.
@@ -92,7 +88,7 @@ fn refuses_each_fact_behind_an_event(rt: HostRuntime) -> Result<(), Fail> {
 }
 
 #[test]
-fn refuses_each_event_without_its_facts(rt: HostRuntime) -> Result<(), Fail> {
+fn refuses_an_event_without_its_facts(rt: HostRuntime) -> Result<(), Fail> {
     let alloc = rt.alloc();
     let wanted = [
         "vin WM9VDSVDSYA123456\nkind 1\n",
@@ -104,6 +100,12 @@ fn refuses_each_event_without_its_facts(rt: HostRuntime) -> Result<(), Fail> {
         let status = bad(3, Reason::Missing);
         expect_run(&rt, alloc, facts, "answer", status, "refused 3 7\n")?;
     }
+    Ok(())
+}
+
+#[test]
+fn refuses_each_event_without_facts(rt: HostRuntime) -> Result<(), Fail> {
+    let alloc = rt.alloc();
     let events = ["trigger auto", "answer", "deliver up 1 1", "tick 1"];
     for event in &events {
         let status = bad(1, Reason::Missing);
@@ -112,13 +114,19 @@ fn refuses_each_event_without_its_facts(rt: HostRuntime) -> Result<(), Fail> {
     Ok(())
 }
 
-#[test]
-fn refuses_a_line_of_513_letters(rt: HostRuntime) -> Result<(), Fail> {
-    let alloc = rt.alloc();
+/// A line of 513 letters.
+fn letters(alloc: Global) -> Result<String, AllocError> {
     let mut letters = String::new(alloc);
     for _ in 0..513 {
         letters.push('x')?;
     }
+    Ok(letters)
+}
+
+#[test]
+fn refuses_a_line_of_513_letters(rt: HostRuntime) -> Result<(), Fail> {
+    let alloc = rt.alloc();
+    let letters = letters(alloc)?;
     let status = bad(1, Reason::LineLong);
-    expect_run(&rt, alloc, &letters, "", status, "refused 1 4\n")
+    expect_run(&rt, alloc, letters.as_str(), "", status, "refused 1 4\n")
 }

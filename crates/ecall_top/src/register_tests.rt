@@ -2,7 +2,7 @@
 //! up while memory is at hand.
 
 use crate::Status;
-use crate::tests::{FACTS, bad, call, expand, sink, source};
+use crate::tests::{FACTS, bad, expand, expect, failing, same_status, same_text, source, told};
 use std::alloc::Global;
 use std::process::Abort;
 use std::test::Fail;
@@ -19,12 +19,8 @@ fn expect_register(
     status: Status,
     text: &str,
 ) -> Result<(), Fail> {
-    let mut input = source(alloc, &script, 4096, Vec::new(alloc))?;
-    let mut output = sink(alloc, Vec::new(alloc))?;
-    let answer = call(alloc, "register", &mut input, &mut output)?;
-    assert_eq!(rt; answer, status);
-    assert_eq!(rt; output.bytes(), text.as_bytes());
-    Ok(())
+    let input = source(alloc, &script, 4096, Vec::new(alloc))?;
+    expect(rt, alloc, "register", script[1], input, status, text)
 }
 
 #[test]
@@ -72,27 +68,30 @@ fn writes_a_refusal_alone(rt: HostRuntime) -> Result<(), Fail> {
     Ok(())
 }
 
+/// Checks that nothing is written where the read or the write of this number fails; 0 is none.
+fn expect_stop(
+    rt: &impl Abort,
+    alloc: Global,
+    reads: u64,
+    writes: u64,
+    status: Status,
+) -> Result<(), Fail> {
+    let input = source(alloc, &[FACTS, CALL], FACTS.len(), failing(alloc, reads)?)?;
+    let (answer, output) = told(alloc, "register", input, failing(alloc, writes)?)?;
+    same_status(rt, "a failed call", answer, status);
+    same_text(rt, "a failed call", output.bytes(), "");
+    Ok(())
+}
+
 #[test]
 fn registering_stops_at_a_failed_write_or_read(rt: HostRuntime) -> Result<(), Fail> {
-    let alloc = rt.alloc();
     // The third read comes behind all of the script.
     for (reads, writes, status) in [
         (1u64, 0u64, Status::ReadFault),
         (3, 0, Status::ReadFault),
         (0, 1, Status::WriteFault),
     ] {
-        let mut read_fails = Vec::new(alloc);
-        if reads > 0 {
-            read_fails.push(reads)?;
-        }
-        let mut write_fails = Vec::new(alloc);
-        if writes > 0 {
-            write_fails.push(writes)?;
-        }
-        let mut input = source(alloc, &[FACTS, CALL], FACTS.len(), read_fails)?;
-        let mut output = sink(alloc, write_fails)?;
-        assert_eq!(rt; call(alloc, "register", &mut input, &mut output)?, status);
-        assert!(rt; output.bytes().is_empty());
+        expect_stop(&rt, rt.alloc(), reads, writes, status)?;
     }
     Ok(())
 }

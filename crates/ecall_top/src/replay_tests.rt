@@ -1,7 +1,7 @@
 //! What no clause says: that the definitions mean, on traces worked out by hand, what the description of an audit says.
 
 use crate::Status;
-use crate::tests::{bad, call, expand, sink, source};
+use crate::tests::{bad, expand_all, expect, failing, source};
 use std::alloc::Global;
 use std::process::Abort;
 use std::test::Fail;
@@ -45,16 +45,9 @@ fn expect_told(
     status: Status,
     text: &str,
 ) -> Result<(), Fail> {
-    let mut trace = String::new(alloc);
-    for piece in pieces {
-        trace.push_str(expand(alloc, piece)?.as_str())?;
-    }
-    let mut input = source(alloc, &[trace.as_str()], 100, fails)?;
-    let mut output = sink(alloc, Vec::new(alloc))?;
-    let answer = call(alloc, "replay", &mut input, &mut output)?;
-    assert_eq!(rt; answer, status);
-    assert_eq!(rt; output.bytes(), text.as_bytes());
-    Ok(())
+    let trace = expand_all(alloc, pieces)?;
+    let input = source(alloc, &[trace.as_str()], 100, fails)?;
+    expect(rt, alloc, "replay", text, input, status, text)
 }
 
 #[test]
@@ -107,8 +100,7 @@ fn refuses_a_line_and_says_no_more(rt: HostRuntime) -> Result<(), Fail> {
 #[test]
 fn writes_nothing_behind_a_failed_read(rt: HostRuntime) -> Result<(), Fail> {
     let alloc = rt.alloc();
-    let mut fails = Vec::new(alloc);
-    fails.push(2)?;
+    let fails = failing(alloc, 2)?;
     let whole = [SENT, SHOWN, ACKNOWLEDGED];
     expect_told(&rt, alloc, &whole, fails, Status::ReadFault, "")
 }

@@ -139,7 +139,58 @@ pub(crate) fn sink(alloc: Global, fails: Vec<u64>) -> Result<MemSink, Fail> {
     Ok(MemSink::new(alloc, 20_000, fails)?)
 }
 
-/// Checks what the program answers, and writes in two pieces, for a script that stands behind a `set` line.
+/// How the words end over this input, and a sink that holds what they wrote, where the writes of these numbers fail.
+pub(crate) fn told(
+    alloc: Global,
+    words: &str,
+    input: MemSource,
+    fails: Vec<u64>,
+) -> Result<(Status, MemSink), Fail> {
+    let mut input = input;
+    let mut output = sink(alloc, fails)?;
+    let answer = call(alloc, words, &mut input, &mut output)?;
+    Ok((answer, output))
+}
+
+/// Checks a status, in the row of this name.
+pub(crate) fn same_status(rt: &impl Abort, row: &str, answer: Status, status: Status) {
+    assert_eq!(rt; answer, status, "{row}");
+}
+
+/// Checks what was written, in the row of this name.
+pub(crate) fn same_text(rt: &impl Abort, row: &str, written: &[u8], text: &str) {
+    assert_eq!(rt; written, text.as_bytes(), "{row}");
+}
+
+/// Checks how the words end over this input, and all that they write, in the row of this name.
+///
+/// The checks stand in functions of their own: what the prover has to do for a function grows faster than its length,
+/// and there most of all where sources, sinks and strings are at hand.
+pub(crate) fn expect(
+    rt: &impl Abort,
+    alloc: Global,
+    words: &str,
+    row: &str,
+    input: MemSource,
+    status: Status,
+    text: &str,
+) -> Result<(), Fail> {
+    let (answer, output) = told(alloc, words, input, Vec::new(alloc))?;
+    same_status(rt, row, answer, status);
+    same_text(rt, row, output.bytes(), text);
+    Ok(())
+}
+
+/// These pieces behind one another, expanded.
+pub(crate) fn expand_all(alloc: Global, pieces: &[&str]) -> Result<String, AllocError> {
+    let mut all = String::new(alloc);
+    for piece in pieces {
+        all.push_str(expand(alloc, piece)?.as_str())?;
+    }
+    Ok(all)
+}
+
+/// Checks what `run` answers, and writes in these pieces, for a script that stands behind a `set` line.
 fn expect_played(
     rt: &impl Abort,
     alloc: Global,
@@ -147,16 +198,9 @@ fn expect_played(
     status: Status,
     pieces: &[&str],
 ) -> Result<(), Fail> {
-    let mut input = source(alloc, &[SET, script], 4096, Vec::new(alloc))?;
-    let mut output = sink(alloc, Vec::new(alloc))?;
-    let answer = call(alloc, "run", &mut input, &mut output)?;
-    assert_eq!(rt; answer, status, "{script}");
-    let mut want = String::new(alloc);
-    for piece in pieces {
-        want.push_str(expand(alloc, piece)?.as_str())?;
-    }
-    assert_eq!(rt; output.bytes(), want.as_bytes(), "{script}");
-    Ok(())
+    let input = source(alloc, &[SET, script], 4096, Vec::new(alloc))?;
+    let text = expand_all(alloc, pieces)?;
+    expect(rt, alloc, "run", script, input, status, text.as_str())
 }
 
 #[test]
@@ -249,6 +293,20 @@ fn refused_scripts(rt: HostRuntime) -> Result<(), Fail> {
     )
 }
 
+/// Checks how these words end over this script, and what they write.
+fn expect_words(
+    rt: &impl Abort,
+    alloc: Global,
+    words: &str,
+    script: &str,
+    status: Status,
+    text: &str,
+) -> Result<(), Fail> {
+    let row = format!(in alloc; "{words}: {script}")?;
+    let input = source(alloc, &[script], 4096, Vec::new(alloc))?;
+    expect(rt, alloc, words, row.as_str(), input, status, text)
+}
+
 #[test]
 fn refuses_and_ends(rt: HostRuntime) -> Result<(), Fail> {
     let alloc = rt.alloc();
@@ -286,22 +344,23 @@ fn refuses_and_ends(rt: HostRuntime) -> Result<(), Fail> {
         ("", "", Status::Usage, usage),
     ];
     for (words, script, status, text) in &table {
-        let mut input = source(alloc, &[script], 4096, Vec::new(alloc))?;
-        let mut output = sink(alloc, Vec::new(alloc))?;
-        let answer = call(alloc, words, &mut input, &mut output)?;
-        assert_eq!(rt; answer, *status, "{words}: {script}");
-        assert_eq!(rt; output.bytes(), text.as_bytes(), "{words}: {script}");
+        expect_words(&rt, alloc, words, script, *status, text)?;
     }
     Ok(())
+}
+
+/// Checks the end of what was written.
+fn ends_with(rt: &impl Abort, written: &[u8], text: &str) {
+    assert!(rt; written.ends_with(text.as_bytes()), "{text}");
 }
 
 #[test]
 fn shows_octets_that_are_no_set(rt: HostRuntime) -> Result<(), Fail> {
     let alloc = rt.alloc();
     let script = "set 03\ntrigger auto\nanswer\ndeliver up 1 1\ndeliver down 1 1\ndeliver up 1 2\n";
-    let mut input = source(alloc, &[script], 4096, Vec::new(alloc))?;
-    let mut output = sink(alloc, Vec::new(alloc))?;
-    assert_eq!(rt; call(alloc, "run", &mut input, &mut output)?, Status::Done);
+    let input = source(alloc, &[script], 4096, Vec::new(alloc))?;
+    let (answer, output) = told(alloc, "run", input, Vec::new(alloc))?;
+    same_status(&rt, script, answer, Status::Done);
     // 139 octets 0 stand behind the one: `ZEROS` are 109 of them.
     let mut want = String::from_str(alloc, " 03")?;
     want.push_str(ZEROS)?;
@@ -311,27 +370,40 @@ fn shows_octets_that_are_no_set(rt: HostRuntime) -> Result<(), Fail> {
 0 send point 1 app 1 positive
 ",
     )?;
-    assert!(rt; output.bytes().ends_with(want.as_bytes()));
+    ends_with(&rt, output.bytes(), want.as_str());
     Ok(())
+}
+
+/// Checks that a text begins with what was written.
+fn starts_with(rt: &impl Abort, row: u64, text: &str, written: &[u8]) {
+    assert!(rt; text.as_bytes().starts_with(written), "call {row}");
+}
+
+/// Checks how many lines were written.
+fn same_lines(rt: &impl Abort, row: u64, written: &[u8], lines: usize) {
+    let counted = written.iter().filter(|b| **b == b'\n').count();
+    assert_eq!(rt; counted, lines, "call {row}");
 }
 
 /// Checks that a write that fails ends the first call behind so many lines, where the source gives a byte at a time:
 /// those that one line of the script adds are one write.
 fn expect_cut(rt: &impl Abort, alloc: Global, write: u64, lines: usize) -> Result<(), Fail> {
+    let input = source(alloc, &[SET, CALL], 1, Vec::new(alloc))?;
+    let (answer, output) = told(alloc, "run", input, failing(alloc, write)?)?;
+    same_status(rt, "a failed write", answer, Status::WriteFault);
     let want = expand(alloc, CALL_TRACE)?;
-    let mut fails = Vec::new(alloc);
-    fails.push(write)?;
-    let mut input = source(alloc, &[SET, CALL], 1, Vec::new(alloc))?;
-    let mut output = sink(alloc, fails)?;
-    let answer = call(alloc, "run", &mut input, &mut output)?;
-    assert_eq!(rt; answer, Status::WriteFault, "write {write}");
-    assert!(rt;
-        want.as_bytes().starts_with(output.bytes()),
-        "write {write}"
-    );
-    let written = output.bytes().iter().filter(|b| **b == b'\n').count();
-    assert_eq!(rt; written, lines, "write {write}");
+    starts_with(rt, write, want.as_str(), output.bytes());
+    same_lines(rt, write, output.bytes(), lines);
     Ok(())
+}
+
+/// The number of the one call that fails; where it is 0, none does.
+pub(crate) fn failing(alloc: Global, number: u64) -> Result<Vec<u64>, AllocError> {
+    let mut fails = Vec::new(alloc);
+    if number > 0 {
+        fails.push(number)?;
+    }
+    Ok(fails)
 }
 
 #[test]
@@ -343,21 +415,35 @@ fn stops_at_each_failed_write(rt: HostRuntime) -> Result<(), Fail> {
     Ok(())
 }
 
+/// Checks how the first call ends where all of its script is at hand, and the write of this number fails.
+fn expect_at_once(
+    rt: &impl Abort,
+    alloc: Global,
+    write: u64,
+    status: Status,
+) -> Result<MemSink, Fail> {
+    let input = source(alloc, &[SET, CALL], 4096, Vec::new(alloc))?;
+    let (answer, output) = told(alloc, "run", input, failing(alloc, write)?)?;
+    same_status(rt, "all at hand", answer, status);
+    Ok(output)
+}
+
 #[test]
 fn writes_at_once_what_is_at_hand(rt: HostRuntime) -> Result<(), Fail> {
     let alloc = rt.alloc();
-    let mut input = source(alloc, &[SET, CALL], 4096, Vec::new(alloc))?;
-    let fails = vec![in alloc; 1]?;
-    let mut output = sink(alloc, fails)?;
-    assert_eq!(rt;
-        call(alloc, "run", &mut input, &mut output)?,
-        Status::WriteFault
-    );
+    let output = expect_at_once(&rt, alloc, 1, Status::WriteFault)?;
     assert!(rt; output.bytes().is_empty());
-    let mut input = source(alloc, &[SET, CALL], 4096, Vec::new(alloc))?;
-    let fails = vec![in alloc; 2]?;
-    let mut output = sink(alloc, fails)?;
-    assert_eq!(rt; call(alloc, "run", &mut input, &mut output)?, Status::Done);
+    expect_at_once(&rt, alloc, 2, Status::Done)?;
+    Ok(())
+}
+
+/// Checks that a read that fails ends the first call, where the source gives a byte at a time, and that what was
+/// written is a front of its trace.
+fn expect_unread(rt: &impl Abort, alloc: Global, read: u64, want: &str) -> Result<(), Fail> {
+    let input = source(alloc, &[SET, CALL], 1, failing(alloc, read)?)?;
+    let (answer, output) = told(alloc, "run", input, Vec::new(alloc))?;
+    same_status(rt, "a failed read", answer, Status::ReadFault);
+    starts_with(rt, read, want, output.bytes());
     Ok(())
 }
 
@@ -367,14 +453,8 @@ fn stops_at_each_failed_read(rt: HostRuntime) -> Result<(), Fail> {
     let want = expand(alloc, CALL_TRACE)?;
     // One read for each byte of the script, and one that finds its end.
     let reads = (SET.len() + CALL.len() + 1) as u64;
-    for fail in 1..=reads {
-        let mut fails = Vec::new(alloc);
-        fails.push(fail)?;
-        let mut input = source(alloc, &[SET, CALL], 1, fails)?;
-        let mut output = sink(alloc, Vec::new(alloc))?;
-        let answer = call(alloc, "run", &mut input, &mut output)?;
-        assert_eq!(rt; answer, Status::ReadFault, "read {fail}");
-        assert!(rt; want.as_bytes().starts_with(output.bytes()), "read {fail}");
+    for read in 1..=reads {
+        expect_unread(&rt, alloc, read, want.as_str())?;
     }
     Ok(())
 }
@@ -391,37 +471,22 @@ fn newlines(alloc: Global, more: usize, text: &str) -> Result<MemSource, AllocEr
 #[test]
 fn takes_as_many_bytes_as_it_may(rt: HostRuntime) -> Result<(), Fail> {
     let alloc = rt.alloc();
-    let mut input = newlines(alloc, 0, "")?;
-    let mut output = sink(alloc, Vec::new(alloc))?;
-    assert_eq!(rt; call(alloc, "run", &mut input, &mut output)?, Status::Done);
-    assert!(rt; output.bytes().is_empty());
-    Ok(())
+    let input = newlines(alloc, 0, "")?;
+    expect(&rt, alloc, "run", "as many", input, Status::Done, "")
 }
 
 #[test]
 fn takes_no_more_bytes(rt: HostRuntime) -> Result<(), Fail> {
     let alloc = rt.alloc();
-    let mut input = newlines(alloc, 1, "")?;
-    let mut output = sink(alloc, Vec::new(alloc))?;
-    assert_eq!(rt;
-        call(alloc, "run", &mut input, &mut output)?,
-        Status::TooLong
-    );
-    assert!(rt; output.bytes().is_empty());
-    Ok(())
+    let input = newlines(alloc, 1, "")?;
+    expect(&rt, alloc, "run", "one more", input, Status::TooLong, "")
 }
 
 #[test]
 fn refuses_no_line_behind_them(rt: HostRuntime) -> Result<(), Fail> {
     let alloc = rt.alloc();
-    let mut input = newlines(alloc, 0, "0z\n")?;
-    let mut output = sink(alloc, Vec::new(alloc))?;
-    assert_eq!(rt;
-        call(alloc, "decode", &mut input, &mut output)?,
-        Status::TooLong
-    );
-    assert!(rt; output.bytes().is_empty());
-    Ok(())
+    let input = newlines(alloc, 0, "0z\n")?;
+    expect(&rt, alloc, "decode", "a line", input, Status::TooLong, "")
 }
 
 #[test]

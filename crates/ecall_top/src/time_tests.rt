@@ -2,9 +2,9 @@
 //! protocol's description says.
 
 use crate::Status;
-use crate::tests::{FACTS, UP, call, expand, sink, source};
+use crate::tests::{self, FACTS, UP, call, expand_all, same_status, source};
 use call_io::MemSink;
-use std::alloc::Global;
+use std::alloc::{AllocError, Global};
 use std::process::Abort;
 use std::test::Fail;
 
@@ -28,6 +28,15 @@ const FLOWS_TRACE: &str = "3 send point 1 start 1
 34 voice point 1 open open
 ";
 
+/// The facts, and these pieces of a script behind them.
+fn behind_the_facts(alloc: Global, script: &[&str]) -> Result<String, AllocError> {
+    let mut lines = String::from_str(alloc, FACTS)?;
+    for piece in script {
+        lines.push_str(piece)?;
+    }
+    Ok(lines)
+}
+
 /// Checks what is written for a script that stands behind the facts: what a call that comes up gives, and then these
 /// two pieces.
 fn expect(
@@ -37,19 +46,10 @@ fn expect(
     first: &str,
     then: &str,
 ) -> Result<(), Fail> {
-    let mut lines = String::from_str(alloc, FACTS)?;
-    for piece in script {
-        lines.push_str(piece)?;
-    }
-    let mut input = source(alloc, &[&lines], 4096, Vec::new(alloc))?;
-    let mut output = sink(alloc, Vec::new(alloc))?;
-    let answer = call(alloc, "run", &mut input, &mut output)?;
-    assert_eq!(rt; answer, Status::Done);
-    let mut want = expand(alloc, UP)?;
-    want.push_str(expand(alloc, first)?.as_str())?;
-    want.push_str(expand(alloc, then)?.as_str())?;
-    assert_eq!(rt; output.bytes(), want.as_bytes());
-    Ok(())
+    let lines = behind_the_facts(alloc, script)?;
+    let input = source(alloc, &[lines.as_str()], 4096, Vec::new(alloc))?;
+    let text = expand_all(alloc, &[UP, first, then])?;
+    tests::expect(rt, alloc, "run", then, input, Status::Done, text.as_str())
 }
 
 #[test]
@@ -182,21 +182,33 @@ fn the_point_calls_back(rt: HostRuntime) -> Result<(), Fail> {
     )
 }
 
-/// 300,001 calls over some 410 years: the time that this takes grows with the calls.
-#[test]
-fn time_is_no_work(rt: HostRuntime) -> Result<(), Fail> {
-    let alloc = rt.alloc();
+/// The script of 300,001 calls.
+fn calls(alloc: Global) -> Result<String, AllocError> {
     let mut script = String::from_str(alloc, FACTS)?;
     script.push_str("trigger auto\nanswer\ntick 70\nhangup 1\n")?;
     for number in 2..=300_001 {
         let lines = format!(in alloc; "callback\nhangup {number}\ntick 431999\n")?;
         script.push_str(lines.as_str())?;
     }
-    let mut input = source(alloc, &[&script], 65_536, Vec::new(alloc))?;
-    let mut output = MemSink::new(alloc, 100_000_000, Vec::new(alloc))?;
-    assert_eq!(rt; call(alloc, "run", &mut input, &mut output)?, Status::Done);
-    let lines = output.bytes().iter().filter(|b| **b == b'\n').count();
+    Ok(script)
+}
+
+/// Checks the number of lines of the trace of those calls, and the last line.
+fn expect_quiet(rt: &impl Abort, trace: &[u8]) {
+    let lines = trace.iter().filter(|b| **b == b'\n').count();
     assert_eq!(rt; lines, 2_100_017);
-    assert!(rt; output.bytes().ends_with(b"\n129599268071 standby\n"));
+    assert!(rt; trace.ends_with(b"\n129599268071 standby\n"));
+}
+
+/// 300,001 calls over some 410 years: the time that this takes grows with the calls.
+#[test]
+fn time_is_no_work(rt: HostRuntime) -> Result<(), Fail> {
+    let alloc = rt.alloc();
+    let script = calls(alloc)?;
+    let mut input = source(alloc, &[script.as_str()], 65_536, Vec::new(alloc))?;
+    let mut output = MemSink::new(alloc, 100_000_000, Vec::new(alloc))?;
+    let answer = call(alloc, "run", &mut input, &mut output)?;
+    same_status(&rt, "quiet calls", answer, Status::Done);
+    expect_quiet(&rt, output.bytes());
     Ok(())
 }
