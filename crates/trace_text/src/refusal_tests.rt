@@ -1,6 +1,6 @@
 //! Lines of a script and of `encode` that are refused: for each reason a table over all forms of facts.
 
-use crate::script_tests::{first_encodes, first_says};
+use crate::script_tests::{first_encodes, first_says, with_digits};
 use crate::*;
 use std::alloc::{AllocError, Global};
 use std::process::Abort;
@@ -138,16 +138,16 @@ fn octets(rt: HostRuntime) -> Result<(), Fail> {
     ] {
         expect_refused(&rt, alloc, text, Reason::Hex)?;
     }
-    let mut text = String::from_str(alloc, "extra 01 ")?;
-    for _ in 0..220 {
-        text.push('0')?;
-    }
-    expect_refused(&rt, alloc, &text, Reason::Hex)?;
-    let mut text = String::from_str(alloc, "set ")?;
-    for _ in 0..282 {
-        text.push('7')?;
-    }
-    expect_refused(&rt, alloc, &text, Reason::Hex)?;
+    Ok(())
+}
+
+#[test]
+fn too_many_octets(rt: HostRuntime) -> Result<(), Fail> {
+    let alloc = rt.alloc();
+    let extra = with_digits(alloc, "extra 01 ", '0', 220)?;
+    expect_refused(&rt, alloc, extra.as_str(), Reason::Hex)?;
+    let set = with_digits(alloc, "set ", '7', 282)?;
+    expect_refused(&rt, alloc, set.as_str(), Reason::Hex)?;
     Ok(())
 }
 

@@ -94,18 +94,33 @@ fn marks(gasoline: bool, other: bool) -> Marks {
     }
 }
 
+/// Asserts that a line says this vehicle identification number.
+fn expect_vin(rt: &impl Abort, alloc: Global, text: &str) -> Result<(), Fail> {
+    let vin = Vin::read(text.as_bytes())?;
+    let line = format!(in alloc; "vin {text}")?;
+    expect_fact(rt, alloc, line.as_str(), &FactLine::Vin(vin))?;
+    Ok(())
+}
+
+/// Asserts that a line says this category of vehicles.
+fn expect_kind(rt: &impl Abort, alloc: Global, text: &str, number: u8) -> Result<(), Fail> {
+    let kind = RootKind::new(number).ok_or("a category")?;
+    expect_fact(rt, alloc, text, &FactLine::Kind(kind))?;
+    Ok(())
+}
+
 #[test]
 fn facts_about_the_vehicle(rt: HostRuntime) -> Result<(), Fail> {
     let alloc = rt.alloc();
-    for text in ["WM9VDSVDSYA123456", "ZZZZZZZZZZZZZZZZZ"] {
-        let vin = Vin::read(text.as_bytes())?;
-        let line = format!(in alloc; "vin {text}")?;
-        expect_fact(&rt, alloc, &line, &FactLine::Vin(vin))?;
-    }
-    let least = RootKind::new(1).ok_or("a category")?;
-    let most = RootKind::new(13).ok_or("a category")?;
-    expect_fact(&rt, alloc, "kind 1", &FactLine::Kind(least))?;
-    expect_fact(&rt, alloc, "kind 13", &FactLine::Kind(most))?;
+    expect_vin(&rt, alloc, "WM9VDSVDSYA123456")?;
+    expect_vin(&rt, alloc, "ZZZZZZZZZZZZZZZZZ")?;
+    expect_kind(&rt, alloc, "kind 1", 1)?;
+    expect_kind(&rt, alloc, "kind 13", 13)
+}
+
+#[test]
+fn facts_about_its_energy_and_passengers(rt: HostRuntime) -> Result<(), Fail> {
+    let alloc = rt.alloc();
     let fuel = FactLine::Fuel(marks(true, false));
     expect_fact(&rt, alloc, "fuel 1000000", &fuel)?;
     let fuel = FactLine::Fuel(marks(false, true));
@@ -137,6 +152,12 @@ fn facts_about_its_way(rt: HostRuntime) -> Result<(), Fail> {
     ] {
         expect_fact(&rt, alloc, text, &fact)?;
     }
+    Ok(())
+}
+
+#[test]
+fn facts_about_where_it_was(rt: HostRuntime) -> Result<(), Fail> {
+    let alloc = rt.alloc();
     let near = Delta::new(10, -10).ok_or("a way")?;
     let far = Delta::new(-512, 511).ok_or("a way")?;
     expect_fact(&rt, alloc, "before1 10 -10", &FactLine::Before1(near))?;
@@ -144,24 +165,50 @@ fn facts_about_its_way(rt: HostRuntime) -> Result<(), Fail> {
     Ok(())
 }
 
+/// Asserts that a line says this candidate.
+fn expect_candidate(
+    rt: &impl Abort,
+    alloc: Global,
+    text: &str,
+    oid: &[u8],
+    content: &[u8],
+) -> Result<(), Fail> {
+    let candidate = Candidate::of(oid, content).ok_or("a candidate")?;
+    expect_fact(rt, alloc, text, &FactLine::Extra(candidate))?;
+    Ok(())
+}
+
+/// A word and a space, and so many times the same digit behind them.
+pub(crate) fn with_digits(
+    alloc: Global,
+    words: &str,
+    digit: char,
+    count: usize,
+) -> Result<String, AllocError> {
+    let mut text = String::from_str(alloc, words)?;
+    for _ in 0..count {
+        text.push(digit)?;
+    }
+    Ok(text)
+}
+
 #[test]
 fn candidates(rt: HostRuntime) -> Result<(), Fail> {
     let alloc = rt.alloc();
-    let long = [0; 109];
-    for (text, oid, content) in [
-        ("extra 01 -", [1].as_slice(), [].as_slice()),
-        ("extra 8134 D1Ff", &[0x81, 0x34], &[0xd1, 0xff]),
-    ] {
-        let candidate = Candidate::of(oid, content).ok_or("a candidate")?;
-        expect_fact(&rt, alloc, text, &FactLine::Extra(candidate))?;
-    }
-    let candidate = Candidate::of(&[1], &long).ok_or("a candidate")?;
-    let mut text = String::from_str(alloc, "extra 01 ")?;
-    for _ in 0..218 {
-        text.push('0')?;
-    }
-    expect_fact(&rt, alloc, &text, &FactLine::Extra(candidate))?;
-    Ok(())
+    expect_candidate(&rt, alloc, "extra 01 -", &[1], &[])?;
+    expect_candidate(&rt, alloc, "extra 8134 D1Ff", &[0x81, 0x34], &[0xd1, 0xff])?;
+    let long = with_digits(alloc, "extra 01 ", '0', 218)?;
+    expect_candidate(&rt, alloc, long.as_str(), &[1], &[0; 109])
+}
+
+/// Asserts that a line of a script is this ready set.
+fn expect_set(
+    rt: &impl Abort,
+    alloc: Global,
+    text: &str,
+    octets: &[u8; 140],
+) -> Result<(), AllocError> {
+    expect_told(rt, alloc, text, &FactLine::Set(*octets))
 }
 
 #[test]
@@ -170,12 +217,9 @@ fn ready_sets(rt: HostRuntime) -> Result<(), Fail> {
     let mut octets = [0; 140];
     octets[0] = 0x5c;
     octets[1] = 0xff;
-    let set = Some(Ok(ScriptLine::Fact(FactLine::Set(octets))));
-    assert!(rt; first_says(alloc, b"set 5CfF")? == set);
-    let mut text = Vec::from_slice(alloc, b"set ")?;
-    text.extend_from_slice(&[b'7'; 280])?;
-    let set = Some(Ok(ScriptLine::Fact(FactLine::Set([0x77; 140]))));
-    assert!(rt; first_says(alloc, &text)? == set);
+    expect_set(&rt, alloc, "set 5CfF", &octets)?;
+    let text = with_digits(alloc, "set ", '7', 280)?;
+    expect_set(&rt, alloc, text.as_str(), &[0x77; 140])?;
     Ok(())
 }
 
