@@ -1,16 +1,15 @@
 -- What pieces of a stream that were read say of the reply of `frames`, and how that command ends: what is its own, over
 -- what holds of every command that reads lines.
 use Rattle.std.specs.Prelude.{◌≡◌, ℕ, ◌+◌, ◌*◌, ◌<◌, ◌≤◌, true, false, List, [], ◌∷◌, ◌++◌, length, Option, Some, None, Result, Ok, Err}
-use Rattle.std.proofs.Common.{sym, ◌∙◌, ap, refl, subst, inl, inr, arith, length-append}
+use Rattle.std.proofs.Common.{sym, refl, subst, inl, inr, arith, length-append}
 use Rattle.std.proofs.lemmas.List.{append-nil}
-use Rattle.call_io.specs.Bytes.{Grew}
 use Rattle.link_frames.specs.Reading.{HasRead}
 use Rattle.link_frames.specs.Reading as frames
 use Rattle.link_frames.specs.Streams.{Holds, FrameStops}
 use Rattle.link_frames.specs.declared.fault.FrameFault.{FrameFault}
 use Rattle.link_frames.specs.declared.frame.Frame.{Frame}
 use Rattle.trace_text.specs.declared.reason.Reason.{Reason}
-use Rattle.trace_text.specs.Lines.{line_fault, IsPassedOver, IsLine, Numbered, most_bytes}
+use Rattle.trace_text.specs.Lines.{Numbered, most_bytes}
 use Rattle.trace_text.specs.Reading.{Reading, first_reading, ReadsLine}
 use Rattle.trace_text.specs.Words.{only_word_of, words}
 use Rattle.ecall_top.specs.declared.command.Command.TheVariants as command
@@ -25,7 +24,7 @@ use Rattle.ecall_top.specs.Refusals.{Reply, refusal_line, refusal_reply, in_fron
 use Rattle.ecall_top.specs.inner.Ends.{EndsReading, EndsWithText}
 use Rattle.ecall_top.specs.inner.FrameTurns.{FollowFrames, FramesStanding, FrameTurn, TakesLine, TakesPiece, WentOn}
 use Rattle.ecall_top.specs.inner.FrameTurns as turns
-use Rattle.ecall_top.specs.inner.LineTurns.{IsLinedTo, GoesOn, Refuses, RefusesBehind, Begins, LinesStanding, in_refusal}
+use Rattle.ecall_top.specs.inner.LineTurns.{IsLinedTo, GoesOn, Refuses, RefusesBehind, Begins, in_refusal}
 use Rattle.ecall_top.proofs.FrameStreams.{nothing_held}
 use Rattle.ecall_top.proofs.FramesTold.{frames_some}
 use Rattle.ecall_top.proofs.LinesRead as lines

@@ -1,5 +1,5 @@
 -- What a piece of a stream comes to, by what its front comes to and what follows that; and what a line comes to.
-use Rattle.std.specs.Prelude.{◌≡◌, ℕ, ◌+◌, ◌-◌, ◌*◌, ◌≤◌, ◌⊎◌, List, [], ◌∷◌, ◌++◌, length, take, drop, Option, Some, None, Result, Ok, Err}
+use Rattle.std.specs.Prelude.{◌≡◌, ℕ, ◌+◌, ◌-◌, ◌*◌, ◌≤◌, List, [], ◌∷◌, ◌++◌, length, take, drop, Option, Some, None, Result, Ok, Err}
 use Rattle.std.proofs.Common.{sym, ◌∙◌, ap, refl, subst, append_assoc, inl, inr, arith, length-drop, take-add}
 use Rattle.std.proofs.lemmas.List.{append-nil, take_all, take-append-drop}
 use Rattle.std.proofs.lemmas.List.Concat.{flat_map-append}
@@ -20,12 +20,11 @@ use Rattle.trace_text.specs.declared.reason.Reason.TheVariants as reason
 use Rattle.ecall_top.specs.Decode.{octets_in, octets_of_word, some_octets}
 use Rattle.ecall_top.specs.Frames.{frame_line, frame_lines}
 use Rattle.ecall_top.specs.Refusals.{refusal_line}
-use Rattle.ecall_top.specs.declared.refusal.Refused.{Refused}
 use Rattle.ecall_top.specs.declared.refusal.Refused.TheVariants as refused
 use Rattle.ecall_top.specs.declared.status.Status.{Status}
 use Rattle.ecall_top.specs.declared.status.Status.TheVariants as status
 use Rattle.ecall_top.specs.inner.Ends.{EndsWithText}
-use Rattle.ecall_top.specs.inner.FrameTurns.{WentOn, StoppedIn, CutsPiece, in_frames, in_refusal, TakesPiece, TakesOn, TakesLine, by_line, by_octets, last_line}
+use Rattle.ecall_top.specs.inner.FrameTurns.{WentOn, CutsPiece, in_frames, in_refusal, TakesPiece, TakesLine, by_line, last_line}
 use Rattle.ecall_top.proofs.FrameStreams.{Goes, goes}
 
 lines_both : (fs gs : List Frame) → frame_lines fs ++ frame_lines gs ≡ frame_lines (fs ++ gs)

@@ -1,13 +1,13 @@
 -- Each list of lines has one reply of `frames`, behind a stream that is read so far; and it is one to lines.
-use Rattle.std.specs.Prelude.{◌≡◌, ℕ, ◌+◌, ◌⊎◌, List, [], ◌∷◌, ◌++◌, Option, Some, None, Result, Ok, Err}
+use Rattle.std.specs.Prelude.{◌≡◌, ℕ, ◌+◌, List, [], ◌∷◌, ◌++◌, Option, Some, None, Result, Ok, Err}
 use Rattle.std.proofs.Common.{sym, ◌∙◌, ap, refl, subst, inl, inr}
-use Rattle.link_frames.specs.Streams.{Holds, FrameStops}
+use Rattle.link_frames.specs.Streams.{Holds}
 use Rattle.link_frames.specs.declared.fault.FrameFault.{FrameFault}
 use Rattle.link_frames.specs.declared.frame.Frame.{Frame}
 use Rattle.link_frames.proofs.StreamLemmas.{holds_or_stops, one_reading}
 use Rattle.trace_text.specs.declared.reason.Reason.{Reason}
 use Rattle.ecall_top.specs.Decode.{judged_set}
-use Rattle.ecall_top.specs.Frames.{AreFrames, EndsFrames, IsLineOfFrames, TellsRest, frame_lines, rest_line}
+use Rattle.ecall_top.specs.Frames.{AreFrames, EndsFrames, IsLineOfFrames, frame_lines, rest_line}
 use Rattle.ecall_top.specs.Refusals.{Reply, refusal_reply, in_front_of}
 use Rattle.ecall_top.specs.declared.refusal.Refused.TheVariants as refused
 use Rattle.ecall_top.specs.declared.status.Status.TheVariants as status

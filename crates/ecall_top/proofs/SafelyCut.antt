@@ -1,5 +1,5 @@
 -- What stands written of a trace wherever writing ended: the whole lines of a safe trace, and less than a line.
-use Rattle.std.specs.Prelude.{◌≡◌, ℕ, ◌<◌, List, [], ◌∷◌, ◌++◌, ◌⊎◌, Option, Some, None, length, drop, get_or}
+use Rattle.std.specs.Prelude.{◌≡◌, ℕ, ◌<◌, List, [], ◌∷◌, ◌++◌, Option, Some, None, length, drop, get_or}
 use Rattle.std.specs.Io.KnownBytes.{append_known}
 use Rattle.std.proofs.Common.{sym, ◌∙◌, ap, refl, subst, append_assoc, inl, inr, arith}
 use Rattle.std.proofs.lemmas.List.{append-nil, append_cancel_left}
@@ -11,8 +11,8 @@ use Rattle.trace_text.specs.Tallies.{last_tick}
 use Rattle.trace_text.specs.declared.entry.Entry.{Entry}
 use Rattle.trace_text.specs.declared.reason.BadLine.{BadLine}
 use Rattle.trace_text.proofs.Fronts.{nothing_safe, safe_front}
-use Rattle.ecall_top.specs.CutTraces.{AreRefusedLines, AreSafeLines, IsPartOfLine, IsSafelyCut}
-use Rattle.ecall_top.specs.Outcome.{CutShort, Outcome, Streams}
+use Rattle.ecall_top.specs.CutTraces.{AreSafeLines, IsSafelyCut}
+use Rattle.ecall_top.specs.Outcome.{Outcome, Streams}
 use Rattle.ecall_top.specs.Refusals.{Reply, refusal_line}
 use Rattle.ecall_top.specs.Run.{ended, run_reply, script_tick, script_trace}
 use Rattle.ecall_top.specs.declared.command.Command.TheVariants as command

@@ -1,7 +1,7 @@
 -- What an answer says where the words name no command, or one that reads nothing.
-use Rattle.std.specs.Prelude.{◌≡◌, ℕ, ◌+◌, ◌≤◌, ◌⊎◌, false, List, [], Option, Some, None}
+use Rattle.std.specs.Prelude.{◌≡◌, ℕ, ◌+◌, ◌≤◌, false, List, [], Option, Some, None}
 use Rattle.std.proofs.Common.{sym, refl, subst, inl, inr, arith}
-use Rattle.call_io.specs.Bytes.{Grew, GrewPartly}
+use Rattle.call_io.specs.Bytes.{GrewPartly}
 use Rattle.call_io.proofs.BytesLemmas.{GrewPartly-nothing, Took-nothing}
 use Rattle.ecall_top.specs.Commands.{reads}
 use Rattle.trace_text.specs.Script.{script_of}

@@ -1,7 +1,7 @@
 -- What stands written of a trace wherever writing ended: whole lines, which are those of a safe trace, or of such a
 -- trace and the line that refuses a line of its script, and behind them less than one line. This project's profile.
 -- Cited by the contract of `ecall`.
-use Rattle.std.specs.Prelude.{◌≡◌, ℕ, ◌<◌, ◌⊎◌, List, [], ◌∷◌, ◌++◌, length}
+use Rattle.std.specs.Prelude.{◌≡◌, ℕ, ◌<◌, ◌⊎◌, List, [], ◌++◌, length}
 use Rattle.trace_text.specs.EntryLine.{line_of, text_of}
 use Rattle.trace_text.specs.Safety.{Safe}
 use Rattle.trace_text.specs.Tallies.{last_tick}

@@ -38,7 +38,7 @@ type VectorText = ArrayVec<u8, LONGEST_LINE>;
 const VECTORS: [&str; 16] = [
     // A set in its canonical octets.
     "02000681d54970d65c3597ca0420c4146005e0be1008a5d32c0827c4aa02d0",
-    // The same set of a vehicle with petrol, in its canonical octets.
+    // The same set of a vehicle with a gasoline tank, in its canonical octets.
     "02000681d54970d65c3597ca0420c414640af05f080452e9960413e2550168",
     // The first set with each default of its storages written out.
     "02000681d54970d65c3597ca0420c41467f00bc17c20114ba658104f895405a0",

@@ -1,4 +1,4 @@
-use Rattle.std.proofs.Common.{rules, ap, ◌≡◌, Ok, Some}
+use Rattle.std.proofs.Common.{rules, ap, ◌≡◌, Ok}
 use Rattle.hex.specs.Hex.{decode_of}
 use Rattle.trace_text.specs.declared.reason.Reason.TheVariants as reason
 use Rattle.ecall_top.specs.Decode.{octets_in, some_octets}

@@ -1,5 +1,5 @@
-use Rattle.std.proofs.Common.{arith, rules, subst, sym, ◌∙◌, ◌≤◌, ◌+◌, ◌<◌, Option, List, ℕ}
-use Rattle.call_io.specs.Bytes.{Grew, GrewPartly}
+use Rattle.std.proofs.Common.{arith, rules, sym, ◌∙◌}
+use Rattle.call_io.specs.Bytes.{GrewPartly}
 use Rattle.call_io.proofs.BlockLemmas.{Onward-append}
 use Rattle.ecall_top.specs.Make.{made_script}
 use Rattle.ecall_top.proofs.MadeText.{call_cut, call_written, facts_written, partly_facts, script_written, x_behind-more, x_behind-none}
