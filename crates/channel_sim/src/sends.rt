@@ -108,19 +108,24 @@ fn is_earlier(frames: &[KeptSent], place: usize, tick: u64) -> bool
     frames[place].tick < tick
 }
 
-/// A place in front of which all were sent earlier than at this tick: the end, or `near`, or else the start.
+/// Whether the first frame that was sent at this tick or later is at this place, or this place is behind all.
+fn is_first(frames: &[KeptSent], place: usize, tick: u64) -> bool
+    ensures within { result ≡ true → place ≤ length frames.now }
+    ensures first { result ≡ true → AreFrom 0 (map (λ s. s.tick) frames.now) →
+        IsFirstFrom tick place (map (λ s. s.tick) frames.now) }
+{
+    if place > 0 && !is_earlier(frames, place - 1, tick) {
+        return false;
+    }
+    !is_earlier(frames, place, tick)
+}
+
+/// A place in front of which all were sent earlier than at this tick: `near`, or else the start.
 fn begin_at(frames: &[KeptSent], tick: u64, near: usize) -> usize
     ensures within { result ≤ length frames.now }
     ensures front { AreFrom 0 (map (λ s. s.tick) frames.now) →
         AllByRecursion (λ t. t < tick) (take result (map (λ s. s.tick) frames.now)) }
 {
-    let count = frames.len();
-    if count == 0 {
-        return 0;
-    }
-    if is_earlier(frames, count - 1, tick) {
-        return count;
-    }
     if near == 0 {
         return 0;
     }
@@ -158,8 +163,10 @@ fn part_from(frames: &[KeptSent], tick: u64, near: usize) -> Part
     }
 }
 
-/// The place of the first of these that was sent at this tick or later.
-fn first_place(frames: &[KeptSent], tick: u64, near: usize) -> usize
+/// The place of the first of these that was sent at this tick or later, by halves. Out of line, since it is nearly always
+/// at `near` or behind all.
+#[inline(never)]
+fn search_place(frames: &[KeptSent], tick: u64, near: usize) -> usize
     ensures within { result ≤ length frames.now }
     ensures first { AreFrom 0 (map (λ s. s.tick) frames.now) → IsFirstFrom tick result (map (λ s. s.tick) frames.now) }
 {
@@ -175,4 +182,19 @@ fn first_place(frames: &[KeptSent], tick: u64, near: usize) -> usize
         }
     }
     low
+}
+
+/// The place of the first of these that was sent at this tick or later.
+fn first_place(frames: &[KeptSent], tick: u64, near: usize) -> usize
+    ensures within { result ≤ length frames.now }
+    ensures first { AreFrom 0 (map (λ s. s.tick) frames.now) → IsFirstFrom tick result (map (λ s. s.tick) frames.now) }
+{
+    if is_first(frames, near, tick) {
+        return near;
+    }
+    let count = frames.len();
+    if is_first(frames, count, tick) {
+        return count;
+    }
+    search_place(frames, tick, near)
 }

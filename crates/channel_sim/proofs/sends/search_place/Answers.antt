@@ -1,7 +1,7 @@
 use Rattle.std.proofs.Common.{◌<◌, ◌+◌, ◌-◌, ◌/◌, length, sym, subst, arith, add-one, take}
 use Rattle.std.specs.List.{AllByRecursion}
 use Rattle.channel_sim.proofs.TickLemmas.{ticks, low_part, high_part}
-use Rattle.channel_sim.proofs.sends.first_place.Goals as goal
+use Rattle.channel_sim.proofs.sends.search_place.Goals as goal
 
 pub loop-low-preserved-then-frames-middle : goal.loop-low-preserved-then-frames-middle
 loop-low-preserved-then-frames-middle c =

@@ -1,7 +1,7 @@
 use Rattle.std.proofs.Common.{◌<◌, ◌≤◌, ◌-◌, length, take, drop, map}
 use Rattle.std.specs.List.{AllByRecursion}
 use Rattle.channel_sim.specs.Tidy.{AreFrom}
-use Rattle.channel_sim.proofs.sends.first_place.Given as goal
+use Rattle.channel_sim.proofs.sends.search_place.Given as goal
 
 -- what lies in front of the part that is left is below the tick, and what lies behind it is not
 abbrev pub invariant-loop-low : goal.invariant-loop-low
