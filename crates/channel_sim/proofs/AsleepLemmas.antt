@@ -1,7 +1,7 @@
 -- Calls in whose sessions nothing is due: which of the first stay so when a call changes, and that they rest.
 use Rattle.std.proofs.Common.{◌≡◌, ℕ, zero, suc, ◌+◌, ◌-◌, ◌<◌, ◌≤◌, ◌⊎◌, inl, inr, Option, Some, None, IfSome, List, [], ◌∷◌, ◌++◌, length, get_or, take, refl, ap, sym, ◌∙◌, subst, arith}
 use Rattle.std.proofs.Math.ListN.{set}
-use Rattle.std.proofs.lemmas.List.{length-set, length-append, take_more}
+use Rattle.std.proofs.lemmas.List.{length-set, length-append, take_more, take_more_set}
 use Rattle.std.specs.List.{AllByRecursion, remove}
 use Rattle.psap_machine.specs.declared.session.Session.{Session}
 use Rattle.psap_machine.specs.Point.{Point}
@@ -23,7 +23,8 @@ fewer_sleep zero n (x ∷ xs) le h = tt
 fewer_sleep (suc k) zero (x ∷ xs) le h = absurd (omega arith)
 fewer_sleep (suc k) (suc n) (x ∷ xs) le h = (h.0, fewer_sleep k n xs (omega arith) h.1)
 
-set_sleep : (k i : ℕ) (xs : List kept_call.Call) (y : kept_call.Call) → k ≤ i → AllByRecursion Sleeps (take k xs) → AllByRecursion Sleeps (take k (set xs i y))
+-- the call at i changed, and does not count
+pub set_sleep : (k i : ℕ) (xs : List kept_call.Call) (y : kept_call.Call) → k ≤ i → AllByRecursion Sleeps (take k xs) → AllByRecursion Sleeps (take k (set xs i y))
 set_sleep zero i [] y le h = tt
 set_sleep (suc k) i [] y le h = tt
 set_sleep zero zero (x ∷ xs) y le h = tt
@@ -83,9 +84,9 @@ last_too : (P : kept_call.Call → Type 0) (xs : List kept_call.Call) (x : kept_
 last_too P [] x h one = (one, tt)
 last_too P (y ∷ ys) x h one = (h.0, last_too P ys x h.1 one)
 
--- one more sleeps
-pub one_more_sleeps : (i : ℕ) (xs : List kept_call.Call) (d : kept_call.Call) → i < length xs → AllByRecursion Sleeps (take i xs) → Sleeps (get_or xs i d) → AllByRecursion Sleeps (take (i + 1) xs)
-one_more_sleeps i xs d inside h one = subst (AllByRecursion Sleeps) (sym (take_more xs i d inside)) (last_too Sleeps (take i xs) (get_or xs i d) h one)
+-- the call at i changed, and sleeps like all before it
+pub one_more_sleeps : (i : ℕ) (xs : List kept_call.Call) (y : kept_call.Call) → i < length xs → AllByRecursion Sleeps (take i xs) → Sleeps y → AllByRecursion Sleeps (take (i + 1) (set xs i y))
+one_more_sleeps i xs y inside h one = subst (AllByRecursion Sleeps) (sym (take_more_set xs i y inside)) (last_too Sleeps (take i xs) y h one)
 
 -- one more waits
 pub one_more_waits : (tick i : ℕ) (xs : List kept_call.Call) (d : kept_call.Call) → i < length xs → AllByRecursion (Waits tick) (take i xs) → Waits tick (get_or xs i d) → AllByRecursion (Waits tick) (take (i + 1) xs)

@@ -511,25 +511,33 @@ pub(crate) fn catch_each_up<L: Ledger>(
     ensures passes { (floor : ℕ) (ks : List model.Call) → CallsLag floor (λ c. tick) calls.old ks → floor ≤ tick →
         tick < floor + 2 ^ 32 → moments.new ≤ moments.old + model.session_count ks }
 {
-    catch_listed_up(&mut calls.list, tick, items, moments);
-    calls.asleep = count_asleep(&calls.list);
+    calls.asleep = catch_listed_up(&mut calls.list, tick, items, moments);
 }
 
-/// Passes the session of each of these calls up to this tick, up to which it does nothing. `items` is room.
+/// Passes the session of each of these calls up to this tick, up to which it does nothing, and gives in how many of the
+/// first ones the session, if it is there, does nothing however many ticks pass. `items` is room.
 fn catch_listed_up<L: Ledger>(
     calls: &mut Vec<Call>,
     tick: u64,
     items: &mut Items,
     moments: &mut Steps<L>,
-)
+) -> usize
+    ensures asleep { AreAsleep result calls.new.items }
     ensures lags { (floor : ℕ) (ks : List model.Call) → CallsLag floor (λ c. tick) calls.old.items ks → floor ≤ tick →
         CallsLag tick (λ c. tick) calls.new.items ks }
     ensures passes { (floor : ℕ) (ks : List model.Call) → CallsLag floor (λ c. tick) calls.old.items ks → floor ≤ tick →
         tick < floor + 2 ^ 32 → moments.new ≤ moments.old + model.session_count ks }
 {
+    let mut asleep = 0;
+    let mut all = true;
     for call in calls.iter_mut() {
         catch_up(call, tick, items, moments);
+        all = sleeps_too(all, call);
+        if all {
+            asleep += 1;
+        }
     }
+    asleep
 }
 
 /// Whether the session of this call, if it is there, does nothing however many ticks pass.
@@ -542,18 +550,12 @@ fn is_asleep(call: &Call) -> bool
     }
 }
 
-/// In how many of the first of these calls the session, if it is there, does nothing however many ticks pass.
-fn count_asleep(calls: &[Call]) -> usize
-    ensures { AreAsleep result calls.now }
+/// Whether those before this call sleep, as `before` says, and this one does too.
+fn sleeps_too(before: bool, call: &Call) -> bool
+    ensures before { result ≡ true → before ≡ true }
+    ensures this { result ≡ true → Sleeps call.now }
 {
-    let mut count = 0;
-    for call in calls {
-        if !is_asleep(call) {
-            return count;
-        }
-        count += 1;
-    }
-    count
+    before && is_asleep(call)
 }
 
 /// What is due at the session, if that is not later than so many ticks.

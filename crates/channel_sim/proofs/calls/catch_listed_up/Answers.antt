@@ -1,15 +1,33 @@
 use Rattle.channel_sim.proofs.BoundLemmas.{count_more_passed, count_taken}
-use Rattle.std.proofs.Common.{◌<◌, ◌≤◌, length, take, ap, sym, ◌∙◌, subst, arith}
+use Rattle.std.proofs.Common.{◌<◌, ◌≤◌, ◌+◌, length, take, ap, sym, ◌∙◌, subst, arith, slice_set}
 use Rattle.channel_sim.proofs.ChangeLemmas.{same_lengths}
 use Rattle.channel_sim.proofs.StepLemmas.{take_all}
 use Rattle.channel_sim.specs.inner.Lag.{CallsLag, CallLags}
 use Rattle.channel_sim.proofs.CatchLemmas.{rest_more, caught_more, written_back, same_item, same_length}
+use Rattle.std.specs.List.{AllByRecursion}
+use Rattle.channel_sim.specs.inner.Asleep.{Sleeps}
+use Rattle.channel_sim.proofs.AsleepLemmas.{one_more_sleeps, set_sleep}
 use Rattle.channel_sim.proofs.calls.catch_listed_up.Goals as goal
+use Rattle.channel_sim.proofs.calls.catch_listed_up.Goals.{then-all, else-all}
 
 pub loop-call-preserved : goal.loop-call-preserved
 loop-call-preserved g c =
     let inside : c.loop-call.call-index < length c.loop-call.call-items = omega arith in
+    let low : c.loop-call.asleep ≤ c.loop-call.call-index = c.loop-call.invariant.within in
+    let i = c.loop-call.call-index in
+    let xs = c.loop-call.call-items in
+    let y = c.catch_up.new.call in
     record {
+      within = elim c.if-all.branch [ then-all w ↦ omega (arith, w.asleep-is, low) | else-all w ↦ omega (arith, w.asleep-is, low) ];
+      all = elim c.if-all.branch [ then-all w ↦ λ all. w.asleep-is ∙ ap (λ n. n + 1) (c.loop-call.invariant.all (c.sleeps_too-all.ensures.before all)) | else-all w ↦ λ all. let no = w.if-all.false in cc ];
+      sleep =
+          elim c.if-all.branch [
+            | then-all w ↦
+                let same = c.loop-call.invariant.all (c.sleeps_too-all.ensures.before w.if-all.true) in
+                subst (λ n. AllByRecursion Sleeps (take n (slice_set xs i y))) (sym (w.asleep-is ∙ ap (λ n. n + 1) same))
+                (one_more_sleeps i xs y inside (subst (λ n. AllByRecursion Sleeps (take n xs)) same c.loop-call.invariant.sleep) (c.sleeps_too-all.ensures.this w.if-all.true))
+            | else-all w ↦ subst (λ n. AllByRecursion Sleeps (take n (slice_set xs i y))) (sym w.asleep-is) (set_sleep c.loop-call.asleep i xs y low c.loop-call.invariant.sleep)
+          ];
       done = λ floor ks h low.
           caught_more floor c.args.tick c.deref_mut-call-items.result.now c.loop-call.call-items ks c.loop-call.call-index _ c.catch_up.new.call inside h low
           (c.loop-call.invariant.done floor ks h low) c.loop-call.invariant.rest (λ k lags. c.catch_up.ensures.caught floor k lags) (ap (λ x. x.passed) c.catch_up.ensures.same);
