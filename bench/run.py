@@ -27,7 +27,7 @@ BELOW |= {"msd_codec": "per_bits per_types msd_values arrayvec", "encoder": "per
 ENCODINGS = 50_000
 WRITES = 50_000
 # the kinds of scripts.py, each with how many it is measured with, and then with twice as many
-SCRIPTS = {"mixed": 2_000, "calls": 20_000, "flows": 1_000, "one": 200_000, "legs": 1_000, "callbacks": 150_000}
+SCRIPTS = {"mixed": 2_000, "calls": 20_000, "flows": 1_000, "one": 200_000, "legs": 5_000, "apart": 1_000, "callbacks": 150_000}
 # the other commands, each with what makes its input (none: the trace of a script, or nothing), a kind of it, and how much of it is
 # measured, and then twice as much, which has to stay below the greatest input
 OTHERS = [

@@ -6,6 +6,7 @@
     flows     COUNT calls with flows of 1000 ticks both ways, under long ticks
     one       one call in which COUNT frames are handed over
     legs      COUNT calls whose point legs stay up, then long ticks
+    apart     the same, with six seconds between the calls
     callbacks COUNT calls placed by the point, hung up at once, with almost a whole standby between them"""
 import sys
 
@@ -52,12 +53,16 @@ def one(count):
         yield "deliver up 1 2\ndeliver down 1 2\n"
 
 
-def legs(count):
+def legs(count, between=""):
     yield "trigger auto\n"
     for _ in range(count):
-        yield "answer\ntick 60\ndrop vehicle\n"
+        yield f"answer\n{between}drop vehicle\n"
     for _ in range(100):
         yield "tick 4000000\ntrigger auto\n"
+
+
+def apart(count):
+    return legs(count, "tick 60\n")
 
 
 def callbacks(count):
@@ -66,7 +71,7 @@ def callbacks(count):
         yield f"callback\nhangup {k}\ntick 431999\n"
 
 
-KINDS = {kind.__name__: kind for kind in (mixed, calls, flows, one, legs, callbacks)}
+KINDS = {kind.__name__: kind for kind in (mixed, calls, flows, one, legs, apart, callbacks)}
 
 
 def main(kind, count):
