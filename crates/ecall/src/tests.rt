@@ -128,7 +128,7 @@ fn explains_what_else_a_set_has(rt: HostRuntime) -> Result<(), Fail> {
             "an octet 128 that no object identifier has there, at bit 237 from 0 (reason 7)",
         ),
         (
-            SetReason::Format,
+            SetReason::Version,
             3,
             "the format 3, where 2 is the only one, at bit 237 from 0 (reason 8)",
         ),

@@ -217,7 +217,7 @@ fn refuses_sets(rt: HostRuntime) -> Result<(), Fail> {
         ),
         (
             "03",
-            no_set(0, SetReason::Format, 3),
+            no_set(0, SetReason::Version, 3),
             "refused 1 set 0 8 3\n",
         ),
     ];

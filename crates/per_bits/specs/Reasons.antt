@@ -2,7 +2,7 @@
 -- are this project's profile. Cited by `Reason::code`.
 use Rattle.std.specs.Prelude.{ℕ}
 use Rattle.per_bits.specs.declared.refusals.Reason.{Reason}
-use Rattle.per_bits.specs.declared.refusals.Reason.TheVariants.{Short, OutOfRange, LongLength, SmallLarge, NoAddition, EmptyOpen, BadOid, Format, PadBits, Trailing, Size}
+use Rattle.per_bits.specs.declared.refusals.Reason.TheVariants.{Short, OutOfRange, LongLength, SmallLarge, NoAddition, EmptyOpen, BadOid, Version, PadBits, Trailing, Size}
 
 abbrev pub code_of : Reason → ℕ
 code_of Short = 1
@@ -12,7 +12,7 @@ code_of SmallLarge = 4
 code_of NoAddition = 5
 code_of EmptyOpen = 6
 code_of BadOid = 7
-code_of Format = 8
+code_of Version = 8
 code_of PadBits = 9
 code_of Trailing = 10
 code_of Size = 11

@@ -30,7 +30,7 @@ pub enum Reason {
     /// Octets that are no relative object identifier; the value is the octet, or 0 where there is none.
     BadOid,
     /// An unknown format; the value is its number.
-    Format,
+    Version,
     /// A bit that pads to a whole octet is 1; the value is 1.
     PadBits,
     /// An appended octet isn't 0; the value is that octet.
@@ -52,7 +52,7 @@ impl Reason {
             Reason::NoAddition => 5,
             Reason::EmptyOpen => 6,
             Reason::BadOid => 7,
-            Reason::Format => 8,
+            Reason::Version => 8,
             Reason::PadBits => 9,
             Reason::Trailing => 10,
             Reason::Size => 11,

@@ -8,7 +8,7 @@ use Rattle.std.proofs.lemmas.List.{length-take}
 use Rattle.per_bits.specs.Bits.{Part, value_of, behind, digits}
 use Rattle.per_bits.specs.declared.refusals.Refusal.{Refusal}
 use Rattle.per_bits.specs.declared.refusals.Reason.{Reason}
-use Rattle.per_bits.specs.declared.refusals.Reason.TheVariants.{Short, OutOfRange, LongLength, SmallLarge, Format}
+use Rattle.per_bits.specs.declared.refusals.Reason.TheVariants.{Short, OutOfRange, LongLength, SmallLarge, Version}
 use Rattle.per_bits.proofs.Digits.{value_below, digits_value}
 use Rattle.per_types.specs.Kinds as kind
 use Rattle.per_types.specs.Kinds.{Kind, width, fault, Fault, at_once, first_bit, whole_width, alphabet}
@@ -234,7 +234,7 @@ format_width : (known : List ℕ) → width (kind.format known) ≡ 8
 unfolding width
 format_width known = refl
 
-format_fault : (known : List ℕ) (p : Part) (n : ℕ) → Prefix 8 p n → list_any (λ id. eqb id n) known ≡ false → fault (kind.format known) (take 8 p.bits) ≡ at_once Format n
+format_fault : (known : List ℕ) (p : Part) (n : ℕ) → Prefix 8 p n → list_any (λ id. eqb id n) known ≡ false → fault (kind.format known) (take 8 p.bits) ≡ at_once Version n
 unfolding fault
 format_fault known p n h unknown = rw (← h.reads, unknown) refl
 
@@ -246,9 +246,9 @@ pub format_short : (known : List ℕ) (p : Part) (e : Refusal) → IsShort p 8 e
 unfolding format_at
 format_short known p e s = rw (short_step (kind.format known) p 8 e (format_width known) s) refl
 
-pub format_unknown : (known : List ℕ) (p : Part) (n : ℕ) → Prefix 8 p n → list_any (λ id. eqb id n) known ≡ false → format_at known p ≡ Err (record { place = p.start; reason = Format; value = n }, p)
+pub format_unknown : (known : List ℕ) (p : Part) (n : ℕ) → Prefix 8 p n → list_any (λ id. eqb id n) known ≡ false → format_at known p ≡ Err (record { place = p.start; reason = Version; value = n }, p)
 unfolding format_at
-format_unknown known p n h unknown = rw (once_step (kind.format known) p 8 Format n (format_width known) h.enough (format_fault known p n h unknown)) refl
+format_unknown known p n h unknown = rw (once_step (kind.format known) p 8 Version n (format_width known) h.enough (format_fault known p n h unknown)) refl
 
 pub format_ok : (known : List ℕ) (p : Part) (n : ℕ) → Prefix 8 p n → list_any (λ id. eqb id n) known ≡ true → format_at known p ≡ Ok (n, behind p 8)
 unfolding format_at

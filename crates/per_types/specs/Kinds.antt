@@ -8,7 +8,7 @@ use Rattle.std.specs.List.{list_any}
 pub use Rattle.per_bits.specs.Alphabet.{alphabet}
 use Rattle.per_bits.specs.Bits.{value_of, octets_of}
 use Rattle.per_bits.specs.declared.refusals.Reason.{Reason}
-use Rattle.per_bits.specs.declared.refusals.Reason.TheVariants.{OutOfRange, LongLength, SmallLarge, NoAddition, EmptyOpen, BadOid, Format}
+use Rattle.per_bits.specs.declared.refusals.Reason.TheVariants.{OutOfRange, LongLength, SmallLarge, NoAddition, EmptyOpen, BadOid, Version}
 
 pub data Kind : Type 0 where
   -- a BOOLEAN, and an extension mark, which has the same bit
@@ -130,7 +130,7 @@ fault oid_length bits = nonzero_length_fault BadOid bits
 fault open_length bits = nonzero_length_fault EmptyOpen bits
 fault (additions n) bits = if value_of bits == 0 then at_once NoAddition n else None
 fault (oid_octets n) bits = oid_fault true 0 (octets_of bits)
-fault (format known) bits = if list_any (λ id. id == value_of bits) known then None else at_once Format (value_of bits)
+fault (format known) bits = if list_any (λ id. id == value_of bits) known then None else at_once Version (value_of bits)
 fault _ bits = None
 
 -- an element: its kind and its bits

@@ -209,7 +209,7 @@ fn characters_and_formats(rt: HostRuntime) -> Result<(), Fail> {
     );
     // formats
     assert_eq!(rt; format(&[2], &[1, 2]), (Ok(2), 8));
-    assert_eq!(rt; format(&[3], &[1, 2]), (refused(0, Reason::Format, 3), 0));
+    assert_eq!(rt; format(&[3], &[1, 2]), (refused(0, Reason::Version, 3), 0));
     assert_eq!(rt; format(&[], &[2]), (refused(0, Reason::Short, 8), 0));
     Ok(())
 }

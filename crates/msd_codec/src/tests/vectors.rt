@@ -148,7 +148,7 @@ pub const VECTORS: [(&[u8], Answer); 16] = [
         OF_FORMAT_3,
         Answer::Refused {
             place: 0,
-            reason: Reason::Format,
+            reason: Reason::Version,
             value: 3,
         },
     ),

@@ -103,7 +103,7 @@ pub fn read_format(c: &mut Cursor<'_>, known: &[u8]) -> Result<u8, Refusal>
     let n = look(c, 8)?;
     let format = n as u8;
     if !known.contains(&format) {
-        return Err(refusal(c, Reason::Format, n));
+        return Err(refusal(c, Reason::Version, n));
     }
     skip(c, 8);
     Ok(format)
