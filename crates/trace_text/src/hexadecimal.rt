@@ -8,7 +8,7 @@ ghost use Rattle.trace_text.specs.FactLines.{candidate_from, set_of};
 ghost use Rattle.trace_text.specs.Hexadecimal.{octets_of, content_of};
 ghost use Rattle.trace_text.specs.inner.Decoding.{DecodesTo, DecodesNone, few_of};
 
-use crate::words::is_word;
+use line_input::is_word;
 use msd_fit::{Candidate, MOST_TOGETHER};
 
 /// The octets of a ready set, 1 to 140, with zero octets to its end.

@@ -5,8 +5,8 @@ ghost use Rattle.arrayvec.specs.ArrayVec.{array_vec_len};
 ghost use Rattle.trace_text.specs.EntryLine.{spaced};
 ghost use Rattle.trace_text.specs.Summary.{ok_words, refused_words, summary_words};
 
-use crate::push::{push_bytes, push_number, push_word};
 use arrayvec::ArrayVec;
+use line_input::{push_bytes, push_number, push_word};
 use msd_codec::decode;
 use msd_values::Msd;
 use per_bits::Refusal;

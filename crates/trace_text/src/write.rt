@@ -5,17 +5,17 @@ ghost use Rattle.call_io.specs.Bytes.{Grew, GrewPartly};
 ghost use Rattle.call_io.specs.Counts.{Rose};
 ghost use Rattle.call_io.specs.Ways.{Onward};
 ghost use Rattle.hex.specs.Hex.{encode_lower};
-ghost use Rattle.trace_text.specs.Characters.{space};
+ghost use Rattle.line_input.specs.Characters.{space};
 ghost use Rattle.trace_text.specs.EntryLine.{end_word, why_word, timer_word, answer_word, net_word, voice_word, frame_words, note_words, spaced, line_of};
 ghost use Rattle.trace_text.specs.inner.LongLines.{carries_set, has_octets as note_has_octets};
 
-use crate::entry::Entry;
-use crate::push::{push_number, push_word};
 use crate::summary::push_summary;
 use arrayvec::ArrayVec;
 use call_io::{Failed, Sink, write_all};
 use itoa::Buffer;
+use line_input::{push_number, push_word};
 use link_frames::{Answer, DialAttempt, End, Frame, Note, OCTETS, Request, Timer, Why};
+use trace_model::Entry;
 
 /// The most digits of a tick.
 const TICK: usize = 20;
