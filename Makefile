@@ -1,4 +1,4 @@
-.PHONY: demo build examples test bench
+.PHONY: demo build examples checks test bench
 
 PROGRAM = crates/ecall/out/ecall
 
@@ -13,9 +13,12 @@ build:
 examples: build
 	examples/check $(PROGRAM)
 
+checks:
+	tools/own-checks $(PROGRAM)
+
 test:
-	rt ci
-	examples/check $(PROGRAM)
+	tools/timed rt ci
+	tools/own-checks $(PROGRAM)
 
 bench: build
 	bench/run.py $(PROGRAM)

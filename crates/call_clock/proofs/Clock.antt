@@ -3,7 +3,7 @@ use Rattle.std.proofs.Common.{◌≡◌, ◌≤◌, ◌<◌, ℕ, List, [], ◌�
 use Rattle.std.specs.List.{AllByRecursion}
 use Rattle.call_clock.specs.declared.timers.Timer.{Timer}
 use Rattle.call_clock.specs.Timers.{Place, started, aged, all_aged, left_at}
-use Rattle.call_clock.specs.inner.Clock.{ticks_until, seen, all_seen, IsAhead, AreAhead}
+use Rattle.call_clock.specs.Clock.{ticks_until, seen, all_seen, IsAhead, AreAhead}
 
 until_started : (now length : ℕ) → now < 2 ^ 32 → length < 2 ^ 32 → ticks_until now ((now + length) % 2 ^ 32) ≡ length
 until_started now length n l = omega arith

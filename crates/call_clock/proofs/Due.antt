@@ -5,7 +5,7 @@ use Rattle.std.proofs.lemmas.List.{take_more, map-append}
 use Rattle.std.proofs.lemmas.Bool.{lt-leb, le-leb, leb-false}
 use Rattle.call_clock.specs.Timers.{Place, all_aged, is_at_end, first_at_end, left_at, sooner, due_of, none_running}
 use Rattle.call_clock.specs.declared.timers.Timer.{Timer}
-use Rattle.call_clock.specs.inner.Clock.{seen, all_seen}
+use Rattle.call_clock.specs.Clock.{seen, all_seen}
 use Rattle.call_clock.proofs.Clock.{Leaves}
 
 sooner-None : (a : Option ℕ) → sooner a None ≡ a

@@ -1,2 +1,2 @@
+pub mod Clock
 pub mod Timers
-pub mod inner

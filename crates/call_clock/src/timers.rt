@@ -2,7 +2,7 @@
 
 ghost use Rattle.std.specs.Prelude.{◌≡◌, ◌≤◌, ◌<◌, ◌↔◌, ℕ, IsTrue, IfSome, IsSome, IsNone, None, slice_set, length, ◌^◌};
 ghost use Rattle.call_clock.specs.Timers.{sooner, left_at, due_of, is_at_end, first_at_end};
-ghost use Rattle.call_clock.specs.inner.Clock.{seen, all_seen, IsAhead, AreAhead};
+ghost use Rattle.call_clock.specs.Clock.{seen, all_seen, IsAhead, AreAhead};
 
 use std::marker::Model;
 
@@ -28,7 +28,7 @@ pub struct Timers {
 impl Model for Timers {
     ghost use Rattle.std.specs.Prelude.{List};
     ghost use Rattle.call_clock.specs.Timers.{Place};
-    ghost use Rattle.call_clock.specs.inner.Clock.{all_seen, AreAhead};
+    ghost use Rattle.call_clock.specs.Clock.{all_seen, AreAhead};
 
     ghost Value = { List Place };
 
@@ -39,7 +39,7 @@ impl Model for Timers {
 
 impl Timer {
     ghost use Rattle.std.specs.Prelude.{◌≡◌};
-    ghost use Rattle.call_clock.specs.inner.Clock.{ticks_until};
+    ghost use Rattle.call_clock.specs.Clock.{ticks_until};
 
     /// The ticks from now to its deadline.
     fn left(self, now: u32) -> u32

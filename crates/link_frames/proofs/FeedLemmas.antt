@@ -17,9 +17,9 @@ use Rattle.link_frames.specs.declared.stage.Stop.{Stop}
 use Rattle.link_frames.specs.declared.stage.Stop.TheVariants as stops
 use Rattle.link_frames.specs.FrameOctets.{frame_octets, IsFrame, IsFrameFront, StopsBehind}
 use Rattle.link_frames.specs.Reading.{Reading, TakesAll, StopsIn, Feeds}
-use Rattle.link_frames.specs.Stages.{kind_octet, before, octet_of, fault_of, frame_of, kept, whole_frame, fault_at}
+use Rattle.link_frames.specs.Stages.{kind_octet, before, octet_of, fault_of, frame_of, kept, whole_frame, fault_at, request_of, request_of_head, request_of_stop, filled_of}
 use Rattle.link_frames.proofs.FrameLemmas.{front_has_none}
-use Rattle.link_frames.specs.inner.Coming.{request_of, request_of_head, request_of_stop, filled_of, is_open, is_stopped, IsWrong, ComesTo}
+use Rattle.link_frames.specs.inner.Coming.{is_open, is_stopped, IsWrong, ComesTo}
 
 unfoldable pub zeros : List ℕ
 zeros = replicate 140 0

@@ -64,3 +64,29 @@ whole_frame octets _ = None
 abbrev pub fault_at : ℕ → Stage → Option FrameFault
 fault_at place (stages.Stopped stop) = Some (record { place = place; octet = octet_of stop; fault = fault_of stop })
 fault_at place _ = None
+
+-- its request, or 1 where none has come
+abbrev pub request_of_head : Head → ℕ
+request_of_head heads.Init = 1
+request_of_head (heads.Start request) = request
+request_of_head (heads.Content request attempt) = request
+request_of_head (heads.Nack request) = request
+request_of_head (heads.Ack request) = request
+request_of_head (heads.App request answer) = request
+
+abbrev pub request_of_stop : Stop → ℕ
+request_of_stop (stops.Answer request octet) = request
+request_of_stop _ = 1
+
+abbrev pub request_of : Stage → ℕ
+request_of (stages.Content request) = request
+request_of (stages.App request) = request
+request_of (stages.Set request attempt filled) = request
+request_of (stages.Whole head) = request_of_head head
+request_of (stages.Stopped stop) = request_of_stop stop
+request_of _ = 1
+
+-- how many octets of a set have come
+abbrev pub filled_of : Stage → ℕ
+filled_of (stages.Set request attempt filled) = filled
+filled_of _ = 0

@@ -3,8 +3,8 @@ ghost use Rattle.std.specs.Prelude.{◌≡◌, ◌≤◌, ◌<◌, ◌+◌, ◌-
 ghost use Rattle.link_frames.specs.declared.fault.FrameFault.{FrameFault};
 ghost use Rattle.link_frames.specs.Frame.{lent};
 ghost use Rattle.link_frames.specs.Reading.{Reading, Feeds};
-ghost use Rattle.link_frames.specs.Stages.{frame_of, kept};
-ghost use Rattle.link_frames.specs.inner.Coming.{request_of, filled_of, is_in_head, is_open, is_stopped, ComesTo};
+ghost use Rattle.link_frames.specs.Stages.{frame_of, kept, request_of, filled_of};
+ghost use Rattle.link_frames.specs.inner.Coming.{is_in_head, is_open, is_stopped, ComesTo};
 
 use crate::fault::FrameFault;
 use crate::frame::{FrameRef, OCTETS};
@@ -29,8 +29,7 @@ impl Model for Reader {
 
     ghost Value = { Reading };
 
-    ghost use Rattle.link_frames.specs.Stages.{kept, whole_frame, fault_at};
-    ghost use Rattle.link_frames.specs.inner.Coming.{request_of, filled_of};
+    ghost use Rattle.link_frames.specs.Stages.{kept, whole_frame, fault_at, request_of, filled_of};
 
     ghost view = { λ r. record {
       kept = kept r.octets r.stage;

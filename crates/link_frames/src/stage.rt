@@ -1,7 +1,7 @@
 // How far a frame has come, octet by octet up to those of its set.
 ghost use Rattle.std.specs.Prelude.{◌≡◌, ◌<◌, ℕ, List, true, IsTrue, ◌↔◌};
-ghost use Rattle.link_frames.specs.Stages.{octet_of, fault_of};
-ghost use Rattle.link_frames.specs.inner.Coming.{request_of, filled_of, is_in_head, is_stopped, Steps};
+ghost use Rattle.link_frames.specs.Stages.{octet_of, fault_of, request_of, filled_of};
+ghost use Rattle.link_frames.specs.inner.Coming.{is_in_head, is_stopped, Steps};
 
 use crate::fault::{Fault, FrameFault};
 use crate::frame::Answer;

@@ -1,39 +1,11 @@
 -- What it is for octets to have brought a reader to a stage. Cited by private contracts alone.
 use Rattle.std.specs.Prelude.{◌≡◌, ◌≢◌, ◌<◌, ℕ, Bool, true, false, List, [], ◌∷◌, ◌++◌, take, slice_get, Some}
-use Rattle.link_frames.specs.declared.stage.Head.{Head}
-use Rattle.link_frames.specs.declared.stage.Head.TheVariants as heads
 use Rattle.link_frames.specs.declared.stage.Stage.{Stage}
 use Rattle.link_frames.specs.declared.stage.Stage.TheVariants as stages
 use Rattle.link_frames.specs.declared.stage.Stop.{Stop}
 use Rattle.link_frames.specs.declared.stage.Stop.TheVariants as stops
 use Rattle.link_frames.specs.FrameOctets.{frame_octets}
 use Rattle.link_frames.specs.Stages.{before, octet_of, frame_of, kept}
-
--- its request, or 1 where none has come
-abbrev pub request_of_head : Head → ℕ
-request_of_head heads.Init = 1
-request_of_head (heads.Start request) = request
-request_of_head (heads.Content request attempt) = request
-request_of_head (heads.Nack request) = request
-request_of_head (heads.Ack request) = request
-request_of_head (heads.App request answer) = request
-
-abbrev pub request_of_stop : Stop → ℕ
-request_of_stop (stops.Answer request octet) = request
-request_of_stop _ = 1
-
-abbrev pub request_of : Stage → ℕ
-request_of (stages.Content request) = request
-request_of (stages.App request) = request
-request_of (stages.Set request attempt filled) = request
-request_of (stages.Whole head) = request_of_head head
-request_of (stages.Stopped stop) = request_of_stop stop
-request_of _ = 1
-
--- how many octets of a set have come
-abbrev pub filled_of : Stage → ℕ
-filled_of (stages.Set request attempt filled) = filled
-filled_of _ = 0
 
 -- whether the next octet is one of those in front of a set
 abbrev pub is_in_head : Stage → Bool

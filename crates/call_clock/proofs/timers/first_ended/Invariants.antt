@@ -1,7 +1,7 @@
 use Rattle.std.proofs.Common.{◌≡◌, drop}
 use Rattle.std.specs.List.{position_from}
 use Rattle.call_clock.specs.Timers.{is_at_end, first_at_end}
-use Rattle.call_clock.specs.inner.Clock.{all_seen}
+use Rattle.call_clock.specs.Clock.{all_seen}
 use Rattle.call_clock.proofs.timers.first_ended.Given as goal
 
 abbrev pub invariant-loop-rank : goal.invariant-loop-rank

@@ -1,6 +1,6 @@
 use Rattle.std.proofs.Common.{◌≡◌, ◌≤◌, ◌<◌, ◌-◌, ℕ, List, false, length}
-use Rattle.link_frames.specs.Stages.{kept}
-use Rattle.link_frames.specs.inner.Coming.{request_of, filled_of, is_stopped, ComesTo}
+use Rattle.link_frames.specs.Stages.{kept, request_of, filled_of}
+use Rattle.link_frames.specs.inner.Coming.{is_stopped, ComesTo}
 use Rattle.link_frames.proofs.reader.take_head.Given as goal
 
 abbrev pub invariant-loop-n : goal.invariant-loop-n

@@ -1,6 +1,6 @@
 use Rattle.std.proofs.Common.{arith, rules, ◌∙◌}
 use Rattle.std.proofs.lemmas.List.{length-map}
-use Rattle.call_clock.specs.inner.Clock.{seen, all_seen}
+use Rattle.call_clock.specs.Clock.{seen, all_seen}
 use Rattle.call_clock.proofs.Clock.{within_all}
 use Rattle.call_clock.proofs.Due.{none_due_is, at_due, before_due}
 use Rattle.call_clock.proofs.timers.Timers.due.Goals as goal

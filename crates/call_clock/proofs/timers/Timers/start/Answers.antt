@@ -1,6 +1,6 @@
 use Rattle.std.proofs.Common.{arith, ◌∙◌, ap, slice_set}
 use Rattle.std.proofs.lemmas.List.{map-set}
-use Rattle.call_clock.specs.inner.Clock.{seen}
+use Rattle.call_clock.specs.Clock.{seen}
 use Rattle.call_clock.proofs.Clock.{seen_started}
 use Rattle.call_clock.proofs.timers.Timers.start.Goals as goal
 

@@ -1,6 +1,6 @@
 use Rattle.std.proofs.Common.{None}
 use Rattle.std.proofs.lemmas.List.{map-set}
-use Rattle.call_clock.specs.inner.Clock.{seen}
+use Rattle.call_clock.specs.Clock.{seen}
 use Rattle.call_clock.proofs.timers.Timers.stop.Goals as goal
 
 -- A write at a rank is seen there, as no timer.

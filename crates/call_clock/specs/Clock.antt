@@ -1,5 +1,5 @@
 -- How the code keeps timers: as deadlines on a clock of 2 ^ 32 ticks that goes round. This project's own; cited by
--- the model of `Timers` and by the contracts of private functions.
+-- the model of `Timers`.
 use Rattle.std.specs.Prelude.{ℕ, List, Option, Some, None, ◌≤◌, ◌<◌, ◌+◌, ◌-◌, ◌%◌, ◌^◌, map, IfSome}
 use Rattle.std.specs.List.{AllByRecursion}
 use Rattle.call_clock.specs.declared.timers.Timer.{Timer}
