@@ -8,7 +8,7 @@ use Rattle.per_types.specs.Kinds as kind
 use Rattle.per_types.specs.Kinds.{Kind, Element, bits_of, width}
 use Rattle.per_types.specs.Types.{bytes, octet_string, relative_oid}
 use Rattle.per_types.specs.Stops.{element_at}
-use Rattle.per_types.specs.inner.Reading.{◌>>=◌, octets_at, oid_at, length_at, oid_length_at, over_at, members_at, section_at, more_at, string_at, object_at, tree_at}
+use Rattle.per_types.specs.Reading.{◌>>=◌, octets_at, oid_at, length_at, oid_length_at, over_at, members_at, section_at, more_at, string_at, object_at, tree_at}
 use Rattle.per_types.proofs.Plans.{next_ok, element_taken}
 use Rattle.per_types.proofs.Decided.{only_members}
 use Rattle.msd_codec.specs.Places.{LieBetween}

@@ -18,7 +18,7 @@ use Rattle.per_types.specs.Kinds.{Element, bits_of, width}
 use Rattle.per_types.specs.Types.{Tree}
 use Rattle.per_types.specs.Spelling.{Elements, Spells, Canonical}
 use Rattle.per_types.specs.Stops.{Read, IsOnlyReading, HasValues, Takes, element_at}
-use Rattle.per_types.specs.inner.Reading.{tree_at, format_at}
+use Rattle.per_types.specs.Reading.{tree_at, format_at}
 use Rattle.per_types.proofs.Decided.{only_type}
 use Rattle.per_types.proofs.Canonicals.{canonical_spells, one_canonical}
 use Rattle.msd_codec.specs.Module.{octet, timestamp, angle, angle_delta, vehicle_type, control_type, vehicle_identification, storages, propulsion_storage, vehicle_location, location_delta, msd_structure, additional_data, msd_message, ecall_message}

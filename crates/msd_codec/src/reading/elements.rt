@@ -3,7 +3,7 @@ ghost use Rattle.std.specs.Prelude.{◌≡◌, ◌+◌, ◌*◌, ◌/◌, ◌%�
 ghost use Rattle.std.specs.Option.{option_to_list};
 ghost use Rattle.per_bits.specs.Bits.{digits};
 ghost use Rattle.per_types.specs.Types.{truth, number, boolean};
-ghost use Rattle.per_types.specs.inner.Reading.{Gives, truth_at, presence_at, tree_at, more_at};
+ghost use Rattle.per_types.specs.Reading.{Gives, truth_at, presence_at, tree_at, more_at};
 ghost use Rattle.msd_values.specs.Position.{IsDelta};
 ghost use Rattle.msd_codec.specs.Module.{octet, timestamp, angle, angle_delta, vehicle_type};
 ghost use Rattle.msd_codec.specs.Trees.{count_tree, kind_tree, more_of};

@@ -1,7 +1,7 @@
 //! Readers of the whole message, and of what stands beside the structure.
 ghost use Rattle.std.specs.Prelude.{◌≡◌, List, [], ◌∷◌, IfOk, IfSome, OnOk};
 ghost use Rattle.std.specs.Option.{option_map};
-ghost use Rattle.per_types.specs.inner.Reading.{Gives, tree_at};
+ghost use Rattle.per_types.specs.Reading.{Gives, tree_at};
 ghost use Rattle.msd_codec.specs.Module.{additional_data, msd_message, ecall_message};
 ghost use Rattle.msd_codec.specs.Trees.{extra_tree, message_tree, tree};
 ghost use Rattle.msd_codec.specs.Places.{LieBetween, ContentFollows, extra_parts, parts_of};

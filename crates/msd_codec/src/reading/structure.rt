@@ -2,7 +2,7 @@
 ghost use Rattle.std.specs.Prelude.{◌≡◌, ◌<◌, ◌≤◌, List, [], ◌∷◌, length, IfOk, OnOk};
 ghost use Rattle.per_bits.specs.Bits.{behind};
 ghost use Rattle.std.specs.Option.{option_map, option_to_list};
-ghost use Rattle.per_types.specs.inner.Reading.{Gives, tree_at, text_at};
+ghost use Rattle.per_types.specs.Reading.{Gives, tree_at, text_at};
 ghost use Rattle.msd_values.specs.Vin.{IsVin};
 ghost use Rattle.msd_codec.specs.Module.{octet, control_type, vehicle_identification, propulsion_storage, vehicle_location, location_delta, msd_structure};
 ghost use Rattle.msd_codec.specs.Trees.{count_tree, control_tree, vin_tree, storage_tree, pair_tree, way_tree, structure_tree};

@@ -1,22 +1,17 @@
--- Reading as functions on bits: each is a chain of judged elements. Scaffolding, by which the proofs of the codec go
--- on from one reader to the next: what a reader does is said by its clause `reads`, and the laws say that these
--- functions answer exactly what is spelled, and refuse exactly where nothing is. Cited by the clauses `exact` of the
--- readers and by the laws.
-use Rattle.std.specs.Prelude.{◌≡◌, ℕ, zero, suc, ◌+◌, ◌-◌, ◌*◌, ◌<◌, ℤ, pos, ◌+ℤ◌, Bool, true, false, List, [], ◌∷◌, length, slice_index, Option, Some, None, Result, Ok, Err, if◌then◌else◌}
+-- Reading as functions on bits (ITU-T X.691, unaligned variant, in this project's profile): each is a chain of
+-- judged elements, and answers for every list of bits. What a reader does is said by its clause `reads`, without a
+-- word on how; the laws say that these functions are the only reading of which taking or stopping holds. Cited by
+-- the clauses `exact` of the readers, by the laws, and by the reading of a set of data.
+use Rattle.std.specs.Prelude.{◌≡◌, ℕ, zero, suc, ◌+◌, ◌-◌, ◌*◌, ℤ, pos, ◌+ℤ◌, Bool, true, false, List, [], ◌∷◌, length, slice_index, Option, Some, None, Result, Ok, Err, if◌then◌else◌}
 use Rattle.per_bits.specs.Bits.{Part, value_of, octets_of, front}
 use Rattle.per_bits.specs.Parts.{Member, members_of}
 use Rattle.per_bits.specs.declared.refusals.Refusal.{Refusal}
-use Rattle.per_bits.specs.declared.refusals.Reason.TheVariants.{Short}
 use Rattle.per_types.specs.declared.index.EnumIndex.{EnumIndex}
 use Rattle.per_types.specs.declared.index.EnumIndex.TheVariants.{Root, Added}
 use Rattle.per_types.specs.Kinds as kind
 use Rattle.per_types.specs.Kinds.{alphabet, first_bit}
 use Rattle.per_types.specs.Stops.{Read, element_at}
 use Rattle.per_types.specs.Types.{Tree, truth, number, text, bytes, root, added, record_of, Fields, no_fields, field, absent, Ty, boolean, integer, characters, octet_string, relative_oid, enumerated, format, sequence, Components, no_components, required, optional, default, presence_count}
-
--- fewer bits than wanted are left
-abbrev pub IsShort : Part → ℕ → Refusal → Type 0
-IsShort p wanted e = (length p.bits < wanted) × (e ≡ record { place = p.start; reason = Short; value = wanted })
 
 infixl 10 ◌>>=◌
 abbrev pub ◌>>=◌ : {A B : Type 0} → Read A → (A × Part → Read B) → Read B
