@@ -97,19 +97,23 @@ class SpecFile:
         self.read()
 
     def read(self):
-        """Splits the file into its definitions."""
-        name, shared, within = None, "", False
+        """Splits the file into its definitions. Those of a `module` or a `mutual` stand further in, all as far as the first
+        one, and what stands in front of them there belongs to each."""
+        name, shared, within = None, "", 0
         for line in USE.sub("", self.text).splitlines():
             if not line.strip():
                 continue
+            indent = len(line) - len(line.lstrip())
             if re.match(r"(\w+ )?(module|mutual)\b", line):
-                name, shared, within = None, line, True
+                name, shared, within = None, line, None
                 continue
-            if line[0] not in " )":
-                within = within and line[0] == " "
-                shared = shared if within else ""
-            head = HEAD.match(line[2:] if within and line.startswith("  ") and line[2] != " " else line)
-            if head and not line.startswith("    "):
+            if indent == 0 and line[0] != ")" and within != 0:
+                shared, within = "", 0
+            head = HEAD.match(line.lstrip())
+            if head and within is None:
+                within = indent
+            head = head if indent == within else None
+            if head:
                 name = head.group(1)
                 self.blocks[name] = shared + "\n"
                 self.owner[name] = name
