@@ -1,9 +1,9 @@
 -- What a turn of the loop over lines comes to, by what the command does with a line and at the end.
-use Rattle.std.specs.Prelude.{◌≡◌, ℕ, ◌+◌, ◌<◌, ◌≤◌, ◌⊎◌, true, false, List, Option, Some, None, Ok, MatchOption, length}
-use Rattle.std.proofs.Common.{◌∙◌, arith, subst, sym, refl, inl, inr}
-use Rattle.line_input.specs.Lines.{Numbered, lines_of, most_bytes}
+use Rattle.std.specs.Prelude.{◌≡◌, ℕ, ◌+◌, ◌<◌, ◌≤◌, true, false, List, Option, Some, None, Ok, MatchOption, length}
+use Rattle.std.proofs.Common.{◌∙◌, arith, subst, sym, inl, inr}
+use Rattle.line_input.specs.Lines.{Numbered, most_bytes}
 use Rattle.line_input.specs.Reading.{Reading, ReadsLine, first_reading}
-use Rattle.command_base.specs.LineCommands.{IsLined, IsQuietLine, IsQuietTurn, TakesLine, EndsLine, EndsInput}
+use Rattle.command_base.specs.LineCommands.{IsLined, IsQuietLine, IsQuietTurn, TakesLine, EndsInput}
 use Rattle.command_base.specs.declared.status.Status.{Status}
 use Rattle.command_base.specs.declared.status.Status.TheVariants as status
 use Rattle.command_base.specs.Outcome.{Streams, Outcome, ReadCause}

@@ -1,8 +1,8 @@
 -- How a line ends a command over lines, by what was written of its reply.
-use Rattle.std.specs.Prelude.{◌≡◌, ℕ, ◌+◌, ◌≤◌, true, List, [], ◌∷◌, ◌++◌, Option}
+use Rattle.std.specs.Prelude.{ℕ, ◌+◌, ◌≤◌, true, List, [], ◌∷◌, ◌++◌, Option}
 use Rattle.std.proofs.Common.{◌∙◌, sym, subst, ap, refl, append_assoc, inl, inr, arith}
-use Rattle.call_io.specs.Bytes.{Grew, GrewPartly}
-use Rattle.command_base.specs.LineCommands.{GoesOn, Ends, Begins, CountsEnd, EndsLine, EndsInput}
+use Rattle.call_io.specs.Bytes.{GrewPartly}
+use Rattle.command_base.specs.LineCommands.{GoesOn, Ends, CountsEnd, EndsLine}
 use Rattle.command_base.specs.Outcome.{CutShort, Outcome, Streams}
 use Rattle.command_base.specs.Refusals.{Reply, in_front_of}
 use Rattle.command_base.specs.declared.refusal.Refused.{Refused}

@@ -1,12 +1,12 @@
 -- What the lines that were read say of the reply of a command that reads its input line by line, and how such a command
 -- ends. It holds for every command whose reply is one to lines (`IsLined`).
-use Rattle.std.specs.Prelude.{◌≡◌, ℕ, ◌+◌, ◌<◌, ◌≤◌, ◌⊎◌, Bool, true, false, List, [], ◌∷◌, ◌++◌, length, Option, Some, None, Ok, Err}
+use Rattle.std.specs.Prelude.{◌≡◌, ℕ, ◌+◌, ◌<◌, ◌≤◌, ◌⊎◌, Bool, true, false, List, [], ◌∷◌, ◌++◌, length, Option, Some, Ok, Err}
 use Rattle.std.specs.Io.KnownBytes.{IsAtEnd}
 use Rattle.std.specs.List.{AllByRecursion}
 use Rattle.std.proofs.Common.{sym, ◌∙◌, ap, refl, subst, append_assoc, inl, inr, arith, length-append}
 use Rattle.std.proofs.lemmas.List.{append-nil}
 use Rattle.std.proofs.lemmas.Bool.{false≢true}
-use Rattle.call_io.specs.Bytes.{Took, Grew, GrewPartly}
+use Rattle.call_io.specs.Bytes.{Grew, GrewPartly}
 use Rattle.call_io.proofs.BytesLemmas.{Grew-nothing, Grew-append}
 use Rattle.line_input.specs.declared.reason.BadLine.{BadLine}
 use Rattle.line_input.specs.declared.fault.LineFault.{LineFault}
@@ -21,7 +21,6 @@ use Rattle.command_base.specs.declared.refusal.Refused.TheVariants as refused
 use Rattle.command_base.specs.LineCommands.{IsLined, GoesOn, Ends, Begins, CountsEnd, EndsLine, EndsInput}
 use Rattle.command_base.specs.Outcome.{Streams, Answered, CutShort, IsSettled, Outcome}
 use Rattle.command_base.specs.Refusals.{Reply, refusal_line, refusal_reply, in_front_of}
-use Rattle.command_base.specs.Ends.{EndsWithText}
 use Rattle.command_base.specs.inner.ReadEnds.{FailsWith, EndsReading, by_line, in_front}
 use Rattle.command_base.specs.inner.Standing.{LinesStanding}
 use Rattle.command_base.proofs.Takings.{AtHand, taken_first, at_hand, at_end, front_follows, too_many_follow, too_many_whole, taken_whole, front_within, whole_end, whole_last, front_whole, taken_behind}

@@ -1,7 +1,7 @@
 -- What a command over lines owes for each line and at the end of its input. `Rest` is its reply to the lines from a
 -- number on, and `most` how often these lines pass the ends at most; both may depend on what the lines before said.
 -- This project's profile. Cited by the trait `LineCommand` and by its loop.
-use Rattle.std.specs.Prelude.{◌≡◌, ℕ, ◌+◌, ◌≤◌, List, [], ◌∷◌, ◌++◌, Option, Some, None}
+use Rattle.std.specs.Prelude.{◌≡◌, ℕ, ◌+◌, ◌≤◌, List, [], ◌∷◌, Option, Some, None}
 use Rattle.std.specs.Borrow.{GName}
 use Rattle.call_io.specs.Bytes.{Grew}
 use Rattle.line_input.specs.Lines.{line_fault, IsPassedOver}

@@ -1,9 +1,9 @@
-use Rattle.std.proofs.Common.{arith, refl, sym, subst, ◌∙◌, None}
+use Rattle.std.proofs.Common.{arith, refl, sym, subst, ◌∙◌}
 use Rattle.call_io.proofs.BlockLemmas.{Onward-append, Onward-nothing}
 use Rattle.call_io.specs.Blocks.{held}
 use Rattle.line_input.specs.Reading.{Reading}
 use Rattle.command_base.specs.Outcome.{Streams, streams_of}
-use Rattle.command_base.specs.inner.Standing.{CommandStanding, RepliesFrom, TurnsTo, most_from}
+use Rattle.command_base.specs.inner.Standing.{CommandStanding, RepliesFrom, most_from}
 use Rattle.command_base.proofs.CommandTurns.{stands_first}
 use Rattle.command_base.proofs.WholeReplies.{whole_reply}
 use Rattle.command_base.proofs.lines.carry_out_lines.Goals as goal

@@ -1,4 +1,4 @@
-use Rattle.std.proofs.Common.{◌≡◌, ℕ, ◌-◌, ◌≤◌}
+use Rattle.std.proofs.Common.{◌≡◌, ◌-◌, ◌≤◌}
 use Rattle.call_io.specs.Blocks.{held, sink, way}
 use Rattle.call_io.specs.Ways.{Onward}
 use Rattle.command_base.specs.Outcome.{streams_of}

@@ -1,5 +1,5 @@
 use Rattle.call_io.specs.Blocks.{held}
-use Rattle.command_base.proofs.CommandTurns.{found, finished, unread, line_reads, end_reads, line_silent, found_less, end_silent, unread_silent}
+use Rattle.command_base.proofs.CommandTurns.{found, finished, unread, end_reads, line_silent, found_less, end_silent, unread_silent}
 use Rattle.command_base.proofs.lines.take_turn.Goals as goal
 
 pub returns-then-found-clause-turns : goal.returns-then-found-clause-turns
