@@ -2,8 +2,9 @@
 ghost use Rattle.std.specs.Prelude.{◌≡◌, ◌<◌};
 
 use super::{
-    CALL, OTHER_SET, SET, ack, app, asking, content, down, ended, fault, hears, hears_frame,
-    listening, may_pass, passes, sends, shown, start, talking, telling, voice,
+    CALL, OTHER_SET, SET, ack, app, are, asking, content, down, ended, fault, hears, hears_frame,
+    is_due, is_over, listening, may_pass, passes, repeats, sends, shown, start, talking, telling,
+    voice,
 };
 use crate::{PointEvent, Session};
 use link_frames::{Answer, Frame, Note, Steps, Timer, Why};
@@ -15,7 +16,7 @@ use std::sync::ledger::{Blank, Ledger};
 fn waits_in_vain<L: Ledger>(rt: &impl Abort, moments: &mut Steps<L>) {
     let mut session = listening();
     passes(rt, &mut session, moments, 20, &[]);
-    assert_eq!(rt; session.due(), Some(30));
+    is_due(rt, &session, Some(30));
     passes(rt, &mut session, moments, 29, &[]);
     passes(
         rt,
@@ -24,23 +25,19 @@ fn waits_in_vain<L: Ledger>(rt: &impl Abort, moments: &mut Steps<L>) {
         1,
         &[ended(Timer::T4), voice(true)],
     );
-    assert_eq!(rt; session.due(), None);
+    is_due(rt, &session, None);
     hears_frame(rt, &mut session, &Frame::Init, &[]);
 }
 
 /// A point that asks: it asks again every 5 ticks, and T8 ends after 200, before the repeat of that tick.
 fn asks_in_vain<L: Ledger>(rt: &impl Abort, moments: &mut Steps<L>) {
     let mut session = asking(rt);
-    let again = [sends(start(rt, 1))];
     passes(rt, &mut session, moments, 3, &[]);
-    assert_eq!(rt; session.due(), Some(2));
-    passes(rt, &mut session, moments, 2, &again);
-    for _repeat in 2..40 {
-        assert_eq!(rt; session.due(), Some(5));
-        passes(rt, &mut session, moments, 5, &again);
-    }
+    is_due(rt, &session, Some(2));
+    passes(rt, &mut session, moments, 2, &[sends(start(rt, 1))]);
+    repeats(rt, &mut session, moments, 38, &start(rt, 1));
     passes(rt, &mut session, moments, 4, &[]);
-    assert_eq!(rt; session.due(), Some(1));
+    is_due(rt, &session, Some(1));
     passes(
         rt,
         &mut session,
@@ -48,21 +45,17 @@ fn asks_in_vain<L: Ledger>(rt: &impl Abort, moments: &mut Steps<L>) {
         1,
         &[ended(Timer::T8), voice(true)],
     );
-    assert_eq!(rt; session.due(), None);
+    is_due(rt, &session, None);
 }
 
 /// A point that tells of a set does so 5 times, and opens after 25 ticks.
 fn tells<L: Ledger>(rt: &impl Abort, moments: &mut Steps<L>) {
     let mut session = telling(rt);
-    let again = [sends(app(rt, 1, Answer::Positive))];
-    for _repeat in 1..5 {
-        assert_eq!(rt; session.due(), Some(5));
-        passes(rt, &mut session, moments, 5, &again);
-    }
+    repeats(rt, &mut session, moments, 4, &app(rt, 1, Answer::Positive));
     passes(rt, &mut session, moments, 1, &[]);
-    assert_eq!(rt; session.due(), Some(4));
+    is_due(rt, &session, Some(4));
     passes(rt, &mut session, moments, 4, &[voice(true)]);
-    assert_eq!(rt; session.due(), None);
+    is_due(rt, &session, None);
     hears(rt, &mut session, &PointEvent::Request, &[Note::Busy(CALL)]);
 }
 
@@ -83,17 +76,9 @@ fn lets_go<L: Ledger>(rt: &impl Abort, moments: &mut Steps<L>) {
     hears(rt, &mut session, &PointEvent::Damaged, &[Note::Nothing]);
     hears_frame(rt, &mut session, &Frame::Init, &[]);
     hears_frame(rt, &mut session, &content(rt, 1, SET), &[sends(ack(rt, 1))]);
-    for _repeat in 1..5 {
-        passes(
-            rt,
-            &mut session,
-            moments,
-            5,
-            &[sends(app(rt, 1, Answer::Clear))],
-        );
-    }
+    repeats(rt, &mut session, moments, 4, &app(rt, 1, Answer::Clear));
     passes(rt, &mut session, moments, 5, &[down(Why::Release)]);
-    assert!(rt; session.over());
+    is_over(rt, &session, true);
     passes(rt, &mut session, moments, 4_294_967_295, &[]);
     hears(rt, &mut session, &PointEvent::Hangup, &[Note::Nothing]);
 }
@@ -114,7 +99,7 @@ fn waits_for_the_opening<L: Ledger>(rt: &impl Abort, moments: &mut Steps<L>) {
         &[voice(false), sends(start(rt, 2))],
     );
     hears(rt, &mut session, &PointEvent::Request, &[Note::Busy(CALL)]);
-    assert_eq!(rt; session.due(), Some(5));
+    is_due(rt, &session, Some(5));
 }
 
 /// A call that the point placed: the first request may come after 20 ticks, and open ticks stay at their greatest.
@@ -124,7 +109,7 @@ fn is_called<L: Ledger>(rt: &impl Abort, moments: &mut Steps<L>) {
     hears(rt, &mut session, &PointEvent::Request, &[Note::Busy(CALL)]);
     for _stretch in 0..3 {
         passes(rt, &mut session, moments, 4_294_967_295, &[]);
-        assert_eq!(rt; session.due(), None);
+        is_due(rt, &session, None);
     }
     hears(
         rt,
@@ -194,13 +179,10 @@ fn spends_its_requests<L: Ledger>(rt: &impl Abort, moments: &mut Steps<L>) {
 fn answers_its_items<L: Ledger>(rt: &impl Abort, moments: &mut Steps<L>) {
     let (mut session, _items) = Session::arriving(CALL);
     let items = session.hear(&PointEvent::Damaged);
-    assert_eq!(rt; items.as_slice(), [Note::Nothing].as_slice());
+    are(rt, &items, &[Note::Nothing]);
     assert!(rt; may_pass(&session, 50));
     let items = session.pass(50, moments);
-    assert_eq!(rt;
-        items.as_slice(),
-        [ended(Timer::T4), voice(true)].as_slice()
-    );
+    are(rt, &items, &[ended(Timer::T4), voice(true)]);
 }
 
 /// Each of these with a count of its own steps.
