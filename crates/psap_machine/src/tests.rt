@@ -170,6 +170,28 @@ fn repeats<L: Ledger>(
     }
 }
 
+/// Checks that a fault opens the voice.
+fn opens_at_a_fault(rt: &impl Abort, session: &mut Session) {
+    fails(rt, session, &[fault(), voice(true)]);
+}
+
+/// Checks that the desk may not do this now.
+fn is_refused(rt: &impl Abort, session: &mut Session, event: &PointEvent<'_>) {
+    hears(rt, session, event, &[Note::Busy(CALL)]);
+}
+
+/// Checks that the point asks for the set of this number, as the desk wants it.
+fn asks(rt: &impl Abort, session: &mut Session, number: u8) {
+    let want = [voice(false), sends(start(rt, number))];
+    hears(rt, session, &PointEvent::Request, &want);
+}
+
+/// Checks that the point lets the vehicle go, with the set of this number.
+fn clears(rt: &impl Abort, session: &mut Session, number: u8) {
+    let want = [voice(false), sends(app(rt, number, Answer::Clear))];
+    hears(rt, session, &PointEvent::Clear, &want);
+}
+
 /// A point that listens.
 fn listening() -> Session {
     let (session, _items) = Session::arriving(CALL);
@@ -198,20 +220,15 @@ fn telling(rt: &impl Abort) -> Session {
 /// A point that asked for the first set, and whose voice was opened just now.
 fn talking(rt: &impl Abort) -> Session {
     let mut session = asking(rt);
-    hears(
-        rt,
-        &mut session,
-        &PointEvent::Fault,
-        &[fault(), voice(true)],
-    );
+    opens_at_a_fault(rt, &mut session);
     session
 }
 
 /// Checks what the point does at something damaged, and that the desk may neither ask nor let go.
 fn is_busy(rt: &impl Abort, session: &mut Session, damaged: Note) {
     hears(rt, session, &PointEvent::Damaged, &[damaged]);
-    hears(rt, session, &PointEvent::Request, &[Note::Busy(CALL)]);
-    hears(rt, session, &PointEvent::Clear, &[Note::Busy(CALL)]);
+    is_refused(rt, session, &PointEvent::Request);
+    is_refused(rt, session, &PointEvent::Clear);
 }
 
 /// Checks what the point does at a fault.
@@ -280,7 +297,7 @@ fn a_point_that_tells_shows_no_set_again(rt: HostRuntime) {
     hears_frame(&rt, &mut session, &content(&rt, 2, SET), &[]);
     hears_frame(&rt, &mut session, &Frame::Init, &[]);
     is_busy(&rt, &mut session, Note::Nothing);
-    fails(&rt, &mut session, &[fault(), voice(true)]);
+    opens_at_a_fault(&rt, &mut session);
 }
 
 #[test]

@@ -2,9 +2,9 @@
 ghost use Rattle.std.specs.Prelude.{◌≡◌, ◌<◌};
 
 use super::{
-    CALL, OTHER_SET, SET, ack, app, are, asking, content, down, ended, fault, hears, hears_frame,
-    is_due, is_over, listening, may_pass, passes, repeats, sends, shown, start, talking, telling,
-    voice,
+    CALL, OTHER_SET, SET, ack, app, are, asking, asks, clears, content, down, ended, fault, hears,
+    hears_frame, is_due, is_over, is_refused, listening, may_pass, opens_at_a_fault, passes,
+    repeats, sends, shown, start, talking, telling, voice,
 };
 use crate::{PointEvent, Session};
 use link_frames::{Answer, Frame, Note, Steps, Timer, Why};
@@ -56,23 +56,17 @@ fn tells<L: Ledger>(rt: &impl Abort, moments: &mut Steps<L>) {
     is_due(rt, &session, Some(4));
     passes(rt, &mut session, moments, 4, &[voice(true)]);
     is_due(rt, &session, None);
-    hears(rt, &mut session, &PointEvent::Request, &[Note::Busy(CALL)]);
+    is_refused(rt, &mut session, &PointEvent::Request);
 }
 
 /// A point that lets the vehicle go says so 5 times, and its leg goes down after 25 ticks.
 fn lets_go<L: Ledger>(rt: &impl Abort, moments: &mut Steps<L>) {
     let mut session = telling(rt);
-    hears(
-        rt,
-        &mut session,
-        &PointEvent::Fault,
-        &[fault(), voice(true)],
-    );
+    opens_at_a_fault(rt, &mut session);
     passes(rt, &mut session, moments, 20, &[]);
-    let clear = [voice(false), sends(app(rt, 1, Answer::Clear))];
-    hears(rt, &mut session, &PointEvent::Clear, &clear);
-    hears(rt, &mut session, &PointEvent::Clear, &[Note::Busy(CALL)]);
-    hears(rt, &mut session, &PointEvent::Request, &[Note::Busy(CALL)]);
+    clears(rt, &mut session, 1);
+    is_refused(rt, &mut session, &PointEvent::Clear);
+    is_refused(rt, &mut session, &PointEvent::Request);
     hears(rt, &mut session, &PointEvent::Damaged, &[Note::Nothing]);
     hears_frame(rt, &mut session, &Frame::Init, &[]);
     hears_frame(rt, &mut session, &content(rt, 1, SET), &[sends(ack(rt, 1))]);
@@ -87,18 +81,13 @@ fn lets_go<L: Ledger>(rt: &impl Abort, moments: &mut Steps<L>) {
 fn waits_for_the_opening<L: Ledger>(rt: &impl Abort, moments: &mut Steps<L>) {
     let mut session = talking(rt);
     passes(rt, &mut session, moments, 19, &[]);
-    hears(rt, &mut session, &PointEvent::Request, &[Note::Busy(CALL)]);
-    hears(rt, &mut session, &PointEvent::Clear, &[Note::Busy(CALL)]);
+    is_refused(rt, &mut session, &PointEvent::Request);
+    is_refused(rt, &mut session, &PointEvent::Clear);
     hears(rt, &mut session, &PointEvent::Fault, &[fault()]);
     passes(rt, &mut session, moments, 1, &[]);
     hears(rt, &mut session, &PointEvent::Clear, &[Note::Unshown(CALL)]);
-    hears(
-        rt,
-        &mut session,
-        &PointEvent::Request,
-        &[voice(false), sends(start(rt, 2))],
-    );
-    hears(rt, &mut session, &PointEvent::Request, &[Note::Busy(CALL)]);
+    asks(rt, &mut session, 2);
+    is_refused(rt, &mut session, &PointEvent::Request);
     is_due(rt, &session, Some(5));
 }
 
@@ -106,17 +95,12 @@ fn waits_for_the_opening<L: Ledger>(rt: &impl Abort, moments: &mut Steps<L>) {
 fn is_called<L: Ledger>(rt: &impl Abort, moments: &mut Steps<L>) {
     let (mut session, _items) = Session::called(CALL);
     hears_frame(rt, &mut session, &Frame::Init, &[]);
-    hears(rt, &mut session, &PointEvent::Request, &[Note::Busy(CALL)]);
+    is_refused(rt, &mut session, &PointEvent::Request);
     for _stretch in 0..3 {
         passes(rt, &mut session, moments, 4_294_967_295, &[]);
         is_due(rt, &session, None);
     }
-    hears(
-        rt,
-        &mut session,
-        &PointEvent::Request,
-        &[voice(false), sends(start(rt, 1))],
-    );
+    asks(rt, &mut session, 1);
     passes(rt, &mut session, moments, 5, &[sends(start(rt, 1))]);
 }
 
@@ -124,12 +108,7 @@ fn is_called<L: Ledger>(rt: &impl Abort, moments: &mut Steps<L>) {
 fn shows_a_late_set<L: Ledger>(rt: &impl Abort, moments: &mut Steps<L>) {
     let mut session = talking(rt);
     passes(rt, &mut session, moments, 20, &[]);
-    hears(
-        rt,
-        &mut session,
-        &PointEvent::Request,
-        &[voice(false), sends(start(rt, 2))],
-    );
+    asks(rt, &mut session, 2);
     let late = [shown(rt, 1, SET), sends(ack(rt, 1))];
     hears_frame(rt, &mut session, &content(rt, 1, SET), &late);
     passes(rt, &mut session, moments, 5, &[sends(start(rt, 2))]);
@@ -139,21 +118,10 @@ fn shows_a_late_set<L: Ledger>(rt: &impl Abort, moments: &mut Steps<L>) {
         sends(app(rt, 2, Answer::Positive)),
     ];
     hears_frame(rt, &mut session, &content(rt, 2, OTHER_SET), &newest);
-    hears(
-        rt,
-        &mut session,
-        &PointEvent::Fault,
-        &[fault(), voice(true)],
-    );
+    opens_at_a_fault(rt, &mut session);
     passes(rt, &mut session, moments, 20, &[]);
-    let clear = [voice(false), sends(app(rt, 2, Answer::Clear))];
-    hears(rt, &mut session, &PointEvent::Clear, &clear);
-    hears(
-        rt,
-        &mut session,
-        &PointEvent::Fault,
-        &[fault(), voice(true)],
-    );
+    clears(rt, &mut session, 2);
+    opens_at_a_fault(rt, &mut session);
 }
 
 /// The numbers of requests are spent after 255.
@@ -161,14 +129,8 @@ fn spends_its_requests<L: Ledger>(rt: &impl Abort, moments: &mut Steps<L>) {
     let (mut session, _items) = Session::called(CALL);
     passes(rt, &mut session, moments, 20, &[]);
     for number in 1..=255 {
-        let asks = [voice(false), sends(start(rt, number))];
-        hears(rt, &mut session, &PointEvent::Request, &asks);
-        hears(
-            rt,
-            &mut session,
-            &PointEvent::Fault,
-            &[fault(), voice(true)],
-        );
+        asks(rt, &mut session, number);
+        opens_at_a_fault(rt, &mut session);
         passes(rt, &mut session, moments, 20, &[]);
     }
     hears(rt, &mut session, &PointEvent::Request, &[Note::Spent(CALL)]);
