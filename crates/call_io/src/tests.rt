@@ -55,6 +55,31 @@ fn expect_read<I: Source>(
     }
 }
 
+/// Writes once, and asserts the answer.
+fn expect_write<O: Sink>(
+    rt: &impl Abort,
+    sink: &mut O,
+    piece: &[u8],
+    answer: Result<usize, Failed>,
+) {
+    assert_eq!(rt; sink.write(piece), answer);
+}
+
+/// Writes a whole piece, and asserts the answer.
+fn expect_whole<O: Sink>(rt: &impl Abort, out: &mut O, piece: &[u8], answer: Result<(), Failed>) {
+    assert_eq!(rt; write_all(out, piece), answer);
+}
+
+/// Empties a block, and asserts the answer.
+fn expect_empty<O: Sink>(rt: &impl Abort, block: &mut Block<'_, O>, answer: Result<(), Failed>) {
+    assert_eq!(rt; block.empty(), answer);
+}
+
+/// Asserts the bytes that were written.
+fn expect_bytes(rt: &impl Abort, written: &[u8], bytes: &[u8]) {
+    assert_eq!(rt; written, bytes);
+}
+
 #[test]
 fn reads_over_memory(rt: HostRuntime) -> Result<(), Fail> {
     let bytes = vec![in rt.alloc(); 1, 2, 3, 4, 5]?;
@@ -77,23 +102,22 @@ fn reads_over_memory(rt: HostRuntime) -> Result<(), Fail> {
 fn writes_over_memory(rt: HostRuntime) -> Result<(), Fail> {
     let fails = vec![in rt.alloc(); 1]?;
     let mut sink = MemSink::new(rt.alloc(), 3, fails)?;
-    assert_eq!(rt; sink.write(&[1, 2]), Err(Failed));
-    assert_eq!(rt; sink.write(&[1, 2]), Ok(2));
-    assert_eq!(rt; sink.write(&[3, 4]), Ok(1));
-    assert_eq!(rt; sink.write(&[4]), Err(Failed));
-    assert_eq!(rt; sink.write(&[]), Ok(0));
-    assert_eq!(rt; sink.bytes(), [1, 2, 3].as_slice());
-    let mut calm = CalmSink::new();
-    assert_eq!(rt; calm.write(&[1, 2, 3]), Ok(3));
+    expect_write(&rt, &mut sink, &[1, 2], Err(Failed));
+    expect_write(&rt, &mut sink, &[1, 2], Ok(2));
+    expect_write(&rt, &mut sink, &[3, 4], Ok(1));
+    expect_write(&rt, &mut sink, &[4], Err(Failed));
+    expect_write(&rt, &mut sink, &[], Ok(0));
+    expect_bytes(&rt, sink.bytes(), &[1, 2, 3]);
+    expect_write(&rt, &mut CalmSink::new(), &[1, 2, 3], Ok(3));
     Ok(())
 }
 
 #[test]
 fn writes_whole_pieces(rt: HostRuntime) -> Result<(), Fail> {
     let mut sink = MemSink::new(rt.alloc(), 4, Vec::new(rt.alloc()))?;
-    assert_eq!(rt; write_all(&mut sink, &[1, 2, 3]), Ok(()));
-    assert_eq!(rt; write_all(&mut sink, &[4, 5]), Err(Failed));
-    assert_eq!(rt; sink.bytes(), [1, 2, 3, 4].as_slice());
+    expect_whole(&rt, &mut sink, &[1, 2, 3], Ok(()));
+    expect_whole(&rt, &mut sink, &[4, 5], Err(Failed));
+    expect_bytes(&rt, sink.bytes(), &[1, 2, 3, 4]);
     Ok(())
 }
 
@@ -108,16 +132,16 @@ fn works_over_std(rt: HostRuntime) -> Result<(), Fail> {
     let mut written: Vec<u8> = Vec::new(rt.alloc());
     {
         let mut sink = RealSink::new(&mut written);
-        assert_eq!(rt; write_all(&mut sink, &[1, 2, 3]), Ok(()));
+        expect_whole(&rt, &mut sink, &[1, 2, 3], Ok(()));
     }
-    assert_eq!(rt; written.as_slice(), [1, 2, 3].as_slice());
+    expect_bytes(&rt, written.as_slice(), &[1, 2, 3]);
     assert_eq!(rt; RealSource::new(Broken).read(&mut []), Err(Failed));
     assert_eq!(rt; RealSource::new(bytes.as_slice()).read(&mut []), Ok(0));
-    assert_eq!(rt; RealSink::new(Broken).write(&[1]), Err(Failed));
-    assert_eq!(rt; RealSink::new(Broken).write(&[]), Err(Failed));
+    expect_write(&rt, &mut RealSink::new(Broken), &[1], Err(Failed));
+    expect_write(&rt, &mut RealSink::new(Broken), &[], Err(Failed));
     let mut stuck = RealSink::new(Stuck);
-    assert_eq!(rt; stuck.write(&[]), Ok(0));
-    assert_eq!(rt; stuck.write(&[1]), Err(Failed));
+    expect_write(&rt, &mut stuck, &[], Ok(0));
+    expect_write(&rt, &mut stuck, &[1], Err(Failed));
     Ok(())
 }
 
@@ -150,10 +174,10 @@ fn blocks_reach_the_sink(rt: HostRuntime) -> Result<(), Fail> {
     {
         let mut block = Block::over(&mut sink);
         for _ in 0..200 {
-            assert_eq!(rt; write_all(&mut block, &[7; 100]), Ok(()));
+            expect_whole(&rt, &mut block, &[7; 100], Ok(()));
         }
-        assert_eq!(rt; block.empty(), Ok(()));
-        assert_eq!(rt; block.empty(), Ok(()));
+        expect_empty(&rt, &mut block, Ok(()));
+        expect_empty(&rt, &mut block, Ok(()));
     }
     assert_eq!(rt; sink.writes, 3);
     assert_eq!(rt; sink.bytes, 20000);
@@ -167,22 +191,22 @@ fn blocks_keep_what_failed(rt: HostRuntime) -> Result<(), Fail> {
     let mut sink = MemSink::new(rt.alloc(), 2, fails)?;
     {
         let mut block = Block::over(&mut sink);
-        assert_eq!(rt; write_all(&mut block, b"abc"), Ok(()));
-        assert_eq!(rt; block.empty(), Err(Failed));
-        assert_eq!(rt; write_all(&mut block, b"d"), Ok(()));
-        assert_eq!(rt; block.empty(), Err(Failed));
+        expect_whole(&rt, &mut block, b"abc", Ok(()));
+        expect_empty(&rt, &mut block, Err(Failed));
+        expect_whole(&rt, &mut block, b"d", Ok(()));
+        expect_empty(&rt, &mut block, Err(Failed));
     }
-    assert_eq!(rt; sink.bytes(), b"ab".as_slice());
+    expect_bytes(&rt, sink.bytes(), b"ab");
     // A full block is emptied before it takes more, and a failure there leaves all pending.
     let fails = vec![in rt.alloc(); 1]?;
     let mut sink = MemSink::new(rt.alloc(), 10000, fails)?;
     {
         let mut block = Block::over(&mut sink);
-        assert_eq!(rt; write_all(&mut block, &[1; 8192]), Ok(()));
-        assert_eq!(rt; block.write(&[2]), Err(Failed));
-        assert_eq!(rt; block.write(&[]), Ok(0));
-        assert_eq!(rt; block.write(&[3]), Ok(1));
-        assert_eq!(rt; block.empty(), Ok(()));
+        expect_whole(&rt, &mut block, &[1; 8192], Ok(()));
+        expect_write(&rt, &mut block, &[2], Err(Failed));
+        expect_write(&rt, &mut block, &[], Ok(0));
+        expect_write(&rt, &mut block, &[3], Ok(1));
+        expect_empty(&rt, &mut block, Ok(()));
     }
     assert_eq!(rt; sink.bytes().len(), 8193);
     assert_eq!(rt; sink.bytes().last(), Some(&3));

@@ -120,13 +120,25 @@ fn ignores_frames_that_go_down(rt: &impl Abort, session: &mut Session) {
     }
 }
 
+/// Whether so many ticks are at least one, and at most as many as are due.
 fn may_pass(session: &Session, n: u32) -> bool
-    ensures { IsTrue result → (s : Point) → SessionStandsFor session.now s → IfSome (due_of s) (λ due. n ≤ due) }
+    ensures some { IsTrue result → 1 ≤ n }
+    ensures due { IsTrue result → (s : Point) → SessionStandsFor session.now s → IfSome (due_of s) (λ due. n ≤ due) }
 {
     match session.due() {
-        Some(due) => n <= due,
-        None => true,
+        Some(due) => 0 < n && n <= due,
+        None => 0 < n,
     }
+}
+
+/// Checks after how many ticks the point does something next.
+fn is_due(rt: &impl Abort, session: &Session, want: Option<u32>) {
+    assert_eq!(rt; session.due(), want);
+}
+
+/// Checks the items that a step gave.
+fn are(rt: &impl Abort, items: &Items, want: &[Note]) {
+    assert_eq!(rt; items.as_slice(), want);
 }
 
 /// Checks what the point does after some ticks, at most as many as are due.
@@ -137,11 +149,47 @@ fn passes<L: Ledger>(
     n: u32,
     want: &[Note],
 ) {
-    assert!(rt; n > 0);
-    assert!(rt; may_pass(session, n), "{n} ticks are more than are due");
+    assert!(rt; may_pass(session, n));
     let mut items = old_items();
     session.pass_into(n, moments, &mut items);
     assert_eq!(rt; items.as_slice(), want, "after {n}");
+}
+
+/// Checks that the point sends this frame after each 5 ticks, so many times.
+fn repeats<L: Ledger>(
+    rt: &impl Abort,
+    session: &mut Session,
+    moments: &mut Steps<L>,
+    times: u32,
+    frame: &Frame,
+) {
+    let again = [sends(*frame)];
+    for _repeat in 0..times {
+        is_due(rt, session, Some(5));
+        passes(rt, session, moments, 5, &again);
+    }
+}
+
+/// Checks that a fault opens the voice.
+fn opens_at_a_fault(rt: &impl Abort, session: &mut Session) {
+    fails(rt, session, &[fault(), voice(true)]);
+}
+
+/// Checks that the desk may not do this now.
+fn is_refused(rt: &impl Abort, session: &mut Session, event: &PointEvent<'_>) {
+    hears(rt, session, event, &[Note::Busy(CALL)]);
+}
+
+/// Checks that the point asks for the set of this number, as the desk wants it.
+fn asks(rt: &impl Abort, session: &mut Session, number: u8) {
+    let want = [voice(false), sends(start(rt, number))];
+    hears(rt, session, &PointEvent::Request, &want);
+}
+
+/// Checks that the point lets the vehicle go, with the set of this number.
+fn clears(rt: &impl Abort, session: &mut Session, number: u8) {
+    let want = [voice(false), sends(app(rt, number, Answer::Clear))];
+    hears(rt, session, &PointEvent::Clear, &want);
 }
 
 /// A point that listens.
@@ -172,20 +220,15 @@ fn telling(rt: &impl Abort) -> Session {
 /// A point that asked for the first set, and whose voice was opened just now.
 fn talking(rt: &impl Abort) -> Session {
     let mut session = asking(rt);
-    hears(
-        rt,
-        &mut session,
-        &PointEvent::Fault,
-        &[fault(), voice(true)],
-    );
+    opens_at_a_fault(rt, &mut session);
     session
 }
 
 /// Checks what the point does at something damaged, and that the desk may neither ask nor let go.
 fn is_busy(rt: &impl Abort, session: &mut Session, damaged: Note) {
     hears(rt, session, &PointEvent::Damaged, &[damaged]);
-    hears(rt, session, &PointEvent::Request, &[Note::Busy(CALL)]);
-    hears(rt, session, &PointEvent::Clear, &[Note::Busy(CALL)]);
+    is_refused(rt, session, &PointEvent::Request);
+    is_refused(rt, session, &PointEvent::Clear);
 }
 
 /// Checks what the point does at a fault.
@@ -194,29 +237,32 @@ fn fails(rt: &impl Abort, session: &mut Session, want: &[Note]) {
 }
 
 /// The items of a session that comes up.
-fn comes_up(rt: &impl Abort, items: &[Note], open: bool) {
+fn comes_up(rt: &impl Abort, items: &Items, open: bool) {
     let up = Note::Up {
         end: End::Point,
         call: CALL,
     };
-    let want = [up, voice(open)];
-    assert_eq!(rt; items, want.as_slice());
+    are(rt, items, &[up, voice(open)]);
+}
+
+/// Checks that a session has its call's number, and whether it is over.
+fn is_over(rt: &impl Abort, session: &Session, over: bool) {
+    assert_eq!(rt; session.call(), 3);
+    assert_eq!(rt; session.over(), over);
 }
 
 #[test]
 fn a_call_comes_up(rt: HostRuntime) {
     let mut items = old_items();
     let session = Session::arriving_into(CALL, &mut items);
-    comes_up(&rt, items.as_slice(), false);
-    assert_eq!(rt; session.call(), 3);
-    assert!(rt; !session.over());
-    assert_eq!(rt; session.due(), Some(50));
+    comes_up(&rt, &items, false);
+    is_over(&rt, &session, false);
+    is_due(&rt, &session, Some(50));
 
     let session = Session::called_into(CALL, &mut items);
-    comes_up(&rt, items.as_slice(), true);
-    assert_eq!(rt; session.call(), 3);
-    assert!(rt; !session.over());
-    assert_eq!(rt; session.due(), None);
+    comes_up(&rt, &items, true);
+    is_over(&rt, &session, false);
+    is_due(&rt, &session, None);
 }
 
 #[test]
@@ -227,7 +273,7 @@ fn a_point_that_listens_asks_for_the_first_set(rt: HostRuntime) {
     is_busy(&rt, &mut session, Note::Nothing);
     hears_frame(&rt, &mut session, &Frame::Init, &[sends(start(&rt, 1))]);
     hears_frame(&rt, &mut session, &Frame::Init, &[]);
-    assert_eq!(rt; session.due(), Some(5));
+    is_due(&rt, &session, Some(5));
 }
 
 #[test]
@@ -251,7 +297,7 @@ fn a_point_that_tells_shows_no_set_again(rt: HostRuntime) {
     hears_frame(&rt, &mut session, &content(&rt, 2, SET), &[]);
     hears_frame(&rt, &mut session, &Frame::Init, &[]);
     is_busy(&rt, &mut session, Note::Nothing);
-    fails(&rt, &mut session, &[fault(), voice(true)]);
+    opens_at_a_fault(&rt, &mut session);
 }
 
 #[test]
@@ -265,23 +311,27 @@ fn a_point_that_talks_shows_what_comes_late(rt: HostRuntime) {
     hears_frame(&rt, &mut session, &content(&rt, 1, SET), &again);
     is_busy(&rt, &mut session, Note::Nothing);
     fails(&rt, &mut session, &[fault()]);
-    assert_eq!(rt; session.due(), None);
+    is_due(&rt, &session, None);
+}
+
+/// Checks that an event applies to nothing.
+fn gives_nothing(rt: &impl Abort, session: &mut Session, event: &PointEvent<'_>) {
+    hears(rt, session, event, &[Note::Nothing]);
 }
 
 /// Checks that the session is over, and that nothing happens any more.
 fn stays_over(rt: &impl Abort, session: &mut Session) {
-    assert!(rt; session.over());
-    assert_eq!(rt; session.call(), 3);
-    assert_eq!(rt; session.due(), None);
+    is_over(rt, session, true);
+    is_due(rt, session, None);
     ignores_frames_that_go_down(rt, session);
     hears_frame(rt, session, &Frame::Init, &[]);
     hears_frame(rt, session, &content(rt, 1, SET), &[]);
-    hears(rt, session, &PointEvent::Damaged, &[Note::Nothing]);
-    hears(rt, session, &PointEvent::Request, &[Note::Nothing]);
-    hears(rt, session, &PointEvent::Clear, &[Note::Nothing]);
-    hears(rt, session, &PointEvent::Fault, &[Note::Nothing]);
-    hears(rt, session, &PointEvent::Hangup, &[Note::Nothing]);
-    hears(rt, session, &PointEvent::Ended(Why::Lost), &[Note::Nothing]);
+    gives_nothing(rt, session, &PointEvent::Damaged);
+    gives_nothing(rt, session, &PointEvent::Request);
+    gives_nothing(rt, session, &PointEvent::Clear);
+    gives_nothing(rt, session, &PointEvent::Fault);
+    gives_nothing(rt, session, &PointEvent::Hangup);
+    gives_nothing(rt, session, &PointEvent::Ended(Why::Lost));
 }
 
 /// Checks that the call ends as it is told.

@@ -2,8 +2,9 @@
 ghost use Rattle.std.specs.Prelude.{◌≡◌, ◌<◌};
 
 use super::{
-    CALL, OTHER_SET, SET, ack, app, asking, content, down, ended, fault, hears, hears_frame,
-    listening, may_pass, passes, sends, shown, start, talking, telling, voice,
+    CALL, OTHER_SET, SET, ack, app, are, asking, asks, clears, content, down, ended, fault, hears,
+    hears_frame, is_due, is_over, is_refused, listening, may_pass, opens_at_a_fault, passes,
+    repeats, sends, shown, start, talking, telling, voice,
 };
 use crate::{PointEvent, Session};
 use link_frames::{Answer, Frame, Note, Steps, Timer, Why};
@@ -15,7 +16,7 @@ use std::sync::ledger::{Blank, Ledger};
 fn waits_in_vain<L: Ledger>(rt: &impl Abort, moments: &mut Steps<L>) {
     let mut session = listening();
     passes(rt, &mut session, moments, 20, &[]);
-    assert_eq!(rt; session.due(), Some(30));
+    is_due(rt, &session, Some(30));
     passes(rt, &mut session, moments, 29, &[]);
     passes(
         rt,
@@ -24,23 +25,19 @@ fn waits_in_vain<L: Ledger>(rt: &impl Abort, moments: &mut Steps<L>) {
         1,
         &[ended(Timer::T4), voice(true)],
     );
-    assert_eq!(rt; session.due(), None);
+    is_due(rt, &session, None);
     hears_frame(rt, &mut session, &Frame::Init, &[]);
 }
 
 /// A point that asks: it asks again every 5 ticks, and T8 ends after 200, before the repeat of that tick.
 fn asks_in_vain<L: Ledger>(rt: &impl Abort, moments: &mut Steps<L>) {
     let mut session = asking(rt);
-    let again = [sends(start(rt, 1))];
     passes(rt, &mut session, moments, 3, &[]);
-    assert_eq!(rt; session.due(), Some(2));
-    passes(rt, &mut session, moments, 2, &again);
-    for _repeat in 2..40 {
-        assert_eq!(rt; session.due(), Some(5));
-        passes(rt, &mut session, moments, 5, &again);
-    }
+    is_due(rt, &session, Some(2));
+    passes(rt, &mut session, moments, 2, &[sends(start(rt, 1))]);
+    repeats(rt, &mut session, moments, 38, &start(rt, 1));
     passes(rt, &mut session, moments, 4, &[]);
-    assert_eq!(rt; session.due(), Some(1));
+    is_due(rt, &session, Some(1));
     passes(
         rt,
         &mut session,
@@ -48,52 +45,34 @@ fn asks_in_vain<L: Ledger>(rt: &impl Abort, moments: &mut Steps<L>) {
         1,
         &[ended(Timer::T8), voice(true)],
     );
-    assert_eq!(rt; session.due(), None);
+    is_due(rt, &session, None);
 }
 
 /// A point that tells of a set does so 5 times, and opens after 25 ticks.
 fn tells<L: Ledger>(rt: &impl Abort, moments: &mut Steps<L>) {
     let mut session = telling(rt);
-    let again = [sends(app(rt, 1, Answer::Positive))];
-    for _repeat in 1..5 {
-        assert_eq!(rt; session.due(), Some(5));
-        passes(rt, &mut session, moments, 5, &again);
-    }
+    repeats(rt, &mut session, moments, 4, &app(rt, 1, Answer::Positive));
     passes(rt, &mut session, moments, 1, &[]);
-    assert_eq!(rt; session.due(), Some(4));
+    is_due(rt, &session, Some(4));
     passes(rt, &mut session, moments, 4, &[voice(true)]);
-    assert_eq!(rt; session.due(), None);
-    hears(rt, &mut session, &PointEvent::Request, &[Note::Busy(CALL)]);
+    is_due(rt, &session, None);
+    is_refused(rt, &mut session, &PointEvent::Request);
 }
 
 /// A point that lets the vehicle go says so 5 times, and its leg goes down after 25 ticks.
 fn lets_go<L: Ledger>(rt: &impl Abort, moments: &mut Steps<L>) {
     let mut session = telling(rt);
-    hears(
-        rt,
-        &mut session,
-        &PointEvent::Fault,
-        &[fault(), voice(true)],
-    );
+    opens_at_a_fault(rt, &mut session);
     passes(rt, &mut session, moments, 20, &[]);
-    let clear = [voice(false), sends(app(rt, 1, Answer::Clear))];
-    hears(rt, &mut session, &PointEvent::Clear, &clear);
-    hears(rt, &mut session, &PointEvent::Clear, &[Note::Busy(CALL)]);
-    hears(rt, &mut session, &PointEvent::Request, &[Note::Busy(CALL)]);
+    clears(rt, &mut session, 1);
+    is_refused(rt, &mut session, &PointEvent::Clear);
+    is_refused(rt, &mut session, &PointEvent::Request);
     hears(rt, &mut session, &PointEvent::Damaged, &[Note::Nothing]);
     hears_frame(rt, &mut session, &Frame::Init, &[]);
     hears_frame(rt, &mut session, &content(rt, 1, SET), &[sends(ack(rt, 1))]);
-    for _repeat in 1..5 {
-        passes(
-            rt,
-            &mut session,
-            moments,
-            5,
-            &[sends(app(rt, 1, Answer::Clear))],
-        );
-    }
+    repeats(rt, &mut session, moments, 4, &app(rt, 1, Answer::Clear));
     passes(rt, &mut session, moments, 5, &[down(Why::Release)]);
-    assert!(rt; session.over());
+    is_over(rt, &session, true);
     passes(rt, &mut session, moments, 4_294_967_295, &[]);
     hears(rt, &mut session, &PointEvent::Hangup, &[Note::Nothing]);
 }
@@ -102,36 +81,26 @@ fn lets_go<L: Ledger>(rt: &impl Abort, moments: &mut Steps<L>) {
 fn waits_for_the_opening<L: Ledger>(rt: &impl Abort, moments: &mut Steps<L>) {
     let mut session = talking(rt);
     passes(rt, &mut session, moments, 19, &[]);
-    hears(rt, &mut session, &PointEvent::Request, &[Note::Busy(CALL)]);
-    hears(rt, &mut session, &PointEvent::Clear, &[Note::Busy(CALL)]);
+    is_refused(rt, &mut session, &PointEvent::Request);
+    is_refused(rt, &mut session, &PointEvent::Clear);
     hears(rt, &mut session, &PointEvent::Fault, &[fault()]);
     passes(rt, &mut session, moments, 1, &[]);
     hears(rt, &mut session, &PointEvent::Clear, &[Note::Unshown(CALL)]);
-    hears(
-        rt,
-        &mut session,
-        &PointEvent::Request,
-        &[voice(false), sends(start(rt, 2))],
-    );
-    hears(rt, &mut session, &PointEvent::Request, &[Note::Busy(CALL)]);
-    assert_eq!(rt; session.due(), Some(5));
+    asks(rt, &mut session, 2);
+    is_refused(rt, &mut session, &PointEvent::Request);
+    is_due(rt, &session, Some(5));
 }
 
 /// A call that the point placed: the first request may come after 20 ticks, and open ticks stay at their greatest.
 fn is_called<L: Ledger>(rt: &impl Abort, moments: &mut Steps<L>) {
     let (mut session, _items) = Session::called(CALL);
     hears_frame(rt, &mut session, &Frame::Init, &[]);
-    hears(rt, &mut session, &PointEvent::Request, &[Note::Busy(CALL)]);
+    is_refused(rt, &mut session, &PointEvent::Request);
     for _stretch in 0..3 {
         passes(rt, &mut session, moments, 4_294_967_295, &[]);
-        assert_eq!(rt; session.due(), None);
+        is_due(rt, &session, None);
     }
-    hears(
-        rt,
-        &mut session,
-        &PointEvent::Request,
-        &[voice(false), sends(start(rt, 1))],
-    );
+    asks(rt, &mut session, 1);
     passes(rt, &mut session, moments, 5, &[sends(start(rt, 1))]);
 }
 
@@ -139,12 +108,7 @@ fn is_called<L: Ledger>(rt: &impl Abort, moments: &mut Steps<L>) {
 fn shows_a_late_set<L: Ledger>(rt: &impl Abort, moments: &mut Steps<L>) {
     let mut session = talking(rt);
     passes(rt, &mut session, moments, 20, &[]);
-    hears(
-        rt,
-        &mut session,
-        &PointEvent::Request,
-        &[voice(false), sends(start(rt, 2))],
-    );
+    asks(rt, &mut session, 2);
     let late = [shown(rt, 1, SET), sends(ack(rt, 1))];
     hears_frame(rt, &mut session, &content(rt, 1, SET), &late);
     passes(rt, &mut session, moments, 5, &[sends(start(rt, 2))]);
@@ -154,21 +118,10 @@ fn shows_a_late_set<L: Ledger>(rt: &impl Abort, moments: &mut Steps<L>) {
         sends(app(rt, 2, Answer::Positive)),
     ];
     hears_frame(rt, &mut session, &content(rt, 2, OTHER_SET), &newest);
-    hears(
-        rt,
-        &mut session,
-        &PointEvent::Fault,
-        &[fault(), voice(true)],
-    );
+    opens_at_a_fault(rt, &mut session);
     passes(rt, &mut session, moments, 20, &[]);
-    let clear = [voice(false), sends(app(rt, 2, Answer::Clear))];
-    hears(rt, &mut session, &PointEvent::Clear, &clear);
-    hears(
-        rt,
-        &mut session,
-        &PointEvent::Fault,
-        &[fault(), voice(true)],
-    );
+    clears(rt, &mut session, 2);
+    opens_at_a_fault(rt, &mut session);
 }
 
 /// The numbers of requests are spent after 255.
@@ -176,14 +129,8 @@ fn spends_its_requests<L: Ledger>(rt: &impl Abort, moments: &mut Steps<L>) {
     let (mut session, _items) = Session::called(CALL);
     passes(rt, &mut session, moments, 20, &[]);
     for number in 1..=255 {
-        let asks = [voice(false), sends(start(rt, number))];
-        hears(rt, &mut session, &PointEvent::Request, &asks);
-        hears(
-            rt,
-            &mut session,
-            &PointEvent::Fault,
-            &[fault(), voice(true)],
-        );
+        asks(rt, &mut session, number);
+        opens_at_a_fault(rt, &mut session);
         passes(rt, &mut session, moments, 20, &[]);
     }
     hears(rt, &mut session, &PointEvent::Request, &[Note::Spent(CALL)]);
@@ -194,13 +141,10 @@ fn spends_its_requests<L: Ledger>(rt: &impl Abort, moments: &mut Steps<L>) {
 fn answers_its_items<L: Ledger>(rt: &impl Abort, moments: &mut Steps<L>) {
     let (mut session, _items) = Session::arriving(CALL);
     let items = session.hear(&PointEvent::Damaged);
-    assert_eq!(rt; items.as_slice(), [Note::Nothing].as_slice());
+    are(rt, &items, &[Note::Nothing]);
     assert!(rt; may_pass(&session, 50));
     let items = session.pass(50, moments);
-    assert_eq!(rt;
-        items.as_slice(),
-        [ended(Timer::T4), voice(true)].as_slice()
-    );
+    are(rt, &items, &[ended(Timer::T4), voice(true)]);
 }
 
 /// Each of these with a count of its own steps.
