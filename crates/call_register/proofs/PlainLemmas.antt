@@ -9,7 +9,7 @@ use Rattle.json.specs.Print.{escape, escape_byte, escape_letter, quoted}
 use Rattle.per_bits.specs.Parts.{AreOctets}
 use Rattle.msd_values.specs.Alphabet.{alphabet, is_vin_character}
 use Rattle.msd_values.specs.Vin.{IsVin}
-use Rattle.trace_text.proofs.NumberLemmas.{first_true, second_true}
+use Rattle.line_input.proofs.NumberLemmas.{first_true, second_true}
 use Rattle.call_register.specs.Text.{in_quotes}
 
 -- ---- characters of the alphabet

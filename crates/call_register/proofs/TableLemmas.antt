@@ -5,7 +5,7 @@ use Rattle.std.specs.Option.{option_or}
 use Rattle.std.proofs.lemmas.List.{append-nil}
 use Rattle.std.proofs.lemmas.List.Elements.{filter-append, filter_map-append}
 use borrow.Author.Tests.{eqb-true}
-use Rattle.trace_text.specs.declared.entry.Entry.{Entry}
+use Rattle.trace_model.specs.declared.entry.Entry.{Entry}
 use Rattle.call_register.specs.Rows.{Row, Rows}
 use Rattle.call_register.specs.Table.{call_up, endings_of, ending_in, others, row_of, rows_with, set_in, table}
 use Rattle.call_register.specs.inner.Heard.{arrived, has_call, heard, listed, row_behind}

@@ -1,6 +1,6 @@
 -- What it means that a register grew by some entries. This project's profile. Cited by the register as a listener.
 use Rattle.std.specs.Prelude.{◌≡◌, List, ◌++◌}
-use Rattle.trace_text.specs.declared.entry.Entry.{Entry}
+use Rattle.trace_model.specs.declared.entry.Entry.{Entry}
 use Rattle.call_register.specs.Rows.{Rows}
 use Rattle.call_register.specs.Table.{table}
 

@@ -5,7 +5,7 @@ use Rattle.std.specs.List.{filter_map, slice_get}
 use Rattle.link_frames.specs.declared.frame.End.TheVariants as «end»
 use Rattle.link_frames.specs.declared.note.Note.{Note}
 use Rattle.link_frames.specs.declared.note.Note.TheVariants as note
-use Rattle.trace_text.specs.declared.entry.Entry.{Entry}
+use Rattle.trace_model.specs.declared.entry.Entry.{Entry}
 use Rattle.call_register.specs.Rows.{Row, Rows}
 use Rattle.call_register.specs.declared.record.Ending.{Ending}
 use Rattle.call_register.specs.declared.record.ShownSet.{ShownSet}

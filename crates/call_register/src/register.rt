@@ -15,7 +15,7 @@ use link_frames::{End, Note, Why};
 use serde_json::{Value, push};
 use std::alloc::{AllocError, Global};
 use std::marker::Model;
-use trace_text::{Deaf, Entry, Listener};
+use trace_model::{Deaf, Entry, Listener};
 
 /// Keeps each call that came up at the point, in the order in which the calls first did, with the sets that the point
 /// showed in it and the end of the point's leg. After a refused growth it is as it was.
@@ -157,8 +157,8 @@ impl Register {
 
 impl Listener for Register {
     ghost use Rattle.std.specs.Prelude.{◌≡◌, [], ◌∷◌, OnOk, OnErr, IfErr};
-    ghost use Rattle.trace_text.specs.Listener.{GrewByFront};
-    ghost use Rattle.trace_text.specs.inner.ListenerLaws.{GrewByFront-whole, GrewByFront-after, GrewByFront-longer};
+    ghost use Rattle.trace_model.specs.Listener.{GrewByFront};
+    ghost use Rattle.trace_model.specs.inner.ListenerLaws.{GrewByFront-whole, GrewByFront-after, GrewByFront-longer};
     ghost use Rattle.call_register.specs.Growth.{RegisterGrew};
     ghost use Rattle.call_register.specs.inner.Grown.{RegisterGrew-nothing, RegisterGrew-append};
 

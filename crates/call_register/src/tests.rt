@@ -4,7 +4,7 @@ use super::*;
 use link_frames::{End, Note, OCTETS, Request, Why};
 use std::alloc::{AllocError, Global};
 use std::test::Fail;
-use trace_text::{Entry, Listener};
+use trace_model::{Entry, Listener};
 
 /// A set of data as it was written elsewhere, without its zero octets.
 const SET: &str = "02000681d54970d65c3597ca0420c414640af05f080452e9960413e2550168";

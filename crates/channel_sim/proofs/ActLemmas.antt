@@ -3,8 +3,8 @@ use Rattle.std.proofs.Common.{◌≡◌, ℕ, ◌-◌, ◌≤◌, Option, Result
 use Rattle.std.specs.List.{AllByRecursion}
 use Rattle.link_frames.specs.declared.note.Note.{Note}
 use Rattle.ivs_machine.specs.Vehicle.{Vehicle, vehicle_call}
-use Rattle.trace_text.specs.declared.entry.Entry.{Entry}
-use Rattle.trace_text.specs.History.{told}
+use Rattle.trace_model.specs.declared.entry.Entry.{Entry}
+use Rattle.trace_model.specs.History.{told}
 use Rattle.channel_sim.specs.declared.channel.Channel as kept_channel
 use Rattle.channel_sim.specs.World.{Call, World, Step, did, and_then, with_legs, carries}
 use Rattle.channel_sim.specs.inner.Acts.{IsReady}

@@ -23,9 +23,9 @@ use Rattle.psap_machine.specs.Point.{Point}
 use Rattle.psap_machine.specs.PointOwes as point_owes
 use Rattle.psap_machine.specs.PointRows as point
 use Rattle.psap_machine.proofs.PointOwed as point_owed
-use Rattle.trace_text.specs.declared.entry.Entry.{Entry}
-use Rattle.trace_text.specs.History.{told, sets_of}
-use Rattle.trace_text.specs.Safety.{is_leg, leg_at}
+use Rattle.trace_model.specs.declared.entry.Entry.{Entry}
+use Rattle.trace_model.specs.History.{told, sets_of}
+use Rattle.trace_model.specs.Safety.{is_leg, leg_at}
 use Rattle.channel_sim.specs.World.{Call, World, Step, Act, InCall, Session, quiet_step, and_then, vehicle_is_in, call_of, session_in, session_of, left_by, seated, carries, with_legs, did, vehicle_did, session_did, session_acts, does, does_each, consequence, consequences, settled}
 use Rattle.channel_sim.specs.Fit.{vehicle_seat, point_seat, seats_of, FramesFit, IsSessionOf, IsCall, AreInOrder}
 use Rattle.channel_sim.specs.inner.FitAt.{SeatBy, Came, Seats, Clocks, FitAt, FitsAt, Goes, Settles}

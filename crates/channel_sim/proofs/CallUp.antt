@@ -18,10 +18,10 @@ use Rattle.ivs_machine.specs.VehicleRows.{Heard, Answered, Incoming, named, unna
 use Rattle.ivs_machine.proofs.VehicleOwed as vehicle_owed
 use Rattle.psap_machine.specs.Point.{Point}
 use Rattle.psap_machine.specs.PointOwes as point_owes
-use Rattle.trace_text.specs.declared.entry.Entry.{Entry}
-use Rattle.trace_text.specs.History.{told, sent_by, sets_step, sets_of}
-use Rattle.trace_text.specs.Safety.{first_leg, leg_step, leg_at}
-use Rattle.trace_text.proofs.Folds.{AllOf, sends_none}
+use Rattle.trace_model.specs.declared.entry.Entry.{Entry}
+use Rattle.trace_model.specs.History.{told, sent_by, sets_step, sets_of}
+use Rattle.trace_model.specs.Safety.{first_leg, leg_step, leg_at}
+use Rattle.trace_model.proofs.Folds.{AllOf, sends_none}
 use Rattle.channel_sim.specs.World.{Call, World, and_then, call_of, left_by, seated, vehicle_did, session_did}
 use Rattle.channel_sim.specs.Lines.{with_call}
 use Rattle.channel_sim.specs.Fit.{IsDrawn, point_seat, seats_of, FramesFit, IsCall, AreInOrder}

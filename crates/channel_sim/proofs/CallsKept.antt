@@ -7,9 +7,9 @@ use Rattle.std.proofs.Common.{refl, sym, ap, subst, ◌∙◌, arith}
 use Rattle.std.proofs.lemmas.Bool.{eqb-true, eqb-false, eq-eqb, ne_eqb, false≢true}
 use Rattle.link_frames.specs.declared.frame.End.TheVariants as «end»
 use Rattle.psap_machine.specs.Point.{Point}
-use Rattle.trace_text.specs.declared.entry.Entry.{Entry}
-use Rattle.trace_text.specs.History.{sent_by}
-use Rattle.trace_text.proofs.Folds.{sent_append}
+use Rattle.trace_model.specs.declared.entry.Entry.{Entry}
+use Rattle.trace_model.specs.History.{sent_by}
+use Rattle.trace_model.proofs.Folds.{sent_append}
 use Rattle.channel_sim.specs.World.{Call, is_number, call_of, session_in, session_of, seated, carries, with_legs}
 use Rattle.channel_sim.specs.Fit.{FramesFit, IsSessionOf, IsCall, HasLeg, AreInOrder}
 

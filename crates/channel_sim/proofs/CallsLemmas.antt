@@ -11,9 +11,9 @@ use Rattle.link_frames.specs.declared.note.Note.TheVariants as note
 use Rattle.link_frames.specs.Row.{Row}
 use Rattle.psap_machine.specs.declared.session.Session.{Session}
 use Rattle.psap_machine.specs.Point.{Point}
-use Rattle.trace_text.specs.declared.entry.Entry.{Entry}
-use Rattle.trace_text.specs.History.{Sent, told, sends, sent_by}
-use Rattle.trace_text.specs.Safety.{is_leg}
+use Rattle.trace_model.specs.declared.entry.Entry.{Entry}
+use Rattle.trace_model.specs.History.{Sent, told, sends, sent_by}
+use Rattle.trace_model.specs.Safety.{is_leg}
 use Rattle.channel_sim.specs.declared.calls.Call as kept_call
 use Rattle.channel_sim.specs.World.{Call, call_of, session_in, session_of, seated, carries}
 use Rattle.channel_sim.specs.inner.Acts.{pushed, seat_items, seat_after, CallDid, SessionDid, IsCaught}

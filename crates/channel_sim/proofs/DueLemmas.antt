@@ -5,7 +5,7 @@ use Rattle.std.proofs.lemmas.List.{take-append-drop}
 use lib.Dec.{eqb}
 use Rattle.std.specs.List.{AllByRecursion}
 use Rattle.std.proofs.lemmas.Bool.{eqb-true, eq-eqb, ne_eqb}
-use Rattle.trace_text.specs.History.{Sent}
+use Rattle.trace_model.specs.History.{Sent}
 use Rattle.channel_sim.specs.declared.calls.Call as kept_call
 use Rattle.channel_sim.specs.World.{Call, Due, due_frames, due_in}
 use Rattle.channel_sim.specs.inner.Acts.{due_by, sent_way}

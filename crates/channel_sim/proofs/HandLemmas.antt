@@ -4,8 +4,8 @@ use Rattle.std.specs.Option.{option_map}
 use Rattle.link_frames.specs.declared.frame.Frame.{Frame}
 use Rattle.ivs_machine.specs.VehicleRows as vehicle
 use Rattle.psap_machine.specs.PointRows as point
-use Rattle.trace_text.specs.declared.entry.Entry.{Entry}
-use Rattle.trace_text.specs.History.{Sent}
+use Rattle.trace_model.specs.declared.entry.Entry.{Entry}
+use Rattle.trace_model.specs.History.{Sent}
 use Rattle.channel_sim.specs.declared.channel.Channel as kept_channel
 use Rattle.channel_sim.specs.World.{World, Step, Session, InCall, Hears, Due, call_of, quiet_step, one_handed, performs, settled, point_is_in, vehicle_is_in, hands_up, hands_down}
 use Rattle.channel_sim.specs.Lines.{HandsUp, HandsDown, hands_one, or_nothing, sent_up, sent_down}

@@ -3,7 +3,7 @@
 use Rattle.std.proofs.Common.{◌≡◌, ◌≤◌, ◌<◌, ◌+◌, ◌-◌, ◌++◌, ℕ, false, true, zero, suc, List, [], ◌∷◌, Option, Some, None, refl, sym, ap, subst, arith, rules, ◌∙◌, IfSome, append-nil, append_assoc, nat_eq, map, ◌⊎◌, inl, inr}
 use Rattle.std.specs.Option.{option_map}
 use Rattle.std.proofs.lemmas.Bool.{ne_eqb}
-use Rattle.trace_text.specs.History.{Sent}
+use Rattle.trace_model.specs.History.{Sent}
 use Rattle.std.specs.List.{AllByRecursion}
 use Rattle.std.proofs.lemmas.Bool.Decides.{nat_tests}
 use Rattle.link_frames.specs.declared.note.Note.{Note}

@@ -7,11 +7,11 @@ use Rattle.link_frames.specs.declared.note.Note.{Note}
 use Rattle.link_frames.specs.declared.note.Note.TheVariants as note
 use Rattle.link_frames.specs.Legs.{Kept, through, sets_moved, least_opening}
 use Rattle.link_frames.specs.Owes.{Seat, revoiced as reseated, seat_moved, IsOf, OpensThen, Safely, Along}
-use Rattle.trace_text.specs.declared.entry.Entry.{Entry}
-use Rattle.trace_text.specs.History.{told, sets_step}
-use Rattle.trace_text.specs.Safety.{own, Leg, revoiced, leg_moved, leg_step, ends_wait, mutes, IsWithin}
-use Rattle.trace_text.proofs.Folds.{own_leg, own_sets}
-use Rattle.trace_text.proofs.Fronts.{moved_within}
+use Rattle.trace_model.specs.declared.entry.Entry.{Entry}
+use Rattle.trace_model.specs.History.{told, sets_step}
+use Rattle.trace_model.specs.Safety.{own, Leg, revoiced, leg_moved, leg_step, ends_wait, mutes, IsWithin}
+use Rattle.trace_model.proofs.Folds.{own_leg, own_sets}
+use Rattle.trace_model.proofs.Fronts.{moved_within}
 use Rattle.channel_sim.specs.inner.FitAt.{SeatedBy, SeatBy, OpensSoon, SafeAt, SafeFrom}
 
 revoice : (K : ℕ → Type 0) (now : ℕ) (k : Seat) (leg : Leg) (sets : List Kept) → K now → SeatedBy K k leg sets →

@@ -5,8 +5,8 @@ use Rattle.std.proofs.lemmas.Bool.{eq-eqb}
 use Rattle.link_frames.specs.declared.note.Note.TheVariants as note
 use Rattle.ivs_machine.specs.Vehicle.{Vehicle, Phase, Standby, Dialling, InCall, vehicle_call, call_in, is_dialling, is_dialling_in, is_reachable, is_standby}
 use Rattle.ivs_machine.specs.VehicleRows as vehicle
-use Rattle.trace_text.specs.declared.entry.Entry.{Entry}
-use Rattle.trace_text.specs.History.{told}
+use Rattle.trace_model.specs.declared.entry.Entry.{Entry}
+use Rattle.trace_model.specs.History.{told}
 use Rattle.channel_sim.specs.declared.calls.Call as kept_call
 use Rattle.channel_sim.specs.declared.channel.Channel as kept_channel
 use Rattle.channel_sim.specs.World.{Call, World, Step, Hears, InCall, is_number, quiet_step, performs, settled, vehicle_did}

@@ -12,10 +12,10 @@ use Rattle.link_frames.specs.declared.frame.Frame.{Frame}
 use Rattle.link_frames.specs.declared.frame.Frame.TheVariants as frame
 use Rattle.link_frames.specs.Legs.{Kept, through, owner, sets_moved, made_by}
 use Rattle.link_frames.specs.Owes.{Seat, revoiced as reseated, seat_moved, IsOf, SaysSeated, VehicleSays, PointSays, Along, or_else, set_for, HasSet, Confirms, Brings}
-use Rattle.trace_text.specs.declared.entry.Entry.{Entry}
-use Rattle.trace_text.specs.History.{Sent, told, sends, sent_by, sets_step, sets_of}
-use Rattle.trace_text.specs.Safety.{is_leg, is_own, own, IsShown, WasShown, IsShownFirst}
-use Rattle.trace_text.proofs.Folds.{through_append, is_leg_same, not_of, own_sets, passed_over, sends_none, sent_append}
+use Rattle.trace_model.specs.declared.entry.Entry.{Entry}
+use Rattle.trace_model.specs.History.{Sent, told, sends, sent_by, sets_step, sets_of}
+use Rattle.trace_model.specs.Safety.{is_leg, is_own, own, IsShown, WasShown, IsShownFirst}
+use Rattle.trace_model.proofs.Folds.{through_append, is_leg_same, not_of, own_sets, passed_over, sends_none, sent_append}
 use Rattle.channel_sim.specs.Fit.{CarriesMade, ConfirmsShown, Links, CallLinks, IsSent, WasSent, ComesBehind}
 use Rattle.channel_sim.specs.inner.FitAt.{SetsFit, Tells, CameBy, Came, FollowsFrom}
 use Rattle.channel_sim.proofs.Lists.{all_append, all_into}

@@ -12,10 +12,10 @@ use Rattle.link_frames.specs.declared.note.Why.TheVariants as why
 use Rattle.msd_fit.specs.declared.facts.Facts.TheVariants as facts
 use Rattle.msd_fit.specs.Fitting.{made}
 use Rattle.msd_fit.specs.declared.cause.Cause.TheVariants as cause
-use Rattle.trace_text.specs.declared.entry.Entry.{Entry}
-use Rattle.trace_text.specs.declared.event.Event.{Event}
-use Rattle.trace_text.specs.declared.event.Event.TheVariants as event
-use Rattle.trace_text.specs.History.{told}
+use Rattle.trace_model.specs.declared.entry.Entry.{Entry}
+use Rattle.trace_model.specs.declared.event.Event.{Event}
+use Rattle.trace_model.specs.declared.event.Event.TheVariants as event
+use Rattle.trace_model.specs.History.{told}
 use Rattle.channel_sim.specs.World.{first_world}
 use Rattle.channel_sim.specs.Lines.{passes_within, trace, world_after}
 

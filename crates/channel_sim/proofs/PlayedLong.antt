@@ -14,10 +14,10 @@ use Rattle.msd_fit.specs.Fitting.{made}
 use Rattle.msd_fit.specs.declared.cause.Cause.TheVariants as cause
 use Rattle.ivs_machine.specs.Vehicle.{Vehicle, Idle, Standby, InCall, Talking}
 use Rattle.ivs_machine.specs.VehicleRows as vehicle
-use Rattle.trace_text.specs.declared.entry.Entry.{Entry}
-use Rattle.trace_text.specs.declared.event.Event.{Event}
-use Rattle.trace_text.specs.declared.event.Event.TheVariants as event
-use Rattle.trace_text.specs.History.{Sent, told}
+use Rattle.trace_model.specs.declared.entry.Entry.{Entry}
+use Rattle.trace_model.specs.declared.event.Event.{Event}
+use Rattle.trace_model.specs.declared.event.Event.TheVariants as event
+use Rattle.trace_model.specs.History.{Sent, told}
 use Rattle.channel_sim.specs.World.{Call, World, Step, first_world, quiet_step, unit, units}
 use Rattle.channel_sim.specs.Lines.{passes_within, trace, trace_from, world_after}
 use Rattle.channel_sim.specs.Tidy.{IsTidy, AreFrom, ticks_of}

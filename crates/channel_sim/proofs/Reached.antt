@@ -6,9 +6,9 @@ use Rattle.ivs_machine.specs.VehicleRows as vehicle
 use Rattle.link_frames.specs.declared.note.Why.TheVariants as why
 use Rattle.psap_machine.specs.Point.{Point}
 use Rattle.psap_machine.specs.PointRows as point
-use Rattle.trace_text.specs.History.{Sent}
-use Rattle.trace_text.specs.declared.event.Event.{Event}
-use Rattle.trace_text.specs.declared.event.Event.TheVariants as event
+use Rattle.trace_model.specs.History.{Sent}
+use Rattle.trace_model.specs.declared.event.Event.{Event}
+use Rattle.trace_model.specs.declared.event.Event.TheVariants as event
 use Rattle.channel_sim.specs.World.{World, Step, Act, Hears, InCall, Session, Due, quiet_step, session_of, vehicle_is_in, point_is_in, session_acts, does, does_each, consequences, settled, performs, hands_up, hands_down, each, due_in, unit, units, call_of, session_passes, sessions_pass, vehicle_passes, vehicle_did, flows_up}
 use Rattle.channel_sim.specs.WorldStands.{TicksIn}
 use Rattle.channel_sim.specs.Lines.{Deed, Does, HandsUp, HandsDown, Answers, CallsBack, deed, when, in_its_call, hands_one, sent_up, sent_down, or_nothing, step}

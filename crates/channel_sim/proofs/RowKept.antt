@@ -10,10 +10,10 @@ use Rattle.link_frames.specs.declared.note.Note.{Note}
 use Rattle.link_frames.specs.declared.frame.Frame.{Frame}
 use Rattle.link_frames.specs.Legs.{Kept, through, owner, muting_limit}
 use Rattle.link_frames.specs.Owes.{Seat, seat_moved, OwnedBy, Along, InTime}
-use Rattle.trace_text.specs.declared.entry.Entry.{Entry}
-use Rattle.trace_text.specs.History.{told, sent_by, sets_step, sets_of}
-use Rattle.trace_text.specs.Safety.{is_leg, is_owned, own, Leg, first_leg, leg_step, leg_behind, leg_at, AgreedFrom, IsWithin}
-use Rattle.trace_text.proofs.Folds.{each_leg, through_append, AllOf, not_of, passed_over, sent_append, sent_over}
+use Rattle.trace_model.specs.declared.entry.Entry.{Entry}
+use Rattle.trace_model.specs.History.{told, sent_by, sets_step, sets_of}
+use Rattle.trace_model.specs.Safety.{is_leg, is_owned, own, Leg, first_leg, leg_step, leg_behind, leg_at, AgreedFrom, IsWithin}
+use Rattle.trace_model.proofs.Folds.{each_leg, through_append, AllOf, not_of, passed_over, sent_append, sent_over}
 use Rattle.channel_sim.specs.Fit.{IsDrawn, Rises, CallLinks, OrderedFrom}
 use Rattle.channel_sim.specs.inner.FitAt.{SeatBy, SetsFit, Tells, Came, OpensSoon, SafeFrom, FollowsFrom, Seats, Clocks, FitAt, Moves}
 use Rattle.channel_sim.proofs.Lists.{all_append}

@@ -9,10 +9,10 @@ use Rattle.link_frames.specs.declared.note.Note.TheVariants as note
 use Rattle.link_frames.specs.declared.frame.Frame.{Frame}
 use Rattle.link_frames.specs.Legs.{Kept, through}
 use Rattle.link_frames.specs.Owes.{Seat, fresh_seat, elapsed, seat_moved, IsOf, Along, MayGive, Safely, Says, Owes, OwesArrival}
-use Rattle.trace_text.specs.declared.entry.Entry.{Entry}
-use Rattle.trace_text.specs.History.{told, sets_step, sets_of}
-use Rattle.trace_text.specs.Safety.{own, Leg, first_leg, leg_step, leg_at, IsWithin}
-use Rattle.trace_text.proofs.Folds.{through_append, own_leg, own_sets}
+use Rattle.trace_model.specs.declared.entry.Entry.{Entry}
+use Rattle.trace_model.specs.History.{told, sets_step, sets_of}
+use Rattle.trace_model.specs.Safety.{own, Leg, first_leg, leg_step, leg_at, IsWithin}
+use Rattle.trace_model.proofs.Folds.{through_append, own_leg, own_sets}
 use Rattle.channel_sim.specs.inner.FitAt.{SeatBy, SetsFit, Tells, Came, SafeAt, SafeFrom, Seats, Clocks, FitAt, Moves}
 use Rattle.channel_sim.proofs.LegRow.{leg_row}
 use Rattle.channel_sim.proofs.RowKept.{along_into, within_of, row_kept}

@@ -14,11 +14,11 @@ use Rattle.ivs_machine.specs.VehicleRows as vehicle
 use Rattle.psap_machine.specs.PointOwes as point_owes
 use Rattle.psap_machine.specs.PointRows as point
 use Rattle.psap_machine.proofs.PointOwed as point_owed
-use Rattle.trace_text.specs.declared.entry.Entry.{Entry}
-use Rattle.trace_text.specs.declared.event.Event.{Event}
-use Rattle.trace_text.specs.declared.event.Event.TheVariants as event
-use Rattle.trace_text.specs.History.{Sent, told, sent_by}
-use Rattle.trace_text.proofs.Folds.{sent_append}
+use Rattle.trace_model.specs.declared.entry.Entry.{Entry}
+use Rattle.trace_model.specs.declared.event.Event.{Event}
+use Rattle.trace_model.specs.declared.event.Event.TheVariants as event
+use Rattle.trace_model.specs.History.{Sent, told, sent_by}
+use Rattle.trace_model.proofs.Folds.{sent_append}
 use Rattle.channel_sim.specs.World.{Call, World, Step, Act, Hears, InCall, Session, quiet_step, and_then, call_of, point_is_in, vehicle_is_in, does, performs, hands_up, hands_down, each, unit, units}
 use Rattle.channel_sim.specs.Lines.{Deed, Does, HandsUp, HandsDown, Answers, CallsBack, deed, when, in_its_call, sent_up, sent_down, hands_one, hands_place, deeds_of, nothing_step, or_nothing, step, world_after, trace_from}
 use Rattle.channel_sim.specs.Fit.{vehicle_seat, seats_of, FramesFit, CallLinks}

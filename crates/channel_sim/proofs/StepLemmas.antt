@@ -2,8 +2,8 @@
 use Rattle.std.proofs.Common.{◌≡◌, ℕ, zero, suc, ◌+◌, ◌<◌, ◌≤◌, arith, List, [], ◌∷◌, ◌++◌, length, get_or, take, drop, map, refl, ap, sym, ◌∙◌, append_assoc, append-nil, add_assoc, zero-add, add-zero}
 use Rattle.std.proofs.lemmas.List.{take_more, take-append-drop}
 use Rattle.link_frames.specs.declared.note.Note.{Note}
-use Rattle.trace_text.specs.declared.entry.Entry.{Entry}
-use Rattle.trace_text.specs.History.{told}
+use Rattle.trace_model.specs.declared.entry.Entry.{Entry}
+use Rattle.trace_model.specs.History.{told}
 use Rattle.channel_sim.proofs.TellingLemmas.{told-append, told-take_more}
 use Rattle.channel_sim.specs.World.{World, Step, Act, quiet_step, and_then, does, does_each, consequence, consequences, each}
 

@@ -18,10 +18,10 @@ use Rattle.psap_machine.specs.Point.{Point}
 use Rattle.psap_machine.specs.PointOwes as point_owes
 use Rattle.psap_machine.specs.PointRows as point
 use Rattle.psap_machine.proofs.PointOwed as point_owed
-use Rattle.trace_text.specs.declared.entry.Entry.{Entry}
-use Rattle.trace_text.specs.History.{Sent, told, sets_step, sets_of}
-use Rattle.trace_text.specs.Safety.{is_leg, is_own, own}
-use Rattle.trace_text.proofs.Folds.{through_append}
+use Rattle.trace_model.specs.declared.entry.Entry.{Entry}
+use Rattle.trace_model.specs.History.{Sent, told, sets_step, sets_of}
+use Rattle.trace_model.specs.Safety.{is_leg, is_own, own}
+use Rattle.trace_model.proofs.Folds.{through_append}
 use Rattle.channel_sim.specs.World.{Call, World, Step, InCall, Session, Due, quiet_step, and_then, call_of, session_in, session_of, point_is_in, vehicle_is_in, left_by, seated, vehicle_did, session_did, session_acts, does, performs, one_handed, hands_up, hands_down, each, due_frames, due_in, flows_up, flows_down, vehicle_passes, session_passes, sessions_pass, unit}
 use Rattle.channel_sim.specs.Fit.{Rises, vehicle_seat, point_seat, seats_of, FramesFit, CarriesMade, ConfirmsShown, CallLinks, IsSessionOf, AreInOrder}
 use Rattle.channel_sim.specs.inner.FitAt.{Came, Clocks, FitsAt, Goes, Settles, all_at}

@@ -8,9 +8,9 @@ use Rattle.link_frames.specs.declared.frame.End.{End}
 use Rattle.link_frames.specs.declared.frame.End.TheVariants as «end»
 use Rattle.link_frames.specs.declared.note.Note.{Note}
 use Rattle.link_frames.specs.declared.note.Note.TheVariants as note
-use Rattle.trace_text.specs.declared.entry.Entry.{Entry}
-use Rattle.trace_text.specs.History.{Sent, told, sends, sent_by}
-use Rattle.trace_text.specs.Safety.{is_leg}
+use Rattle.trace_model.specs.declared.entry.Entry.{Entry}
+use Rattle.trace_model.specs.History.{Sent, told, sends, sent_by}
+use Rattle.trace_model.specs.Safety.{is_leg}
 use Rattle.channel_sim.specs.declared.calls.Call as kept_call
 use Rattle.channel_sim.specs.World.{Call, is_number, with_legs, carries}
 use Rattle.channel_sim.specs.inner.Acts.{OtherHasLeg}

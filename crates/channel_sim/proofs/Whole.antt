@@ -17,11 +17,11 @@ use Rattle.ivs_machine.specs.VehicleOwes.{seat_in}
 use Rattle.psap_machine.specs.Point as session
 use Rattle.psap_machine.specs.Point.{Point}
 use Rattle.psap_machine.specs.PointOwes as point_owes
-use Rattle.trace_text.specs.declared.entry.Entry.{Entry}
-use Rattle.trace_text.specs.declared.event.Event.{Event}
-use Rattle.trace_text.specs.History.{Sent, sends, sent_by, sets_of}
-use Rattle.trace_text.specs.Safety.{is_leg, Leg, first_leg, leg_behind, leg_at, AtEach, MustOpen, OpensNext, OwesOpening, IsBounded}
-use Rattle.trace_text.proofs.Folds.{is_leg_same}
+use Rattle.trace_model.specs.declared.entry.Entry.{Entry}
+use Rattle.trace_model.specs.declared.event.Event.{Event}
+use Rattle.trace_model.specs.History.{Sent, sends, sent_by, sets_of}
+use Rattle.trace_model.specs.Safety.{is_leg, Leg, first_leg, leg_behind, leg_at, AtEach, MustOpen, OpensNext, OwesOpening, IsBounded}
+use Rattle.trace_model.proofs.Folds.{is_leg_same}
 use Rattle.channel_sim.specs.World.{World, Call, first_world, is_number, session_of, vehicle_is_in, point_is_in, unless_over, unit, units, call_of, session_in}
 use Rattle.channel_sim.specs.Lines.{step, trace, trace_from, world_after}
 use Rattle.channel_sim.specs.Fit.{Fit, LegFits, CarriesMade, IsSent, WasSent, vehicle_seat, point_seat, seats_of, IsCall}

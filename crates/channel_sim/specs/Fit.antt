@@ -18,9 +18,9 @@ use Rattle.ivs_machine.specs.VehicleOwes.{seat_of}
 use Rattle.psap_machine.specs.Point.{Point}
 use Rattle.psap_machine.specs.PointKept as point
 use Rattle.psap_machine.specs.PointOwes as session
-use Rattle.trace_text.specs.declared.entry.Entry.{Entry}
-use Rattle.trace_text.specs.History.{Sent, sent_by, sets_of}
-use Rattle.trace_text.specs.Safety.{Leg, leg_at, WasShown, Safe, Finished}
+use Rattle.trace_model.specs.declared.entry.Entry.{Entry}
+use Rattle.trace_model.specs.History.{Sent, sent_by, sets_of}
+use Rattle.trace_model.specs.Safety.{Leg, leg_at, WasShown, Safe, Finished}
 use Rattle.channel_sim.specs.World.{World, Call, is_number, call_of, session_of, left_by}
 
 -- Call numbers and ticks.

@@ -9,10 +9,10 @@ use Rattle.ivs_machine.specs.Vehicle.{vehicle_call, is_dialling, is_reachable}
 use Rattle.ivs_machine.specs.VehicleRows as vehicle
 use Rattle.psap_machine.specs.Point.{Point}
 use Rattle.psap_machine.specs.PointRows as point
-use Rattle.trace_text.specs.History.{Sent, told}
-use Rattle.trace_text.specs.declared.entry.Entry.{Entry}
-use Rattle.trace_text.specs.declared.event.Event.{Event}
-use Rattle.trace_text.specs.declared.event.Event.TheVariants as event
+use Rattle.trace_model.specs.History.{Sent, told}
+use Rattle.trace_model.specs.declared.entry.Entry.{Entry}
+use Rattle.trace_model.specs.declared.event.Event.{Event}
+use Rattle.trace_model.specs.declared.event.Event.TheVariants as event
 use Rattle.channel_sim.specs.World.{Call, World, Step, Act, Hears, InCall, Session, Due, first_world, quiet_step, and_then, call_of, vehicle_is_in, point_is_in, vehicle_did, session_did, performs, hands_up, hands_down, each, units, ends}
 
 -- What a line has happen: an end hears something, a frame is handed over, or a call comes up at both ends.

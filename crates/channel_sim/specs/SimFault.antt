@@ -2,8 +2,8 @@
 -- says of it. This project's profile. Cited by `World::step` and what it calls, and by the conversions into `SimFault`.
 use Rattle.std.specs.Prelude.{◌≡◌, ℕ}
 use Rattle.call_io.specs.Counts.{Rose}
-use Rattle.trace_text.specs.declared.listener.Deaf.{Deaf}
-use Rattle.trace_text.specs.declared.listener.Deaf.TheVariants as deaf
+use Rattle.trace_model.specs.declared.listener.Deaf.{Deaf}
+use Rattle.trace_model.specs.declared.listener.Deaf.TheVariants as deaf
 use Rattle.channel_sim.specs.declared.fault.SimFault.{SimFault}
 use Rattle.channel_sim.specs.declared.fault.SimFault.TheVariants as fault
 

@@ -14,8 +14,8 @@ use Rattle.ivs_machine.specs.Vehicle.{Vehicle, first_vehicle, vehicle_call}
 use Rattle.ivs_machine.specs.VehicleRows as vehicle
 use Rattle.psap_machine.specs.Point.{Point, Phase, Over}
 use Rattle.psap_machine.specs.PointRows as point
-use Rattle.trace_text.specs.declared.entry.Entry.{Entry}
-use Rattle.trace_text.specs.History.{Sent, sent_by, told}
+use Rattle.trace_model.specs.declared.entry.Entry.{Entry}
+use Rattle.trace_model.specs.History.{Sent, sent_by, told}
 
 -- A call with a leg up: its number, the point's session, where that leg is up, and the frames sent in it, in order: up
 -- by the vehicle, down by the point.

@@ -6,7 +6,7 @@ ghost use Rattle.std.specs.Option.{is_some, option_map};
 ghost use Rattle.psap_machine.specs.Point.{Point};
 ghost use Rattle.psap_machine.specs.PointRows as point;
 ghost use Rattle.psap_machine.specs.SessionStands.{SessionStandsFor};
-ghost use Rattle.trace_text.specs.History.{told};
+ghost use Rattle.trace_model.specs.History.{told};
 ghost use Rattle.channel_sim.specs.Lines as lines;
 ghost use Rattle.channel_sim.specs.World as model;
 ghost use Rattle.channel_sim.specs.inner.Acts.{pushed, CallDid, SessionDid, IsCaught, AreSameBut, OtherHasLeg, due_by, due_of, sent_way};

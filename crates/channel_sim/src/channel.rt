@@ -14,7 +14,7 @@ use link_frames::Steps;
 use msd_fit::Facts;
 use std::alloc::Global;
 use std::sync::ledger::Ledger;
-use trace_text::Listener;
+use trace_model::Listener;
 
 /// A vehicle, the calls with a leg up, and all that was ever sent in them.
 #[derive(Drop)]

@@ -6,7 +6,7 @@ ghost use Rattle.channel_sim.specs.SimFault.{fault_of};
 
 use std::alloc::AllocError;
 use thiserror::Error;
-use trace_text::Deaf;
+use trace_model::Deaf;
 
 /// Why a step of the world failed.
 #[derive(Clone, Copy, Debug, PartialEq, Eq, Error)]

@@ -4,9 +4,9 @@ ghost use Rattle.std.specs.Prelude.{◌≡◌, ◌+◌, ◌||◌, ℕ, List, [],
 ghost use Rattle.std.specs.Option.{is_some};
 ghost use Rattle.link_frames.specs.declared.frame.End.TheVariants as «end»;
 ghost use Rattle.msd_fit.specs.declared.facts.Facts.{Facts};
-ghost use Rattle.trace_text.specs.declared.entry.Entry.{Entry};
-ghost use Rattle.trace_text.specs.declared.event.Event.{Event};
-ghost use Rattle.trace_text.specs.Safety.{Finished, Safe, leg_at};
+ghost use Rattle.trace_model.specs.declared.entry.Entry.{Entry};
+ghost use Rattle.trace_model.specs.declared.event.Event.{Event};
+ghost use Rattle.trace_model.specs.Safety.{Finished, Safe, leg_at};
 ghost use Rattle.channel_sim.specs.World.{World, call_of, first_world, point_is_in, unit, units, vehicle_is_in};
 ghost use Rattle.channel_sim.specs.Lines.{step, trace, trace_from, world_after};
 ghost use Rattle.channel_sim.specs.Fit.{Fit, WasSent};

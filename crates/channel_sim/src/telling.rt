@@ -2,12 +2,12 @@
 
 ghost use Rattle.std.specs.Prelude.{◌≡◌, ◌≤◌, OnOk, OnErr, IfErr};
 ghost use Rattle.channel_sim.specs.SimFault.{SimFaultCause};
-ghost use Rattle.trace_text.specs.History.{told};
+ghost use Rattle.trace_model.specs.History.{told};
 
 use crate::fault::SimFault;
 use link_frames::Note;
 use std::alloc::Global;
-use trace_text::{Entry, Listener};
+use trace_model::{Entry, Listener};
 
 /// Tells a listener these items, each as an entry at this tick.
 pub(crate) fn tell<H: Listener>(

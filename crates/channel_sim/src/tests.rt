@@ -7,7 +7,7 @@ use msd_fit::{Cause, Facts};
 use std::alloc::Global;
 use std::process::Abort;
 use std::sync::ledger::Ledger;
-use trace_text::{Delay, Event, Kept, Listener, Positive};
+use trace_model::{Delay, Event, Kept, Listener, Positive};
 
 mod deaf;
 mod rows;

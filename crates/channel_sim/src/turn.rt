@@ -9,7 +9,7 @@ ghost use Rattle.channel_sim.specs.inner.Turns.{DrawsCall, does_turn, turn_passe
 use ivs_machine::VehicleEvent;
 use link_frames::Why;
 use psap_machine::PointEvent;
-use trace_text::Event;
+use trace_model::Event;
 
 /// What an event line has happen, with plain numbers.
 #[derive(Drop)]

@@ -11,7 +11,7 @@ use msd_fit::Facts;
 use psap_machine::Session;
 use std::alloc::Global;
 use std::sync::ledger::Ledger;
-use trace_text::{Event, Listener};
+use trace_model::{Event, Listener};
 
 /// A vehicle, the calls with a leg up, and all that was ever sent in them.
 #[derive(Drop)]
@@ -25,7 +25,7 @@ impl World {
     ghost use Rattle.std.specs.Option.{option_copied};
     ghost use Rattle.ivs_machine.specs.IvsStands.{IvsStandsFor};
     ghost use Rattle.ivs_machine.specs.Vehicle.{vehicle_call};
-    ghost use Rattle.trace_text.specs.declared.entry.Entry.{Entry};
+    ghost use Rattle.trace_model.specs.declared.entry.Entry.{Entry};
     ghost use Rattle.channel_sim.specs.Fit.{Fit};
     ghost use Rattle.channel_sim.specs.World as model;
     ghost use Rattle.channel_sim.specs.Lines as lines;

@@ -1,11 +1,11 @@
 //! What a person is told of how a call ended.
 
 use ecall_top::{Refused, Status};
+use line_input::{BadLine, Reason as LineReason};
 use link_frames::{Fault, FrameFault};
 use per_bits::{Reason as SetReason, Refusal};
 use std::fmt;
 use trace_audit::Rule;
-use trace_text::{BadLine, Reason as LineReason};
 
 /// Why a call didn't end with status 0: what was wrong, where, and what helps. It is written as a part of one sentence.
 #[derive(Clone, Copy, Debug)]

@@ -2,13 +2,13 @@
 
 use crate::explanation::Explanation;
 use ecall_top::{Refused, Status};
+use line_input::{BadLine, Reason as LineReason};
 use link_frames::{Fault, FrameFault};
 use per_bits::{Reason as SetReason, Refusal};
 use std::alloc::Global;
 use std::process::Abort;
 use std::test::Fail;
 use trace_audit::Rule;
-use trace_text::{BadLine, Reason as LineReason};
 
 /// Checks what a person is told of line 3, where it is refused for this reason.
 fn expect_line(alloc: Global, rt: &impl Abort, reason: LineReason, text: &str) -> Result<(), Fail> {

@@ -4,13 +4,13 @@ use Rattle.std.specs.Prelude.{◌≡◌, ℕ, ◌+◌, true, false, List, [], �
 use Rattle.std.proofs.Common.{sym, ◌∙◌, ap, refl, subst}
 use Rattle.trace_text.specs.Drafts.{DraftOf}
 use Rattle.trace_text.specs.Encode.{encode_judged, encode_line, encode_placed_line}
-use Rattle.trace_text.specs.Lines.{line_fault, IsPassedOver, IsLine, Numbered}
-use Rattle.trace_text.specs.Reading.{Reading, first_reading, ReadsLine}
+use Rattle.line_input.specs.Lines.{line_fault, IsPassedOver, IsLine, Numbered}
+use Rattle.line_input.specs.Reading.{Reading, first_reading, ReadsLine}
 use Rattle.trace_text.specs.declared.draft.Draft.{Draft}
 use Rattle.trace_text.specs.declared.encode.EncodeLine.{EncodeLine}
 use Rattle.trace_text.specs.declared.encode.EncodeLine.TheVariants as line
 use Rattle.trace_text.specs.declared.fact_line.FactLine.{FactLine}
-use Rattle.trace_text.specs.declared.reason.Reason.{Reason}
+use Rattle.line_input.specs.declared.reason.Reason.{Reason}
 use Rattle.ecall_top.specs.declared.command.Command.TheVariants as command
 use Rattle.ecall_top.specs.declared.refusal.Refused.{Refused}
 use Rattle.ecall_top.specs.declared.refusal.Refused.TheVariants as refused

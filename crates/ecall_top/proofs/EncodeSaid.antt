@@ -8,14 +8,14 @@ use Rattle.msd_fit.specs.declared.cause.Cause.{Cause}
 use Rattle.msd_fit.specs.declared.facts.OwnFacts.{OwnFacts}
 use Rattle.trace_text.specs.Encode.{encode_line, encode_placed, encode_placed_line, placed_write}
 use Rattle.trace_text.specs.Facts.{is_one_too_many, own_in}
-use Rattle.trace_text.specs.Lines.{Numbered, line_answer}
+use Rattle.line_input.specs.Lines.{Numbered, line_answer}
 use Rattle.trace_text.specs.declared.draft.Draft.{Draft}
 use Rattle.trace_text.specs.declared.encode.EncodeLine.{EncodeLine}
 use Rattle.trace_text.specs.declared.encode.EncodeLine.TheVariants as line
 use Rattle.trace_text.specs.declared.fact_line.FactLine.{FactLine}
-use Rattle.trace_text.specs.declared.reason.BadLine.{BadLine}
-use Rattle.trace_text.specs.declared.reason.Reason.{Reason}
-use Rattle.trace_text.specs.declared.reason.Reason.TheVariants as reason
+use Rattle.line_input.specs.declared.reason.BadLine.{BadLine}
+use Rattle.line_input.specs.declared.reason.Reason.{Reason}
+use Rattle.line_input.specs.declared.reason.Reason.TheVariants as reason
 use Rattle.ecall_top.specs.declared.refusal.Refused.TheVariants as refused
 use Rattle.ecall_top.specs.declared.status.Status.{Status}
 use Rattle.ecall_top.specs.declared.status.Status.TheVariants as status

@@ -5,25 +5,25 @@ use Rattle.std.proofs.lemmas.List.{append-nil}
 use Rattle.std.proofs.lemmas.Bool.{false≢true}
 use Rattle.call_io.specs.Bytes.{Took, Grew, GrewPartly}
 use Rattle.call_io.proofs.BytesLemmas.{Grew-nothing, Grew-append, GrewPartly-whole, GrewPartly-after}
-use Rattle.trace_text.specs.declared.event.Event.{Event}
-use Rattle.trace_text.specs.declared.reason.Reason.{Reason}
-use Rattle.trace_text.specs.declared.reason.BadLine.{BadLine}
-use Rattle.trace_text.specs.declared.fault.LineFault.TheVariants as fault
+use Rattle.trace_model.specs.declared.event.Event.{Event}
+use Rattle.line_input.specs.declared.reason.Reason.{Reason}
+use Rattle.line_input.specs.declared.reason.BadLine.{BadLine}
+use Rattle.line_input.specs.declared.fault.LineFault.TheVariants as fault
 use Rattle.trace_text.specs.declared.script.ScriptLine.{ScriptLine}
 use Rattle.trace_text.specs.declared.fact_line.FactLine.{FactLine}
 use Rattle.trace_text.specs.declared.script.ScriptLine.TheVariants as line
 use Rattle.trace_text.specs.EntryLine.{text_of}
-use Rattle.trace_text.specs.inner.ListenerLaws.{text_of-append}
-use Rattle.trace_text.specs.Feed.{Draws, IsDone}
-use Rattle.trace_text.specs.Lines as bytes
-use Rattle.trace_text.specs.Reading.{Reading, MayFollow, first_reading, FindsLine, FindsTooMany, ReadsLine}
+use Rattle.trace_text.specs.inner.TextListenerLaws.{text_of-append}
+use Rattle.line_input.specs.Feed.{Draws, IsDone}
+use Rattle.line_input.specs.Lines as bytes
+use Rattle.line_input.specs.Reading.{Reading, MayFollow, first_reading, FindsLine, FindsTooMany, ReadsLine}
 use Rattle.trace_text.specs.Script.{Said, Script, script_of, script_from, judged, said_after, nothing_said}
 use Rattle.channel_sim.specs.World.{World}
 use Rattle.msd_fit.specs.declared.facts.Facts.{Facts}
 use Rattle.trace_text.specs.Facts.{facts_in}
 use Rattle.ecall_top.specs.declared.command.Command.TheVariants as command
 use Rattle.ecall_top.specs.declared.status.Status.TheVariants as status
-use Rattle.trace_text.specs.Lines.{IsWhole, most_bytes}
+use Rattle.line_input.specs.Lines.{IsWhole, most_bytes}
 use Rattle.ecall_top.specs.Outcome.{Streams, CutShort, IsSettled, Outcome}
 use Rattle.ecall_top.specs.inner.Progress.{ReadSoFar, events_before, event_of, entries_of, entries_in, passes_by, world_left}
 use Rattle.ecall_top.specs.Run.{played, most_passes, script_trace, ended, run_reply}

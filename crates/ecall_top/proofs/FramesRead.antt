@@ -8,10 +8,10 @@ use Rattle.link_frames.specs.Reading as frames
 use Rattle.link_frames.specs.Streams.{Holds, FrameStops}
 use Rattle.link_frames.specs.declared.fault.FrameFault.{FrameFault}
 use Rattle.link_frames.specs.declared.frame.Frame.{Frame}
-use Rattle.trace_text.specs.declared.reason.Reason.{Reason}
-use Rattle.trace_text.specs.Lines.{Numbered, most_bytes}
-use Rattle.trace_text.specs.Reading.{Reading, first_reading, ReadsLine}
-use Rattle.trace_text.specs.Words.{only_word_of, words}
+use Rattle.line_input.specs.declared.reason.Reason.{Reason}
+use Rattle.line_input.specs.Lines.{Numbered, most_bytes}
+use Rattle.line_input.specs.Reading.{Reading, first_reading, ReadsLine}
+use Rattle.line_input.specs.Words.{only_word_of, words}
 use Rattle.ecall_top.specs.declared.command.Command.TheVariants as command
 use Rattle.ecall_top.specs.declared.refusal.Refused.{Refused}
 use Rattle.ecall_top.specs.declared.refusal.Refused.TheVariants as refused

@@ -13,10 +13,10 @@ use Rattle.link_frames.specs.Streams.{Holds, FrameStops}
 use Rattle.link_frames.specs.declared.fault.FrameFault.{FrameFault}
 use Rattle.link_frames.specs.declared.frame.Frame.{Frame}
 use Rattle.link_frames.proofs.StreamLemmas as streams
-use Rattle.trace_text.specs.Lines.{Numbered}
-use Rattle.trace_text.specs.Words.{only_word_of, words}
-use Rattle.trace_text.specs.declared.reason.Reason.{Reason}
-use Rattle.trace_text.specs.declared.reason.Reason.TheVariants as reason
+use Rattle.line_input.specs.Lines.{Numbered}
+use Rattle.line_input.specs.Words.{only_word_of, words}
+use Rattle.line_input.specs.declared.reason.Reason.{Reason}
+use Rattle.line_input.specs.declared.reason.Reason.TheVariants as reason
 use Rattle.ecall_top.specs.Decode.{octets_in, octets_of_word, some_octets}
 use Rattle.ecall_top.specs.Frames.{frame_line, frame_lines}
 use Rattle.ecall_top.specs.Refusals.{refusal_line}

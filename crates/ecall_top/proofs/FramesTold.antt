@@ -5,7 +5,7 @@ use Rattle.link_frames.specs.Streams.{Holds}
 use Rattle.link_frames.specs.declared.fault.FrameFault.{FrameFault}
 use Rattle.link_frames.specs.declared.frame.Frame.{Frame}
 use Rattle.link_frames.proofs.StreamLemmas.{holds_or_stops, one_reading}
-use Rattle.trace_text.specs.declared.reason.Reason.{Reason}
+use Rattle.line_input.specs.declared.reason.Reason.{Reason}
 use Rattle.ecall_top.specs.Decode.{judged_set}
 use Rattle.ecall_top.specs.Frames.{AreFrames, EndsFrames, IsLineOfFrames, frame_lines, rest_line}
 use Rattle.ecall_top.specs.Refusals.{Reply, refusal_reply, in_front_of}

@@ -7,12 +7,12 @@ use Rattle.std.proofs.lemmas.List.{append-nil}
 use Rattle.std.proofs.lemmas.Bool.{false≢true}
 use Rattle.call_io.specs.Bytes.{Took, Grew, GrewPartly}
 use Rattle.call_io.proofs.BytesLemmas.{Grew-nothing, Grew-append, GrewPartly-whole, GrewPartly-after, GrewPartly-longer}
-use Rattle.trace_text.specs.declared.reason.BadLine.{BadLine}
-use Rattle.trace_text.specs.declared.fault.LineFault.{LineFault}
-use Rattle.trace_text.specs.declared.fault.LineFault.TheVariants as fault
-use Rattle.trace_text.specs.Feed.{Draws, IsDone}
-use Rattle.trace_text.specs.Lines.{IsWhole, lines_of, line_fault, IsPassedOver, most_bytes}
-use Rattle.trace_text.specs.Reading.{Reading, MayFollow, first_reading, FindsLine, FindsEnd, FindsBad, FindsTooMany, ReadsLine}
+use Rattle.line_input.specs.declared.reason.BadLine.{BadLine}
+use Rattle.line_input.specs.declared.fault.LineFault.{LineFault}
+use Rattle.line_input.specs.declared.fault.LineFault.TheVariants as fault
+use Rattle.line_input.specs.Feed.{Draws, IsDone}
+use Rattle.line_input.specs.Lines.{IsWhole, lines_of, line_fault, IsPassedOver, most_bytes}
+use Rattle.line_input.specs.Reading.{Reading, MayFollow, first_reading, FindsLine, FindsEnd, FindsBad, FindsTooMany, ReadsLine}
 use Rattle.ecall_top.specs.declared.status.Status.{Status}
 use Rattle.ecall_top.specs.declared.status.Status.TheVariants as status
 use Rattle.ecall_top.specs.inner.Ends.{EndsWithText, FailsWith, EndsReading, by_line, in_front}

@@ -11,20 +11,20 @@ use Rattle.msd_fit.specs.declared.facts.Facts.TheVariants as facts
 use Rattle.msd_values.specs.Alphabet as alphabet
 use Rattle.trace_text.specs.EventLines.{number_line}
 use Rattle.trace_text.specs.Facts.{facts_in}
-use Rattle.trace_text.specs.Feed.{IsInner}
-use Rattle.trace_text.specs.Lines.{is_comment, is_printable, line_fault, lines_of}
-use Rattle.trace_text.specs.Numbers.{is_digit}
+use Rattle.line_input.specs.Feed.{IsInner}
+use Rattle.line_input.specs.Lines.{is_comment, is_printable, line_fault, lines_of}
+use Rattle.line_input.specs.Numbers.{is_digit}
 use Rattle.trace_text.specs.Script.{Said, Script, judged, nothing_said, placed_event, placed_line, said_after, script_from, script_line, script_of}
-use Rattle.trace_text.specs.Words.{words}
-use Rattle.trace_text.specs.declared.event.Event.{Event}
-use Rattle.trace_text.specs.declared.event.Event.TheVariants as event
+use Rattle.line_input.specs.Words.{words}
+use Rattle.trace_model.specs.declared.event.Event.{Event}
+use Rattle.trace_model.specs.declared.event.Event.TheVariants as event
 use Rattle.trace_text.specs.declared.fact_line.FactLine.{FactLine}
 use Rattle.trace_text.specs.declared.fact_line.FactLine.TheVariants as fact
 use Rattle.trace_text.specs.declared.script.ScriptLine.TheVariants as line
 use Rattle.trace_text.proofs.EntryNumbers.{natural_below-decimal, positive_below-decimal, word-decimal}
 use Rattle.trace_text.proofs.EntryWords.{words-front}
-use Rattle.trace_text.proofs.LinesLemmas.{lines_of-line, lines_of-nil}
-use Rattle.trace_text.proofs.NumberLemmas.{digits_model, first_true, second_true}
+use Rattle.line_input.proofs.LinesLemmas.{lines_of-line, lines_of-nil}
+use Rattle.line_input.proofs.NumberLemmas.{digits_model, first_true, second_true}
 use Rattle.ecall_top.specs.declared.make.CallTimes.{CallTimes}
 use Rattle.ecall_top.specs.Make.{call_lines, call_times, fact_lines, lines_of_calls, made_script, most_made, text_of_lines, x_behind}
 use Rattle.ecall_top.specs.inner.Trialled.{call_events, events_of_calls, made_own}

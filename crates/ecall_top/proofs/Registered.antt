@@ -6,15 +6,15 @@ use Rattle.call_io.specs.Bytes.{Grew, GrewPartly, Took}
 use Rattle.call_io.proofs.BytesLemmas.{GrewPartly-nothing}
 use Rattle.trace_text.specs.EntryLine.{text_of}
 use Rattle.trace_text.specs.Facts.{facts_in}
-use Rattle.trace_text.specs.Lines.{IsWhole, Numbered}
-use Rattle.trace_text.specs.Reading.{Reading, ReadsLine, first_reading}
+use Rattle.line_input.specs.Lines.{IsWhole, Numbered}
+use Rattle.line_input.specs.Reading.{Reading, ReadsLine, first_reading}
 use Rattle.trace_text.specs.Script.{Said, Script, judged, nothing_said, placed_line, said_after, script_line, script_of}
-use Rattle.trace_text.specs.declared.entry.Entry.{Entry}
-use Rattle.trace_text.specs.declared.event.Event.{Event}
-use Rattle.trace_text.specs.declared.fault.LineFault.{LineFault}
-use Rattle.trace_text.specs.declared.fault.LineFault.TheVariants as fault
-use Rattle.trace_text.specs.declared.reason.BadLine.{BadLine}
-use Rattle.trace_text.specs.declared.reason.Reason.{Reason}
+use Rattle.trace_model.specs.declared.entry.Entry.{Entry}
+use Rattle.trace_model.specs.declared.event.Event.{Event}
+use Rattle.line_input.specs.declared.fault.LineFault.{LineFault}
+use Rattle.line_input.specs.declared.fault.LineFault.TheVariants as fault
+use Rattle.line_input.specs.declared.reason.BadLine.{BadLine}
+use Rattle.line_input.specs.declared.reason.Reason.{Reason}
 use Rattle.trace_text.specs.declared.script.ScriptLine.{ScriptLine}
 use Rattle.call_register.specs.Rows.{Rows}
 use Rattle.call_register.specs.Table.{table}

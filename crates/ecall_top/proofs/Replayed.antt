@@ -3,7 +3,7 @@ use Rattle.std.specs.Prelude.{◌≡◌, ℕ, ◌⊎◌, List, ◌++◌, Option,
 use Rattle.std.proofs.Common.{sym, ◌∙◌, ap, refl, subst, inl, inr, arith}
 use Rattle.call_io.specs.Bytes.{Took, Grew, GrewPartly}
 use Rattle.call_io.proofs.BytesLemmas.{GrewPartly-nothing}
-use Rattle.trace_text.specs.Lines.{IsWhole, lines_of}
+use Rattle.line_input.specs.Lines.{IsWhole, lines_of}
 use Rattle.trace_audit.specs.Audit.{Audits}
 use Rattle.trace_audit.specs.Outcome as audit
 use Rattle.trace_audit.specs.declared.verdict.Verdict.{Verdict}

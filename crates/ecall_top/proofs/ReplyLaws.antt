@@ -1,7 +1,7 @@
 -- Each command has one reply to each input.
 use Rattle.std.specs.Prelude.{◌≡◌, ℕ, List, [], Option, Some, None}
 use Rattle.std.proofs.Common.{sym, ◌∙◌, refl}
-use Rattle.trace_text.specs.Lines.{lines_of}
+use Rattle.line_input.specs.Lines.{lines_of}
 use Rattle.ecall_top.specs.declared.command.Command.{Command}
 use Rattle.ecall_top.specs.declared.command.Command.TheVariants as command
 use Rattle.ecall_top.specs.declared.status.Status.TheVariants as status

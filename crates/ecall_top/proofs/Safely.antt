@@ -2,7 +2,7 @@
 use Rattle.std.specs.Prelude.{[], Option, Some, None}
 use Rattle.std.proofs.lemmas.Bool.{false≢true}
 use Rattle.msd_fit.specs.declared.facts.Facts.{Facts}
-use Rattle.trace_text.specs.Safety.{Finished, Safe}
+use Rattle.trace_model.specs.Safety.{Finished, Safe}
 use Rattle.trace_text.specs.Script.{Script}
 use Rattle.channel_sim.proofs.Whole.{trace_fits}
 use Rattle.ecall_top.specs.Run.{tick_after, played, script_tick, script_trace}

@@ -5,12 +5,12 @@ use Rattle.std.proofs.Common.{sym, ◌∙◌, ap, refl, subst, append_assoc, inl
 use Rattle.std.proofs.lemmas.List.{append-nil, append_cancel_left}
 use Rattle.call_io.specs.Bytes.{Grew, GrewPartly}
 use Rattle.trace_text.specs.EntryLine.{line_of, text_of}
-use Rattle.trace_text.specs.Safety.{Safe}
+use Rattle.trace_model.specs.Safety.{Safe}
 use Rattle.trace_text.specs.Script.{script_of}
-use Rattle.trace_text.specs.Tallies.{last_tick}
-use Rattle.trace_text.specs.declared.entry.Entry.{Entry}
-use Rattle.trace_text.specs.declared.reason.BadLine.{BadLine}
-use Rattle.trace_text.proofs.Fronts.{nothing_safe, safe_front}
+use Rattle.trace_model.specs.Tallies.{last_tick}
+use Rattle.trace_model.specs.declared.entry.Entry.{Entry}
+use Rattle.line_input.specs.declared.reason.BadLine.{BadLine}
+use Rattle.trace_model.proofs.Fronts.{nothing_safe, safe_front}
 use Rattle.ecall_top.specs.CutTraces.{AreSafeLines, IsSafelyCut}
 use Rattle.ecall_top.specs.Outcome.{Outcome, Streams}
 use Rattle.ecall_top.specs.Refusals.{Reply, refusal_line}

@@ -3,14 +3,14 @@ use Rattle.std.specs.Prelude.{◌≡◌, ℕ, ◌+◌, Bool, true, false, cond, 
 use Rattle.std.specs.List.{AllByRecursion}
 use Rattle.std.proofs.Common.{sym, ◌∙◌, ap, refl, arith, subst, append_assoc}
 use Rattle.std.proofs.lemmas.List.{append-nil}
-use Rattle.trace_text.specs.declared.event.Event.{Event}
-use Rattle.trace_text.specs.declared.reason.Reason.{Reason}
-use Rattle.trace_text.specs.declared.reason.BadLine.{BadLine}
+use Rattle.trace_model.specs.declared.event.Event.{Event}
+use Rattle.line_input.specs.declared.reason.Reason.{Reason}
+use Rattle.line_input.specs.declared.reason.BadLine.{BadLine}
 use Rattle.trace_text.specs.declared.script.ScriptLine.{ScriptLine}
-use Rattle.trace_text.specs.declared.reason.Reason.TheVariants as reason
+use Rattle.line_input.specs.declared.reason.Reason.TheVariants as reason
 use Rattle.trace_text.specs.declared.script.ScriptLine.TheVariants as line
-use Rattle.trace_text.specs.Lines.{lines_of, line_fault, is_comment, IsPassedOver, IsLine}
-use Rattle.trace_text.specs.Reading.{Reading, MayFollow, FindsLine, FindsEnd, FindsBad}
+use Rattle.line_input.specs.Lines.{lines_of, line_fault, is_comment, IsPassedOver, IsLine}
+use Rattle.line_input.specs.Reading.{Reading, MayFollow, FindsLine, FindsEnd, FindsBad}
 use Rattle.msd_fit.specs.declared.facts.Facts.{Facts}
 use Rattle.trace_text.specs.Facts.{facts_in}
 use Rattle.trace_text.specs.Script.{Said, Script, script_of, script_from, script_line, judged, placed, placed_fact, placed_event, placed_line, said_after, in_front}

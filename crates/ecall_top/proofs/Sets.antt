@@ -11,9 +11,9 @@ use Rattle.msd_values.specs.declared.msd.Msd.{Msd}
 use Rattle.msd_codec.specs.Sets.{Shows, StopsAt}
 use Rattle.msd_codec.specs.Trees.{tree}
 use Rattle.msd_codec.proofs.SetLaws.{decided, apart, one_text, answer_read}
-use Rattle.trace_text.specs.Lines.{line_fault, is_comment}
-use Rattle.trace_text.specs.Words.{only_word_of, words}
-use Rattle.trace_text.specs.declared.reason.Reason.{Reason}
+use Rattle.line_input.specs.Lines.{line_fault, is_comment}
+use Rattle.line_input.specs.Words.{only_word_of, words}
+use Rattle.line_input.specs.declared.reason.Reason.{Reason}
 use Rattle.ecall_top.specs.Decode.{octets_in, octets_of_word, some_octets, judged_by, judged_set, IsLineDecoded, AreDecoded}
 use Rattle.ecall_top.specs.Refusals.{Reply, refusal_reply, in_front_of}
 use Rattle.ecall_top.specs.declared.refusal.Refused.TheVariants as refused

@@ -5,12 +5,12 @@ use Rattle.std.proofs.lemmas.Bool.{ltb-false}
 use Rattle.std.proofs.lemmas.Bool.Decides.{eqb_tells}
 use Rattle.hex.specs.Hex.{decode_of, decode_sized}
 use Rattle.hex.specs.declared.error.FromHexError.{FromHexError}
-use Rattle.trace_text.proofs.WordsLemmas.{words-found, words-one, words-some}
-use Rattle.trace_text.specs.Lines.{Numbered, line_fault, most_in_line}
-use Rattle.trace_text.specs.Characters.{is_space}
-use Rattle.trace_text.specs.Words.{only_word_of, words}
-use Rattle.trace_text.specs.declared.reason.Reason.{Reason}
-use Rattle.trace_text.specs.declared.reason.Reason.TheVariants as reason
+use Rattle.line_input.proofs.WordsLemmas.{words-found, words-one, words-some}
+use Rattle.line_input.specs.Lines.{Numbered, line_fault, most_in_line}
+use Rattle.line_input.specs.Characters.{is_space}
+use Rattle.line_input.specs.Words.{only_word_of, words}
+use Rattle.line_input.specs.declared.reason.Reason.{Reason}
+use Rattle.line_input.specs.declared.reason.Reason.TheVariants as reason
 use Rattle.ecall_top.specs.declared.status.Status.{Status}
 use Rattle.ecall_top.specs.declared.status.Status.TheVariants as status
 use Rattle.ecall_top.specs.Decode.{octets_in, octets_of_word, some_octets}

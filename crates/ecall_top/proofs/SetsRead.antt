@@ -2,10 +2,10 @@
 -- every command that reads lines.
 use Rattle.std.specs.Prelude.{◌≡◌, ℕ, ◌+◌, true, false, List, Option, Some, None, Result, Ok, Err}
 use Rattle.std.proofs.Common.{sym, ap, refl, subst, inl, inr}
-use Rattle.trace_text.specs.declared.reason.Reason.{Reason}
-use Rattle.trace_text.specs.Lines.{line_fault, IsPassedOver, IsLine, Numbered}
-use Rattle.trace_text.specs.Reading.{Reading, first_reading, ReadsLine}
-use Rattle.trace_text.specs.Words.{only_word_of, words}
+use Rattle.line_input.specs.declared.reason.Reason.{Reason}
+use Rattle.line_input.specs.Lines.{line_fault, IsPassedOver, IsLine, Numbered}
+use Rattle.line_input.specs.Reading.{Reading, first_reading, ReadsLine}
+use Rattle.line_input.specs.Words.{only_word_of, words}
 use Rattle.ecall_top.specs.declared.command.Command.TheVariants as command
 use Rattle.ecall_top.specs.declared.refusal.Refused.{Refused}
 use Rattle.ecall_top.specs.declared.refusal.Refused.TheVariants as refused

@@ -6,8 +6,8 @@ use Rattle.trace_text.specs.Drafts.{DraftOf}
 use Rattle.trace_text.specs.Facts.{facts_in}
 use Rattle.trace_text.specs.declared.draft.Draft.{Draft}
 use Rattle.trace_text.specs.declared.fact_line.FactLine.{FactLine}
-use Rattle.trace_text.specs.declared.entry.Entry.{Entry}
-use Rattle.trace_text.specs.declared.event.Event.{Event}
+use Rattle.trace_model.specs.declared.entry.Entry.{Entry}
+use Rattle.trace_model.specs.declared.event.Event.{Event}
 use Rattle.trace_text.specs.declared.script.ScriptLine.TheVariants as line
 use Rattle.trace_text.specs.Script.{Said, placed, placed_event, said_after}
 use Rattle.channel_sim.specs.declared.world.World.{World}

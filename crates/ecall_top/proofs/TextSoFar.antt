@@ -3,19 +3,19 @@ use Rattle.std.specs.Prelude.{◌≡◌, ℕ, ◌+◌, List, [], ◌∷◌, ◌+
 use Rattle.std.proofs.Common.{sym, ◌∙◌, ap, refl, subst, append_assoc, inl, inr}
 use Rattle.std.proofs.lemmas.List.{append-nil}
 use Rattle.msd_fit.specs.declared.facts.Facts.{Facts}
-use Rattle.trace_text.specs.declared.event.Event.{Event}
-use Rattle.trace_text.specs.declared.reason.BadLine.{BadLine}
+use Rattle.trace_model.specs.declared.event.Event.{Event}
+use Rattle.line_input.specs.declared.reason.BadLine.{BadLine}
 use Rattle.trace_text.specs.declared.script.ScriptLine.{ScriptLine}
 use Rattle.trace_text.specs.declared.script.ScriptLine.TheVariants as line
 use Rattle.trace_text.specs.EntryLine.{text_of}
-use Rattle.trace_text.specs.inner.ListenerLaws.{text_of-append}
+use Rattle.trace_text.specs.inner.TextListenerLaws.{text_of-append}
 use Rattle.trace_text.specs.Facts.{facts_in}
 use Rattle.trace_text.specs.Script.{Said, Script, script_from}
 use Rattle.channel_sim.specs.Lines.{step, trace_from, world_after}
 use Rattle.channel_sim.specs.World.{World, first_world}
 use Rattle.ecall_top.specs.inner.Progress.{events_before, event_of, entries_of, entries_in, world_left, ReadSoFar}
-use Rattle.trace_text.specs.Lines as bytes
-use Rattle.trace_text.specs.Reading.{Reading, MayFollow}
+use Rattle.line_input.specs.Lines as bytes
+use Rattle.line_input.specs.Reading.{Reading, MayFollow}
 use Rattle.call_io.specs.Bytes.{GrewPartly}
 use Rattle.call_io.proofs.BytesLemmas.{GrewPartly-longer}
 use Rattle.ecall_top.specs.Run.{played, script_trace, ended, run_reply}

@@ -5,10 +5,10 @@ use Rattle.std.proofs.lemmas.List.{append-nil, length-take, take_all}
 use Rattle.msd_fit.specs.declared.facts.Facts.{Facts}
 use Rattle.msd_fit.specs.declared.facts.Facts.TheVariants as facts
 use Rattle.trace_text.specs.Script.{Script, script_of}
-use Rattle.trace_text.specs.Tallies.{TallyGrew, tally_of}
-use Rattle.trace_text.specs.declared.entry.Entry.{Entry}
-use Rattle.trace_text.specs.declared.event.Event.{Event}
-use Rattle.trace_text.specs.declared.tally.Tally.{Tally}
+use Rattle.trace_model.specs.Tallies.{TallyGrew, tally_of}
+use Rattle.trace_model.specs.declared.entry.Entry.{Entry}
+use Rattle.trace_model.specs.declared.event.Event.{Event}
+use Rattle.trace_model.specs.declared.tally.Tally.{Tally}
 use Rattle.channel_sim.specs.declared.world.World.{World}
 use Rattle.channel_sim.specs.Lines.{bound, passes_within, step, trace, world_after}
 use Rattle.channel_sim.specs.World as model

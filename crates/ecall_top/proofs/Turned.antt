@@ -3,17 +3,17 @@ use Rattle.std.specs.Prelude.{◌≡◌, ℕ, ◌+◌, ◌<◌, ◌≤◌, true,
 use Rattle.std.proofs.Common.{sym, ap, refl, subst, arith, ◌∙◌, inl, inr}
 use Rattle.std.proofs.lemmas.List.{append-nil}
 use Rattle.call_io.specs.Bytes.{Grew}
-use Rattle.trace_text.specs.declared.entry.Entry.{Entry}
-use Rattle.trace_text.specs.declared.event.Event.{Event}
-use Rattle.trace_text.specs.declared.reason.Reason.{Reason}
-use Rattle.trace_text.specs.declared.reason.BadLine.{BadLine}
-use Rattle.trace_text.specs.declared.fault.LineFault.{LineFault}
-use Rattle.trace_text.specs.declared.fault.LineFault.TheVariants as fault
+use Rattle.trace_model.specs.declared.entry.Entry.{Entry}
+use Rattle.trace_model.specs.declared.event.Event.{Event}
+use Rattle.line_input.specs.declared.reason.Reason.{Reason}
+use Rattle.line_input.specs.declared.reason.BadLine.{BadLine}
+use Rattle.line_input.specs.declared.fault.LineFault.{LineFault}
+use Rattle.line_input.specs.declared.fault.LineFault.TheVariants as fault
 use Rattle.trace_text.specs.declared.script.ScriptLine.{ScriptLine}
-use Rattle.trace_text.specs.Lines.{Numbered}
-use Rattle.trace_text.specs.Reading.{Reading, ReadsLine}
+use Rattle.line_input.specs.Lines.{Numbered}
+use Rattle.line_input.specs.Reading.{Reading, ReadsLine}
 use Rattle.trace_text.specs.Script.{Said, judged, placed, placed_line, script_line}
-use Rattle.trace_text.specs.Lines.{line_answer}
+use Rattle.line_input.specs.Lines.{line_answer}
 use Rattle.ecall_top.specs.declared.stage.Stage.{Stage}
 use Rattle.ecall_top.specs.declared.status.Status.{Status}
 use Rattle.ecall_top.specs.declared.status.Status.TheVariants as status
@@ -25,7 +25,7 @@ use Rattle.ecall_top.specs.inner.Stage.{IsEarly, IsNext, StageStandsFor, Obeys}
 use Rattle.ecall_top.specs.declared.stage.Halt.{Halt}
 use Rattle.ecall_top.specs.declared.stage.Halt.TheVariants as halt
 use Rattle.trace_text.specs.declared.text_out.TextOut.{TextOut}
-use Rattle.trace_text.specs.Listener.{TextGrew, TextGrewPartly, sink, sink_name}
+use Rattle.trace_text.specs.TextListener.{TextGrew, TextGrewPartly, sink, sink_name}
 use Rattle.call_io.specs.Ways.{Way, Onward}
 use Rattle.ecall_top.specs.inner.Standing.{Standing}
 use Rattle.ecall_top.specs.declared.command.Command.TheVariants as command

@@ -10,7 +10,7 @@ use Rattle.msd_values.specs.declared.msd.Msd.{Msd}
 use Rattle.msd_codec.specs.Canonical.{canonical_octets}
 use Rattle.msd_codec.specs.Sets.{Shows, StopsAt}
 use Rattle.msd_codec.specs.Trees.{tree}
-use Rattle.trace_text.specs.Characters.{digit_zero, newline}
+use Rattle.line_input.specs.Characters.{digit_zero, newline}
 use Rattle.trace_text.specs.EntryLine.{spaced}
 use Rattle.trace_text.specs.Summary.{refused_words}
 

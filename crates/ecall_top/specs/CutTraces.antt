@@ -3,10 +3,10 @@
 -- Cited by the contract of `ecall`.
 use Rattle.std.specs.Prelude.{◌≡◌, ℕ, ◌<◌, ◌⊎◌, List, [], ◌++◌, length}
 use Rattle.trace_text.specs.EntryLine.{line_of, text_of}
-use Rattle.trace_text.specs.Safety.{Safe}
-use Rattle.trace_text.specs.Tallies.{last_tick}
-use Rattle.trace_text.specs.declared.entry.Entry.{Entry}
-use Rattle.trace_text.specs.declared.reason.BadLine.{BadLine}
+use Rattle.trace_model.specs.Safety.{Safe}
+use Rattle.trace_model.specs.Tallies.{last_tick}
+use Rattle.trace_model.specs.declared.entry.Entry.{Entry}
+use Rattle.line_input.specs.declared.reason.BadLine.{BadLine}
 use Rattle.ecall_top.specs.Refusals.{refusal_line}
 use Rattle.ecall_top.specs.declared.refusal.Refused.TheVariants as refused
 

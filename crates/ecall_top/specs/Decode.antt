@@ -8,10 +8,10 @@ use Rattle.per_bits.specs.declared.refusals.Refusal.{Refusal}
 use Rattle.msd_values.specs.Description.{description}
 use Rattle.msd_values.specs.declared.msd.Msd.{Msd}
 use Rattle.msd_codec.specs.Sets.{Shows, StopsAt}
-use Rattle.trace_text.specs.Lines.{line_fault, is_comment, lines_of}
-use Rattle.trace_text.specs.Words.{only_word_of, words}
-use Rattle.trace_text.specs.declared.reason.Reason.{Reason}
-use Rattle.trace_text.specs.declared.reason.Reason.TheVariants as reason
+use Rattle.line_input.specs.Lines.{line_fault, is_comment, lines_of}
+use Rattle.line_input.specs.Words.{only_word_of, words}
+use Rattle.line_input.specs.declared.reason.Reason.{Reason}
+use Rattle.line_input.specs.declared.reason.Reason.TheVariants as reason
 use Rattle.ecall_top.specs.declared.refusal.Refused.TheVariants as refused
 use Rattle.ecall_top.specs.declared.status.Status.TheVariants as status
 use Rattle.ecall_top.specs.Refusals.{Reply, refusal_reply, in_front_of}

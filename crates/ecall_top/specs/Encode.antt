@@ -6,10 +6,10 @@ use Rattle.hex.specs.Hex.{encode_lower}
 use Rattle.msd_fit.specs.Fitting.{fits}
 use Rattle.msd_fit.specs.declared.cause.Cause.{Cause}
 use Rattle.msd_fit.specs.declared.facts.OwnFacts.{OwnFacts}
-use Rattle.trace_text.specs.Characters.{newline}
+use Rattle.line_input.specs.Characters.{newline}
 use Rattle.trace_text.specs.Encode.{encode_judged}
 use Rattle.trace_text.specs.Facts.{own_in}
-use Rattle.trace_text.specs.Lines.{lines_of}
+use Rattle.line_input.specs.Lines.{lines_of}
 use Rattle.trace_text.specs.declared.encode.EncodeLine.{EncodeLine}
 use Rattle.trace_text.specs.declared.encode.EncodeLine.TheVariants as line
 use Rattle.trace_text.specs.declared.fact_line.FactLine.{FactLine}

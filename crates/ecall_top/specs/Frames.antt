@@ -6,10 +6,10 @@ use Rattle.std.specs.List.{flat_map}
 use Rattle.link_frames.specs.Streams.{Holds, FrameStops}
 use Rattle.link_frames.specs.declared.fault.FrameFault.{FrameFault}
 use Rattle.link_frames.specs.declared.frame.Frame.{Frame}
-use Rattle.trace_text.specs.Characters.{newline}
+use Rattle.line_input.specs.Characters.{newline}
 use Rattle.trace_text.specs.EntryLine.{frame_words, spaced}
-use Rattle.trace_text.specs.Lines.{lines_of}
-use Rattle.trace_text.specs.declared.reason.Reason.{Reason}
+use Rattle.line_input.specs.Lines.{lines_of}
+use Rattle.line_input.specs.declared.reason.Reason.{Reason}
 use Rattle.ecall_top.specs.declared.refusal.Refused.TheVariants as refused
 use Rattle.ecall_top.specs.declared.status.Status.TheVariants as status
 use Rattle.ecall_top.specs.Decode.{judged_set}

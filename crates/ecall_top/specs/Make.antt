@@ -2,7 +2,7 @@
 -- drawn by a linear congruential generator that begins with that number. This project's profile. Cited by the contract
 -- of `make`, and by the reply to words and an input.
 use Rattle.std.specs.Prelude.{ℕ, zero, suc, ◌+◌, ◌*◌, ◌/◌, ◌%◌, ◌^◌, List, [], ◌∷◌, ◌++◌, codes, decimal}
-use Rattle.trace_text.specs.Characters.{newline}
+use Rattle.line_input.specs.Characters.{newline}
 use Rattle.ecall_top.specs.declared.make.CallTimes.{CallTimes}
 
 -- how many calls a script has that is made

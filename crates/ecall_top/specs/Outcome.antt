@@ -5,8 +5,8 @@ use Rattle.std.specs.Prelude.{◌≡◌, ℕ, ◌+◌, ◌<◌, ◌≤◌, ◌�
 use Rattle.std.specs.List.{AllByRecursion}
 use Rattle.call_io.specs.Bytes.{Took, Grew, GrewPartly}
 use Rattle.call_io.specs.Counts.{Rose}
-use Rattle.trace_text.specs.Feed.{IsInner}
-use Rattle.trace_text.specs.Lines.{AreWholeLines, IsWhole, most_bytes, most_in_line}
+use Rattle.line_input.specs.Feed.{IsInner}
+use Rattle.line_input.specs.Lines.{AreWholeLines, IsWhole, most_bytes, most_in_line}
 use Rattle.ecall_top.specs.declared.command.Command.{Command}
 use Rattle.ecall_top.specs.Commands.{reads}
 use Rattle.ecall_top.specs.declared.status.Status.{Status}

@@ -3,9 +3,9 @@
 use Rattle.std.specs.Prelude.{ℕ, List, [], ◌∷◌, ◌++◌, codes, decimal}
 use Rattle.link_frames.specs.FrameOctets.{fault_code}
 use Rattle.per_bits.specs.Reasons.{code_of}
-use Rattle.trace_text.specs.Characters.{newline}
+use Rattle.line_input.specs.Characters.{newline}
 use Rattle.trace_text.specs.EntryLine.{spaced}
-use Rattle.trace_text.specs.ReasonCode.{reason_code}
+use Rattle.line_input.specs.ReasonCode.{reason_code}
 use Rattle.ecall_top.specs.declared.refusal.Refused.{Refused}
 use Rattle.ecall_top.specs.declared.refusal.Refused.TheVariants as refused
 use Rattle.ecall_top.specs.declared.status.Status.{Status}

@@ -1,10 +1,10 @@
 -- What `ecall register` replies to a script: the text of the register of its trace, in one line, or the line that
 -- refuses the first line that is refused, alone. This project's profile. Cited by the reply to words and an input.
 use Rattle.std.specs.Prelude.{ℕ, List, [], ◌∷◌, ◌++◌, Option, Some, None}
-use Rattle.trace_text.specs.Characters.{newline}
+use Rattle.line_input.specs.Characters.{newline}
 use Rattle.trace_text.specs.Script.{script_of}
-use Rattle.trace_text.specs.declared.entry.Entry.{Entry}
-use Rattle.trace_text.specs.declared.reason.BadLine.{BadLine}
+use Rattle.trace_model.specs.declared.entry.Entry.{Entry}
+use Rattle.line_input.specs.declared.reason.BadLine.{BadLine}
 use Rattle.call_register.specs.Rows.{Rows}
 use Rattle.call_register.specs.Table.{table}
 use Rattle.call_register.specs.Text.{table_text}

@@ -6,9 +6,9 @@ use Rattle.trace_audit.specs.Judged.{rule_number}
 use Rattle.trace_audit.specs.declared.rule.Rule.{Rule}
 use Rattle.trace_audit.specs.declared.verdict.Verdict.{Verdict}
 use Rattle.trace_audit.specs.declared.verdict.Verdict.TheVariants as verdict
-use Rattle.trace_text.specs.Characters.{newline}
+use Rattle.line_input.specs.Characters.{newline}
 use Rattle.trace_text.specs.EntryLine.{spaced}
-use Rattle.trace_text.specs.Lines.{lines_of}
+use Rattle.line_input.specs.Lines.{lines_of}
 use Rattle.ecall_top.specs.Refusals.{Reply, refusal_line}
 use Rattle.ecall_top.specs.declared.refusal.Refused.TheVariants as refused
 use Rattle.ecall_top.specs.declared.status.Status.{Status}

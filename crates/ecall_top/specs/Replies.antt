@@ -1,7 +1,7 @@
 -- What `ecall` replies to words and a whole input, and how often it passes the ends at most. This project's profile.
 -- Cited by the contracts of `ecall` and of `reply_laws`.
 use Rattle.std.specs.Prelude.{◌≡◌, ℕ, List, [], ◌∷◌, ◌++◌, Option, Some, None, codes}
-use Rattle.trace_text.specs.Characters.{newline}
+use Rattle.line_input.specs.Characters.{newline}
 use Rattle.trace_text.specs.Script.{script_of}
 use Rattle.ecall_top.specs.declared.command.Command.{Command}
 use Rattle.ecall_top.specs.declared.command.Command.TheVariants as command

@@ -3,9 +3,9 @@
 -- and an input, and by the contract of `ecall` on every script.
 use Rattle.std.specs.Prelude.{ℕ, List, [], Option, Some, None}
 use Rattle.msd_fit.specs.declared.facts.Facts.{Facts}
-use Rattle.trace_text.specs.declared.entry.Entry.{Entry}
-use Rattle.trace_text.specs.declared.event.Event.{Event}
-use Rattle.trace_text.specs.declared.reason.BadLine.{BadLine}
+use Rattle.trace_model.specs.declared.entry.Entry.{Entry}
+use Rattle.trace_model.specs.declared.event.Event.{Event}
+use Rattle.line_input.specs.declared.reason.BadLine.{BadLine}
 use Rattle.trace_text.specs.EntryLine.{text_of}
 use Rattle.trace_text.specs.Script.{Script, script_of}
 use Rattle.channel_sim.specs.Lines.{bound, trace, world_after}

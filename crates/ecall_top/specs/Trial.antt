@@ -2,8 +2,8 @@
 -- each. This project's profile. Cited by the contract of `trial`, and by the reply to words and an input.
 use Rattle.std.specs.Prelude.{ℕ, List, [], ◌∷◌, ◌++◌, codes, decimal}
 use Rattle.trace_text.specs.Script.{script_of}
-use Rattle.trace_text.specs.Tallies.{tally_of}
-use Rattle.trace_text.specs.declared.tally.Tally.{Tally}
+use Rattle.trace_model.specs.Tallies.{tally_of}
+use Rattle.trace_model.specs.declared.tally.Tally.{Tally}
 use Rattle.ecall_top.specs.declared.status.Status.TheVariants as status
 use Rattle.ecall_top.specs.Make.{made_script, text_of_lines}
 use Rattle.ecall_top.specs.Refusals.{Reply}

@@ -6,11 +6,11 @@ use crate::Status;
 use crate::decode_tests::{PETROL, PETROL_SAYS};
 use crate::tests::{bad, call, same_status};
 use call_io::{Failed, MemSource, Sink, Source};
+use line_input::Reason;
 use std::alloc::{AllocError, Global};
 use std::cell::Cell;
 use std::process::Abort;
 use std::test::Fail;
-use trace_text::Reason;
 
 /// Takes all that is written, and counts the bytes and the writes.
 #[derive(Drop)]

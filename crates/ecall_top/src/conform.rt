@@ -8,7 +8,7 @@ ghost use Rattle.call_io.specs.Counts.{Rose};
 ghost use Rattle.call_io.specs.Ways.{Onward};
 ghost use Rattle.hex.specs.Hex.{decode_of, encode_lower};
 ghost use Rattle.msd_codec.specs.Reading.{reading_of};
-ghost use Rattle.trace_text.specs.Characters.{space};
+ghost use Rattle.line_input.specs.Characters.{space};
 ghost use Rattle.trace_text.specs.EntryLine.{spaced};
 ghost use Rattle.trace_text.specs.Summary.{refused_words};
 ghost use Rattle.ecall_top.specs.Conform.{IsConformed, octets_of_text};
@@ -20,9 +20,9 @@ use crate::status::Status;
 use arrayvec::ArrayVec;
 use call_io::{Failed, Sink, write_all};
 use itoa::Buffer;
+use line_input::{push_number, push_word};
 use msd_codec::{decode, encode};
 use per_bits::Refusal;
-use trace_text::{push_number, push_word};
 
 /// The most octets that a set has.
 const MOST_OCTETS: usize = 140;

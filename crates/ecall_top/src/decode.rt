@@ -4,8 +4,8 @@ ghost use Rattle.std.specs.Prelude.{◌≡◌, ℕ, ◌≤◌, false, Some, Ok, 
 ghost use Rattle.call_io.specs.Blocks.{held, sink, way};
 ghost use Rattle.call_io.specs.Ways.{Onward};
 ghost use Rattle.hex.specs.Hex.{decode_of};
-ghost use Rattle.trace_text.specs.Lines.{most_in_line};
-ghost use Rattle.trace_text.specs.Words.{only_word_of, words};
+ghost use Rattle.line_input.specs.Lines.{most_in_line};
+ghost use Rattle.line_input.specs.Words.{only_word_of, words};
 ghost use Rattle.ecall_top.specs.Decode.{octets_in, octets_of_word, some_octets};
 ghost use Rattle.ecall_top.specs.Outcome.{Outcome, ReadCause, Streams, WriteCause, streams_of};
 ghost use Rattle.ecall_top.specs.inner.DecodeTurns.{SetsStanding, SetTurns, DecodesLine};
@@ -15,9 +15,9 @@ use crate::reading::read_line;
 use crate::refusal::{Refused, refuse, refuse_line};
 use crate::status::Status;
 use call_io::{Block, Sink, Source};
+use line_input::{Line, Lines, Reason, only_word};
 use msd_codec::decode;
 use msd_values::describe;
-use trace_text::{Line, Lines, Reason, only_word};
 
 /// The most octets that a line has in hexadecimal.
 const MOST_OCTETS: usize = 256;

@@ -2,11 +2,11 @@
 
 use crate::tests::{bad, expect, failing, same_status, same_text, source, told};
 use crate::{Refused, Status};
+use line_input::Reason;
 use per_bits::{Reason as SetReason, Refusal};
 use std::alloc::{AllocError, Global};
 use std::process::Abort;
 use std::test::Fail;
-use trace_text::Reason;
 
 /// A car that runs on petrol, its set made by the airbag and its place to be trusted.
 pub(crate) const PETROL: &str = "02000681d54970d65c3597ca0420c414640af05f080452e9960413e2550168";

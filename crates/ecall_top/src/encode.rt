@@ -20,8 +20,9 @@ use crate::refusal::{Refused, refuse, refuse_line};
 use crate::status::Status;
 use arrayvec::ArrayVec;
 use call_io::{Block, Failed, Sink, Source, write_all};
+use line_input::{Line, Lines, Reason};
 use msd_fit::{Cause, OwnFacts, spell};
-use trace_text::{Draft, EncodeLine, FactLine, Line, Lines, Reason, read_encode};
+use trace_text::{Draft, EncodeLine, FactLine, read_encode};
 
 /// The most bytes that the line of a set has: two digits for each of 140 octets, and its newline.
 const LONGEST_LINE: usize = 281;

@@ -4,10 +4,10 @@
 use crate::Status;
 use crate::decode_tests::PETROL;
 use crate::tests::{bad, expect, failing, same_status, same_text, source, told};
+use line_input::Reason;
 use std::alloc::{AllocError, Global};
 use std::process::Abort;
 use std::test::Fail;
-use trace_text::Reason;
 
 /// A car of which no energy is known.
 const CAR: &str =

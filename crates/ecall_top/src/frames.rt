@@ -10,10 +10,10 @@ ghost use Rattle.hex.specs.Hex.{decode_of, encode_lower};
 ghost use Rattle.link_frames.specs.Frame.{lent};
 ghost use Rattle.link_frames.specs.Reading.{HasRead};
 ghost use Rattle.link_frames.specs.declared.frame.Frame.{Frame};
-ghost use Rattle.trace_text.specs.Characters.{space};
+ghost use Rattle.line_input.specs.Characters.{space};
 ghost use Rattle.trace_text.specs.EntryLine.{answer_word, frame_words};
-ghost use Rattle.trace_text.specs.Lines.{most_in_line};
-ghost use Rattle.trace_text.specs.Words.{only_word_of, words};
+ghost use Rattle.line_input.specs.Lines.{most_in_line};
+ghost use Rattle.line_input.specs.Words.{only_word_of, words};
 ghost use Rattle.ecall_top.specs.Decode.{octets_in, octets_of_word, some_octets};
 ghost use Rattle.ecall_top.specs.Frames.{frame_line, joined, rest_line};
 ghost use Rattle.ecall_top.specs.Outcome.{Outcome, ReadCause, Streams, WriteCause, streams_of};
@@ -27,8 +27,8 @@ use crate::refusal::{Refused, refuse, refuse_line};
 use crate::status::Status;
 use arrayvec::ArrayVec;
 use call_io::{Block, Failed, Sink, Source, write_all};
+use line_input::{Line, Lines, Reason, only_word, push_number, push_word};
 use link_frames::{Answer, FrameRef, OCTETS, Reader, Request};
-use trace_text::{Line, Lines, Reason, only_word, push_number, push_word};
 
 /// The most octets that a line has in hexadecimal.
 const MOST_OCTETS: usize = 256;

@@ -3,11 +3,11 @@
 
 use crate::tests::{bad, expect, source};
 use crate::{Refused, Status};
+use line_input::Reason;
 use link_frames::{Fault, FrameFault};
 use std::alloc::{AllocError, Global};
 use std::process::Abort;
 use std::test::Fail;
-use trace_text::Reason;
 
 /// The status of an octet with which no frame goes on.
 fn no_frame(line: u32, place: u64, octet: u8, fault: Fault) -> Status {

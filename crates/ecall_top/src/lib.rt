@@ -5,7 +5,7 @@ ghost use Rattle.std.specs.Prelude.{true, false, ◌≡◌, ◌≤◌, ◌⊎◌
 ghost use Rattle.std.specs.String.{string_bytes};
 ghost use Rattle.call_io.specs.Blocks.{held, pending, sink, sink_name, way};
 ghost use Rattle.call_io.specs.Ways.{Onward};
-ghost use Rattle.trace_text.specs.Safety.{Agreed, Bounded, Finished, Opened};
+ghost use Rattle.trace_model.specs.Safety.{Agreed, Bounded, Finished, Opened};
 ghost use Rattle.trace_text.specs.Script.{script_of};
 ghost use Rattle.ecall_top.specs.Commands.{command_of, plays, reads, takes_memory};
 ghost use Rattle.ecall_top.specs.CutTraces.{IsSafelyCut};

@@ -5,7 +5,7 @@ ghost use Rattle.arrayvec.specs.ArrayVec.{array_vec_len};
 ghost use Rattle.call_io.specs.Bytes.{Grew, GrewPartly};
 ghost use Rattle.call_io.specs.Counts.{Rose};
 ghost use Rattle.call_io.specs.Ways.{Onward};
-ghost use Rattle.trace_text.specs.Characters.{space};
+ghost use Rattle.line_input.specs.Characters.{space};
 ghost use Rattle.ecall_top.specs.Make.{behind_call, call_times, drawn, gives, made_script};
 ghost use Rattle.ecall_top.specs.Outcome.{WriteCause};
 ghost use Rattle.ecall_top.specs.inner.Ends.{EndsWithText};
@@ -14,7 +14,8 @@ ghost use Rattle.ecall_top.specs.inner.Made.{AppendsLine, text_of_call};
 use crate::status::Status;
 use arrayvec::ArrayVec;
 use call_io::{Failed, Sink, write_all};
-use trace_text::{Delay, Positive, push_number};
+use line_input::push_number;
+use trace_model::{Delay, Positive};
 
 /// How many calls a script has that is made.
 pub(crate) const MADE_CALLS: u32 = 2000;

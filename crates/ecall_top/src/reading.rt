@@ -10,7 +10,7 @@ ghost use Rattle.ecall_top.specs.inner.Ends.{ReadsOn};
 use crate::refusal::fail;
 use crate::status::Status;
 use call_io::{Block, Failed, Sink, Source};
-use trace_text::Lines;
+use line_input::Lines;
 
 /// Reads one more line: true where there is one, and false at the end of the input. Where there is neither, the answer
 /// ends the command. What is pending is handed to the sink before the source is read, so that a person who types lines

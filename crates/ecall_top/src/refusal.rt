@@ -10,9 +10,9 @@ ghost use Rattle.ecall_top.specs.declared.refusal.Refused.TheVariants as refused
 use crate::status::Status;
 use arrayvec::ArrayVec;
 use call_io::{Sink, write_all};
+use line_input::{BadLine, LineFault, Reason, push_number, push_word};
 use link_frames::FrameFault;
 use per_bits::Refusal;
-use trace_text::{BadLine, LineFault, Reason, push_number, push_word};
 
 /// Why a command refuses its input.
 #[derive(Clone, Copy, Debug, PartialEq, Eq)]

@@ -3,10 +3,10 @@
 
 use crate::Status;
 use crate::tests::{FACTS, bad, expect, source};
+use line_input::Reason;
 use std::alloc::{AllocError, Global};
 use std::process::Abort;
 use std::test::Fail;
-use trace_text::Reason;
 
 /// Checks how a script ends, which stands behind these facts, and what is written.
 fn expect_run(

@@ -4,7 +4,7 @@ ghost use Rattle.std.specs.Prelude.{◌≡◌, ◌+◌, ◌^◌, ◌<◌, ◌≤
 ghost use Rattle.call_io.specs.Blocks.{held, sink, way};
 ghost use Rattle.call_io.specs.Ways.{Onward};
 ghost use Rattle.trace_text.specs.Script.{Said, script_line, placed, placed_line};
-ghost use Rattle.trace_text.specs.declared.event.Event.{Event};
+ghost use Rattle.trace_model.specs.declared.event.Event.{Event};
 ghost use Rattle.ecall_top.specs.Outcome.{Outcome, ReadCause, Streams, WriteCause, streams_of};
 ghost use Rattle.ecall_top.specs.inner.RegisterTurns.{RegisterStanding, RegisterTurn, Registers, WritesRows};
 ghost use Rattle.ecall_top.specs.inner.Stage.{IsEarly, StageStandsFor, calls_in, ticks_in};
@@ -16,10 +16,11 @@ use crate::stage::{Halt, Stage};
 use crate::status::Status;
 use call_io::{Block, Sink, Source, write_all};
 use call_register::Register;
+use line_input::{Line, Lines};
 use link_frames::Steps;
 use std::alloc::Global;
 use std::sync::ledger::Ledger;
-use trace_text::{Line, Lines, ScriptLine, read_script};
+use trace_text::{ScriptLine, read_script};
 
 /// Plays the script that the input has, and writes the register of its calls once it was read to its end. Before that
 /// nothing is written.

@@ -3,10 +3,10 @@
 
 use crate::Status;
 use crate::tests::{FACTS, bad, expand, expect, failing, same_status, same_text, source, told};
+use line_input::Reason;
 use std::alloc::Global;
 use std::process::Abort;
 use std::test::Fail;
-use trace_text::Reason;
 
 /// A call over flows that take three ticks each way. The point shows the set at tick 9.
 const CALL: &str = "flow up 3\nflow down 3\ntrigger auto\nanswer\ntick 100\n";

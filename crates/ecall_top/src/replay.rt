@@ -12,9 +12,9 @@ use crate::refusal::{Refused, refuse};
 use crate::status::Status;
 use arrayvec::ArrayVec;
 use call_io::{Sink, Source, write_all};
+use line_input::push_number;
 use std::alloc::Global;
 use trace_audit::{Rule, Verdict, audit};
-use trace_text::push_number;
 
 /// The most octets of a line that tells a verdict: a word, two numbers, and what stands between and behind them.
 const LONGEST_VERDICT: usize = 64;

@@ -2,11 +2,11 @@
 
 use crate::Status;
 use crate::tests::{bad, expand_all, expect, failing, source};
+use line_input::Reason;
 use std::alloc::Global;
 use std::process::Abort;
 use std::test::Fail;
 use trace_audit::Rule;
-use trace_text::Reason;
 
 /// A call over delayed frames, in front of the line that shows its set.
 const SENT: &str = "0 dial 1

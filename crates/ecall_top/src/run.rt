@@ -6,7 +6,7 @@ ghost use Rattle.call_io.specs.Bytes.{Grew, GrewPartly};
 ghost use Rattle.call_io.specs.Ways.{Onward};
 ghost use Rattle.trace_text.specs.EntryLine.{text_of};
 ghost use Rattle.trace_text.specs.Script.{Said, script_line, placed, placed_line};
-ghost use Rattle.trace_text.specs.declared.event.Event.{Event};
+ghost use Rattle.trace_model.specs.declared.event.Event.{Event};
 ghost use Rattle.ecall_top.specs.Outcome.{Outcome, ReadCause, Streams, WriteCause, streams_of};
 ghost use Rattle.ecall_top.specs.inner.RunTurns.{Turns, Plays};
 ghost use Rattle.ecall_top.specs.inner.Stage.{HaltWriteCause, IsEarly, StageStandsFor, Obeys, calls_in, ticks_in};
@@ -19,10 +19,11 @@ use crate::stage::{Halt, Stage};
 use crate::status::Status;
 use call_io::{Block, Sink, Source};
 use channel_sim::SimFault;
+use line_input::{Line, Lines};
 use link_frames::Steps;
 use std::alloc::Global;
 use std::sync::ledger::Ledger;
-use trace_text::{Line, Lines, ScriptLine, TextOut, read_script};
+use trace_text::{ScriptLine, TextOut, read_script};
 
 /// Plays the script that the input has, and writes its trace.
 pub(crate) fn run<I: Source, O: Sink, L: Ledger>(

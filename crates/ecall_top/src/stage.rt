@@ -1,7 +1,7 @@
 //! What a script that is being played has come to.
 
 ghost use Rattle.std.specs.Prelude.{◌≡◌, ℕ, ◌+◌, ◌^◌, ◌<◌, ◌≤◌, List, [], None, Some};
-ghost use Rattle.trace_text.specs.declared.event.Event.{Event};
+ghost use Rattle.trace_model.specs.declared.event.Event.{Event};
 ghost use Rattle.trace_text.specs.Script.{Said, nothing_said};
 ghost use Rattle.channel_sim.specs.Lines as lines;
 ghost use Rattle.channel_sim.specs.World as model;
@@ -11,10 +11,12 @@ ghost use Rattle.ecall_top.specs.inner.Stage.{HaltWriteCause, Learns, Obeys, Pla
 ghost use Rattle.ecall_top.specs.inner.Stage.{StageStandsFor, calls_in, ticks_in};
 
 use channel_sim::{SimFault, World};
+use line_input::Reason;
 use link_frames::Steps;
 use std::alloc::Global;
 use std::sync::ledger::Ledger;
-use trace_text::{Draft, Event, FactLine, Listener, Reason, ScriptLine};
+use trace_model::{Event, Listener};
+use trace_text::{Draft, FactLine, ScriptLine};
 
 /// What the lines so far have come to: facts, and from the first event line on a world.
 #[derive(Drop)]

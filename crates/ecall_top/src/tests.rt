@@ -5,6 +5,7 @@ ghost use Rattle.std.specs.Prelude.{◌≡◌, ◌<◌, ◌^◌};
 
 use crate::{Refused, Status, ecall};
 use call_io::{MemSink, MemSource, Sink, Source};
+use line_input::{BadLine, Reason};
 use link_frames::Steps;
 use std::alloc::{AllocError, Global};
 use std::marker::Brand;
@@ -12,7 +13,6 @@ use std::process::Abort;
 use std::sync::ledger::{Blank, Ledger};
 use std::test::Fail;
 use trace_audit::Rule;
-use trace_text::{BadLine, Reason};
 
 /// A set of data; the digits of its 140 octets, for which `H` stands in the expected lines; and its summary, for which
 /// `S` stands there.

@@ -4,9 +4,9 @@ ghost use Rattle.std.specs.Prelude.{◌≡◌, ℕ, ◌+◌, ◌<◌, ◌≤◌,
 ghost use Rattle.arrayvec.specs.ArrayVec.{array_vec_len};
 ghost use Rattle.call_io.specs.Ways.{Onward};
 ghost use Rattle.msd_fit.specs.declared.facts.Facts.{Facts};
-ghost use Rattle.trace_text.specs.Characters.{space};
+ghost use Rattle.line_input.specs.Characters.{space};
 ghost use Rattle.trace_text.specs.Script.{script_of};
-ghost use Rattle.trace_text.specs.declared.event.Event.{Event};
+ghost use Rattle.trace_model.specs.declared.event.Event.{Event};
 ghost use Rattle.ecall_top.specs.Make.{made_script};
 ghost use Rattle.ecall_top.specs.Outcome.{WriteCause};
 ghost use Rattle.ecall_top.specs.Run.{script_passes};
@@ -22,12 +22,13 @@ use crate::status::Status;
 use arrayvec::ArrayVec;
 use call_io::{Sink, write_all};
 use channel_sim::World;
+use line_input::push_number;
 use link_frames::Steps;
 use msd_fit::{Cause, Facts, OwnFacts};
 use msd_values::{Marks, RootKind, Vin};
 use std::alloc::Global;
 use std::sync::ledger::Ledger;
-use trace_text::{Event, Positive, Tally, push_number};
+use trace_model::{Event, Positive, Tally};
 
 /// Plays the script that a number makes, and writes the counts of its trace once it was played to its end. Before that
 /// nothing is written.

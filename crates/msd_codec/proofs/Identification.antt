@@ -10,7 +10,7 @@ use Rattle.per_bits.specs.Bits.{Part, value_of}
 use Rattle.per_bits.specs.declared.refusals.Refusal.{Refusal}
 use Rattle.per_types.specs.Types.{Tree, text, characters}
 use Rattle.per_types.specs.Stops.{Read}
-use Rattle.per_types.specs.inner.Reading.{◌>>=◌, character_at, text_at, tree_at}
+use Rattle.per_types.specs.Reading.{◌>>=◌, character_at, text_at, tree_at}
 use Rattle.per_types.proofs.Plans.{next_ok}
 use Rattle.per_types.proofs.Decided.{only_character}
 use Rattle.msd_values.specs.Alphabet.{alphabet, is_vin_character}

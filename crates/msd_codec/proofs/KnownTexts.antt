@@ -8,7 +8,7 @@ use Rattle.per_bits.proofs.Places.{part_field}
 use Rattle.per_types.specs.Kinds as kind
 use Rattle.per_types.specs.Kinds.{alphabet, width}
 use Rattle.per_types.specs.Stops.{element_at}
-use Rattle.per_types.specs.inner.Reading.{◌>>=◌, character_at, text_at}
+use Rattle.per_types.specs.Reading.{◌>>=◌, character_at, text_at}
 use Rattle.per_types.proofs.Elementwise.{character_ok, character_unknown}
 use Rattle.per_types.proofs.Plans.{behind-behind, next_ok, element_taken}
 use Rattle.msd_codec.proofs.Steps.{ok_same}

@@ -5,10 +5,11 @@ use Rattle.per_bits.specs.Bits.{Part, IsInPlace, front, octets_of, value_of}
 use Rattle.per_bits.specs.Parts.{members_of}
 use Rattle.per_bits.specs.declared.refusals.Refusal.{Refusal}
 use Rattle.per_types.specs.Kinds as kind
-use Rattle.per_types.specs.Kinds.{Kind, Element, bits_of, width}
+use Rattle.per_types.specs.Kinds.{Kind, Element, bits_of, width, whole_width}
+use Rattle.std.specs.Prelude.{ℤ, pos, ◌+ℤ◌}
 use Rattle.per_types.specs.Types.{bytes, octet_string, relative_oid}
 use Rattle.per_types.specs.Stops.{element_at}
-use Rattle.per_types.specs.inner.Reading.{◌>>=◌, octets_at, oid_at, length_at, oid_length_at, over_at, members_at, section_at, more_at, string_at, object_at, tree_at}
+use Rattle.per_types.specs.Reading.{◌>>=◌, whole_at, octets_at, oid_at, length_at, oid_length_at, over_at, members_at, section_at, more_at, string_at, object_at, tree_at}
 use Rattle.per_types.proofs.Plans.{next_ok, element_taken}
 use Rattle.per_types.proofs.Decided.{only_members}
 use Rattle.msd_codec.specs.Places.{LieBetween}
@@ -37,6 +38,17 @@ pub earlier : (all : List Bool) (a b c : ℕ) (ps : List Part) → b ≤ c → L
 earlier all a b c [] h k = omega (arith, h, k)
 earlier all a b c (p ∷ ps) h k = (k.0, k.1, k.2, earlier all (p.start + length p.bits) b c ps h k.3)
 
+-- ---- how far single elements go
+
+pub whole_step : (low high : ℤ) (p q : Part) (v : ℤ) → whole_at low high p ≡ Ok (v, q) → q.start ≡ p.start + whole_width low high
+unfolding whole_at width
+whole_step low high p q v e =
+    let n = next_ok (element_at (kind.whole low high) p) (λ b. Ok (low +ℤ pos (value_of b.0), b.1)) (v, q) e in
+    let same = ok_same (low +ℤ pos (value_of n.0.0), n.0.1) (v, q) n.2 in
+    let taken = element_taken (kind.whole low high) p n.0 n.1 in
+    let there : n.0.1.start ≡ p.start + length n.0.0 = ap (λ (x : Part). x.start) taken.left in
+    omega (arith, there, taken.accepted.width, ap (λ (x : Part). x.start) same.1)
+
 -- ---- sections
 
 pub section_members : (p a q : Part) → section_at p ≡ Ok (a, q) → members_at p ≡ Ok (members_of a.bits, q)
@@ -58,6 +70,13 @@ section_lies p a q e =
       from = omega (arith, there);
       to = omega (arith, there, end, long, left, length-take (length p.bits - length found.0.1.bits) p.bits, ap length takes.2, length-append (bits_of takes.0) q.bits);
     }
+
+pub section_fills : (p a q : Part) → section_at p ≡ Ok (a, q) → (a.start ≡ p.start) × (a.start + length a.bits ≡ q.start)
+unfolding section_at
+section_fills p a q e =
+    let found = next_ok (over_at p) (λ over. Ok (front p (length p.bits - length over.1.bits), over.1)) (a, q) e in
+    let same = ok_same (front p (length p.bits - length found.0.1.bits), found.0.1) (a, q) found.2 in
+    (sym (ap (λ (x : Part). x.start) same.0), sym (section_lies p a q e).to)
 
 pub section_moves : (p a q : Part) → section_at p ≡ Ok (a, q) → MovesOn p q
 section_moves p a q e = behind_moves p q _ ((only_members p (Ok (members_of a.bits, q))).0 (sym (section_members p a q e))).3
@@ -127,6 +146,20 @@ oid_lies p o q e =
     let same = ok_same (front count.0.1 (8 * count.0.0), octets.0.1) (o, q) octets.2 in
     let moved = subst (λ (x : Part). MovesOn p x) first.1 (element_moves kind.oid_length p n.0.1 n.0.0 n.1) in
     lies_same p _ _ o q same.0 same.1 (front_lies (kind.oid_octets count.0.0) (8 * count.0.0) p count.0.1 octets.0.1 octets.0.0 refl moved octets.1)
+
+-- an identifier begins behind its length
+pub oid_start : (p o q : Part) → oid_at p ≡ Ok (o, q) → o.start ≡ p.start + 8
+unfolding oid_at oid_length_at width
+oid_start p o q e =
+    let count = next_ok (oid_length_at p) (λ n. element_at (kind.oid_octets n.0) n.1 >>= λ b. Ok (front n.1 (8 * n.0), b.1)) (o, q) e in
+    let n = next_ok (element_at kind.oid_length p) (λ b. Ok (value_of b.0, b.1)) count.0 count.1 in
+    let first = ok_same (value_of n.0.0, n.0.1) count.0 n.2 in
+    let octets = next_ok (element_at (kind.oid_octets count.0.0) count.0.1) (λ b. Ok (front count.0.1 (8 * count.0.0), b.1)) (o, q) count.2 in
+    let same = ok_same (front count.0.1 (8 * count.0.0), octets.0.1) (o, q) octets.2 in
+    let taken = element_taken kind.oid_length p n.0 n.1 in
+    let there : n.0.1.start ≡ p.start + length n.0.0 = ap (λ (x : Part). x.start) taken.left in
+    let here : count.0.1.start ≡ o.start = ap (λ (x : Part). x.start) same.0 in
+    omega (arith, there, here, taken.accepted.width, ap (λ (x : Part). x.start) first.1)
 
 pub content_follows : (p a m b q : Part) → oid_at p ≡ Ok (a, m) → octets_at m ≡ Ok (b, q) → b.start ≡ a.start + length a.bits + 8
 content_follows p a m b q e h = omega (arith, (oid_lies p a m e).to, octets_start m b q h)

@@ -18,7 +18,7 @@ use Rattle.per_types.specs.Kinds.{Element, bits_of, width}
 use Rattle.per_types.specs.Types.{Tree}
 use Rattle.per_types.specs.Spelling.{Elements, Spells, Canonical}
 use Rattle.per_types.specs.Stops.{Read, IsOnlyReading, HasValues, Takes, element_at}
-use Rattle.per_types.specs.inner.Reading.{tree_at, format_at}
+use Rattle.per_types.specs.Reading.{tree_at, format_at}
 use Rattle.per_types.proofs.Decided.{only_type}
 use Rattle.per_types.proofs.Canonicals.{canonical_spells, one_canonical}
 use Rattle.msd_codec.specs.Module.{octet, timestamp, angle, angle_delta, vehicle_type, control_type, vehicle_identification, storages, propulsion_storage, vehicle_location, location_delta, msd_structure, additional_data, msd_message, ecall_message}
@@ -26,6 +26,7 @@ use Rattle.msd_codec.specs.Sets.{HasSize, Shows, ShowsTree, StopsAtPadding, Stop
 use Rattle.msd_codec.specs.Reading.{rest_fault, pad_fault, appended_fault, pad_count, unless, finished, reading_of}
 use Rattle.msd_values.specs.declared.msd.Msd.{Msd}
 use Rattle.msd_values.specs.Description.{description}
+use Rattle.msd_codec.specs.Places.{MessageEnds, StandInPlace}
 use Rattle.msd_codec.specs.Trees.{tree}
 use Rattle.msd_codec.proofs.Values.{set_of}
 use Rattle.msd_codec.proofs.Alike.{AreAlike, are_alike, described}
@@ -434,6 +435,18 @@ module _ (octets : List ℕ) (p : Part) (size : HasSize octets) (is : p ≡ all_
   pub passed : (q : Part) (v : Tree) (place : ℕ) → tree_at ecall_message p ≡ Ok (v, q) → place ≡ q.start → rest_fault octets place ≡ None → reading_of octets ≡ Ok v
   passed q v place h there f =
       read_sized octets size ∙ ap (λ (x : Part). finished octets (tree_at ecall_message x)) (sym is) ∙ ap (finished octets) h ∙ ap (λ n. unless (rest_fault octets n) v) (sym there) ∙ ap (λ o. unless o v) f
+
+  pub in_place : (q : Part) (msd : Msd) → tree_at ecall_message p ≡ Ok (tree msd, q) → MessageEnds msd q.start → StandInPlace (octet_bits octets) msd
+  in_place q msd h ends =
+      let takes = (only_set p (Ok (tree msd, q))).0 (sym h) in
+      let there : q.start ≡ length (bits_of takes.0) = ap (λ (x : Part). x.start) takes.3 ∙ ap (λ (x : Part). x.start + length (bits_of takes.0)) is ∙ omega arith in
+      record {
+        elements = takes.0;
+        spelled = takes.1;
+        behind_it = q.bits;
+        begins = ap (λ (x : Part). x.bits) (sym is) ∙ takes.2;
+        ends = subst (λ (n : ℕ). MessageEnds msd n) there ends;
+      }
 
 pub exit_stopped : {X : Type 0} (octets : List ℕ) (r : Result X Refusal) (e : Refusal) → AreOctets octets → IsErrAnd r (λ y. y ≡ e) → reading_of octets ≡ Err e → IfErr r (λ refusal. StopsAt octets refusal)
 exit_stopped octets r e small is same = let p = err_from_is_err_and r is in rw (p.1, p.2) (answer_is octets (Err e) small (sym same))

@@ -12,7 +12,7 @@ use Rattle.per_types.specs.Kinds.{Element, width, fault, first_bit}
 use Rattle.per_types.specs.Types.{Tree, truth, number, record_of, Fields, no_fields, field, absent, Ty, boolean, integer, format, sequence, Components, no_components, required, optional, default, presence_count}
 use Rattle.per_types.specs.Spelling.{Elements, PresenceElements, TruthElements, WholeElements, FormatElements}
 use Rattle.per_types.specs.Stops.{Read, IsOnlyReading, HasValues, element_at}
-use Rattle.per_types.specs.inner.Reading.{◌>>=◌, Gives, truth_at, truth_at, whole_at, format_at, extended_at, presence_at, more_at, tree_at, fields_at}
+use Rattle.per_types.specs.Reading.{◌>>=◌, Gives, truth_at, truth_at, whole_at, format_at, extended_at, presence_at, more_at, tree_at, fields_at}
 use Rattle.per_types.proofs.Plans.{element_accepted, element_taken, next_ok}
 use Rattle.per_types.proofs.Decided.{only_type, only_presence, only_truth, only_whole, only_format}
 use Rattle.msd_codec.specs.Module.{octet, timestamp, control_type, vehicle_identification, propulsion_storage, vehicle_location, location_delta, msd_structure}

@@ -5,7 +5,7 @@ use Rattle.per_bits.specs.declared.refusals.Refusal.{Refusal}
 use Rattle.per_types.specs.Types.{root, added, enumerated}
 use Rattle.per_types.specs.declared.index.EnumIndex.{EnumIndex}
 use Rattle.per_types.specs.declared.index.EnumIndex.TheVariants.{Root, Added}
-use Rattle.per_types.specs.inner.Reading.{enum_at, index_tree, tree_at}
+use Rattle.per_types.specs.Reading.{enum_at, index_tree, tree_at}
 use Rattle.per_types.proofs.Decided.{only_type}
 use Rattle.msd_codec.specs.inner.Reading.{MovesOn}
 use Rattle.msd_codec.proofs.Steps.{tree_moves}

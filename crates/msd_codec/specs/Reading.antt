@@ -8,7 +8,7 @@ use Rattle.per_bits.specs.declared.refusals.Refusal.{Refusal}
 use Rattle.per_bits.specs.declared.refusals.Reason.TheVariants.{PadBits, Trailing, Size}
 use Rattle.per_types.specs.Types.{Tree}
 use Rattle.per_types.specs.Stops.{Read}
-use Rattle.per_types.specs.inner.Reading.{tree_at}
+use Rattle.per_types.specs.Reading.{tree_at}
 use Rattle.msd_codec.specs.Module.{ecall_message}
 
 -- the first bit 1 of those that begin at this place

@@ -4,7 +4,7 @@ ghost use Rattle.per_bits.specs.Bits.{octet_bits};
 ghost use Rattle.msd_codec.specs.Trees.{tree};
 ghost use Rattle.msd_codec.specs.Reading.{reading_of};
 ghost use Rattle.msd_codec.specs.Sets.{Shows, StopsAt};
-ghost use Rattle.msd_codec.specs.Places.{LieBetween, ContentFollows, parts_of};
+ghost use Rattle.msd_codec.specs.Places.{LieBetween, ContentFollows, StandInPlace, parts_of};
 
 mod elements;
 mod message;
@@ -32,6 +32,8 @@ pub fn decode(octets: &[u8]) -> Result<Msd<'_>, Refusal>
     ensures parts { IfOk result (λ msd. LieBetween (octet_bits octets.now) 0 (parts_of msd) (length (octet_bits octets.now))) }
     // Where the content of additional data has no octets, its bits say nothing of its place.
     ensures content { IfOk result (λ msd. IfSome msd.extra ContentFollows) }
+    // And each stands exactly where the spelling has it.
+    ensures places { IfOk result (λ msd. StandInPlace (octet_bits octets.now) msd) }
 {
     if octets.is_empty() || octets.len() > MOST_OCTETS {
         return Err(Refusal {

@@ -3,7 +3,7 @@ use Rattle.std.proofs.Common.{◌≡◌, ℕ, ◌+◌, ◌-◌, ◌≤◌, List,
 use Rattle.std.proofs.lemmas.List.{append_assoc, take_at, drop_at, drop-drop, drop-replicate}
 use Rattle.per_bits.specs.Parts.{AreOctets, IsOid}
 use Rattle.msd_fit.specs.Candidates.{most_together}
-use Rattle.msd_fit.specs.inner.Stored.{StoresData, stored}
+use Rattle.msd_fit.specs.Stored.{StoresData, stored}
 
 stored_oid : (oid content : List ℕ) (n : ℕ) → take (length oid) (stored oid content n) ≡ oid
 stored_oid oid content n =

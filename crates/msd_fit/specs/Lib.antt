@@ -1,3 +1,4 @@
 pub mod Candidates
 pub mod Fitting
+pub mod Stored
 pub mod inner

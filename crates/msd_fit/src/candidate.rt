@@ -23,7 +23,7 @@ pub struct Candidate {
 impl Model for Candidate {
     ghost use Rattle.std.specs.Prelude.{◌+◌, length, take, drop};
     ghost use Rattle.msd_fit.specs.Candidates.{AdditionalData};
-    ghost use Rattle.msd_fit.specs.inner.Stored.{StoresData, stored, given_back};
+    ghost use Rattle.msd_fit.specs.Stored.{StoresData, stored, given_back};
 
     ghost Value = { AdditionalData };
 

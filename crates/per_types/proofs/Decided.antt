@@ -7,14 +7,14 @@ use Rattle.per_bits.specs.Bits.{Part, behind}
 use Rattle.per_types.specs.Kinds.{Element, bits_of}
 use Rattle.per_types.specs.Types.{Tree, Ty}
 use Rattle.per_types.specs.Spelling.{Elements, Spells, TruthElements, WholeElements, PresenceElements, CharacterElements, SmallElements, LengthElements, StringElements, OidElements, FormatElements, OpenElements, SectionElements}
-use Rattle.per_types.specs.inner.Reading.{◌>>=◌, Gives}
+use Rattle.per_types.specs.Reading.{◌>>=◌, Gives}
 use Rattle.per_bits.specs.declared.refusals.Refusal.{Refusal}
 use Rattle.per_types.specs.Stops.{Read, Reads, IsReading, IsOnlyReading, HasValues}
-use Rattle.per_types.specs.inner.Reading.{truth_at, whole_at, presence_at, character_at, small_at, length_at, string_at, object_at, format_at, content_at, members_at, tree_at}
+use Rattle.per_types.specs.Reading.{truth_at, whole_at, presence_at, character_at, small_at, length_at, string_at, object_at, format_at, content_at, members_at, tree_at}
 use Rattle.per_types.specs.declared.index.EnumIndex.{EnumIndex}
 use Rattle.per_types.specs.declared.index.EnumIndex.TheVariants.{Root, Added}
 use Rattle.per_types.specs.Writing.{EnumElements}
-use Rattle.per_types.specs.inner.Reading.{enum_at}
+use Rattle.per_types.specs.Reading.{enum_at}
 use Rattle.per_types.proofs.Strings.{EnumElements as IndexElements, enum_plan, follows_enum}
 use Rattle.per_types.proofs.Lives.{live_enum}
 use Rattle.per_types.proofs.Readings.{enum_run}

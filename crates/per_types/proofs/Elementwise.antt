@@ -13,7 +13,8 @@ use Rattle.per_bits.proofs.Digits.{value_below, digits_value}
 use Rattle.per_types.specs.Kinds as kind
 use Rattle.per_types.specs.Kinds.{Kind, width, fault, Fault, at_once, first_bit, whole_width, alphabet}
 use Rattle.per_types.specs.Stops.{Read, element_at}
-use Rattle.per_types.specs.inner.Reading.{IsShort, truth_at, whole_at, presence_at, character_at, small_at, length_at, format_at}
+use Rattle.per_types.specs.Reading.{truth_at, whole_at, presence_at, character_at, small_at, length_at, format_at}
+use Rattle.per_types.specs.inner.Short.{IsShort}
 use Rattle.per_types.proofs.Plans.{element_at-enough}
 
 -- ---- one element

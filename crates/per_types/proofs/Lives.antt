@@ -15,7 +15,7 @@ use Rattle.per_types.specs.Kinds.{Kind, first_bit, alphabet, span, whole_width, 
 use Rattle.per_types.proofs.Widths.{has_width}
 use Rattle.per_types.specs.Types.{truth, number, text, bytes, record_of, field, absent, Ty, boolean, integer, characters, octet_string, relative_oid, enumerated, format, sequence, Components, no_components, required, optional, default, presence_count}
 use Rattle.per_types.specs.Stops.{HasValues, HaveValues}
-use Rattle.per_types.specs.inner.Reading.{index_tree}
+use Rattle.per_types.specs.Reading.{index_tree}
 use Rattle.per_types.proofs.Plans.{Plan, done, chain, Live, Accepted}
 use Rattle.per_types.proofs.Leaves.{live_chain, Headed, headed, accepted_truth, accepted_small, accepted_length, accepted_oid_length, accepted_open_length, accepted_presence, accepted_character, accepted_format, accepted_whole, truth_plan, whole_plan, presence_plan, character_plan, text_plan, format_plan, small_plan, length_plan}
 use Rattle.per_types.proofs.Strings.{accepted_octets, accepted_oid_octets, accepted_root, accepted_additions, string_plan, oid_plan, index_plan, enum_plan, open_plan, opens_plan, section_plan}

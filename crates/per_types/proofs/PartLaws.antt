@@ -8,7 +8,7 @@ use Rattle.per_bits.specs.declared.refusals.Refusal.{Refusal}
 use Rattle.per_types.specs.Kinds as kind
 use Rattle.per_types.specs.Kinds.{Kind, width}
 use Rattle.per_types.specs.Stops.{element_at}
-use Rattle.per_types.specs.inner.Reading.{◌>>=◌, length_at, octets_at, string_at, oid_length_at, oid_at, object_at, open_length_at, open_at, content_at, over_at, members_at, section_at, Gives}
+use Rattle.per_types.specs.Reading.{◌>>=◌, length_at, octets_at, string_at, oid_length_at, oid_at, object_at, open_length_at, open_at, content_at, over_at, members_at, section_at, Gives}
 use Rattle.per_types.proofs.Plans.{value, next_ok, element_taken, behind-behind}
 use Rattle.per_types.proofs.Sectionwise.{over_section}
 

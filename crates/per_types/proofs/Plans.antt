@@ -8,7 +8,7 @@ use Rattle.per_bits.specs.Bits.{Part, behind}
 use Rattle.per_bits.specs.declared.refusals.Refusal.{Refusal}
 use Rattle.per_types.specs.Kinds.{Kind, width, fault, Fault, Element, bits_of}
 use Rattle.per_types.specs.Stops.{Read, judged, element_at, Stops, Takes}
-use Rattle.per_types.specs.inner.Reading.{◌>>=◌}
+use Rattle.per_types.specs.Reading.{◌>>=◌}
 
 pub data Plan (X : Type 0) : Type 0 where
   done : X → Plan X

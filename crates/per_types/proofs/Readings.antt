@@ -11,7 +11,7 @@ use Rattle.per_bits.specs.Parts.{Member, members_of}
 use Rattle.per_bits.proofs.SectionLaws.{members_read}
 use Rattle.per_types.specs.Types.{Tree, truth, number, text, bytes, record_of, Fields, field, absent, Ty, boolean, integer, characters, octet_string, relative_oid, enumerated, format, sequence, Components, no_components, required, optional, default, presence_count}
 use Rattle.per_types.specs.Stops.{Read, element_at}
-use Rattle.per_types.specs.inner.Reading.{◌>>=◌, truth_at, whole_at, presence_at, character_at, small_at, length_at, octets_at, oid_at, oid_length_at, open_length_at, string_at, object_at, added_at, root_at, enum_at, format_at, open_at, content_at, additions_at, member_at, opens_at, over_at, section_at, members_at, text_at, extended_at, more_at, index_tree, tree_at, fields_at}
+use Rattle.per_types.specs.Reading.{◌>>=◌, truth_at, whole_at, presence_at, character_at, small_at, length_at, octets_at, oid_at, oid_length_at, open_length_at, string_at, object_at, added_at, root_at, enum_at, format_at, open_at, content_at, additions_at, member_at, opens_at, over_at, section_at, members_at, text_at, extended_at, more_at, index_tree, tree_at, fields_at}
 use Rattle.per_types.proofs.Plans.{Plan, done, ask, chain, run, run_takes, next_next, next_along, element_taken}
 use Rattle.per_types.proofs.Leaves.{truth_plan, whole_plan, presence_plan, character_plan, text_plan, format_plan, small_plan, length_plan}
 use Rattle.per_types.proofs.Strings.{string_plan, oid_plan, index_plan, enum_plan, open_plan, opens_plan, section_plan, follows_section}

@@ -11,7 +11,8 @@ use Rattle.per_types.specs.Kinds as kind
 use Rattle.per_types.specs.Kinds.{width, fault, at_once, bits_of}
 use Rattle.per_types.specs.Stops.{Read}
 use Rattle.per_types.specs.Spelling.{SectionElements}
-use Rattle.per_types.specs.inner.Reading.{IsShort, ◌>>=◌, Gives, small_at, open_at, additions_at, member_at, opens_at, over_at, section_at}
+use Rattle.per_types.specs.Reading.{◌>>=◌, Gives, small_at, open_at, additions_at, member_at, opens_at, over_at, section_at}
+use Rattle.per_types.specs.inner.Short.{IsShort}
 use Rattle.per_types.proofs.Plans.{run, run_takes, next_ok}
 use Rattle.per_types.proofs.Strings.{section_plan, follows_section}
 use Rattle.per_types.proofs.Readings.{over_run}

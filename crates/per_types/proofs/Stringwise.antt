@@ -13,7 +13,8 @@ use Rattle.per_types.specs.declared.index.EnumIndex.{EnumIndex}
 use Rattle.per_types.specs.declared.index.EnumIndex.TheVariants.{Root, Added}
 use Rattle.per_types.specs.Kinds as kind
 use Rattle.per_types.specs.Kinds.{Kind, width, fault, Fault, at_once, first_bit, root_width, is_last, oid_fault}
-use Rattle.per_types.specs.inner.Reading.{IsShort, Gives, truth_at, small_at, added_at, root_at, enum_at, length_at, octets_at, oid_length_at, oid_at, open_length_at, open_at}
+use Rattle.per_types.specs.Reading.{Gives, truth_at, small_at, added_at, root_at, enum_at, length_at, octets_at, oid_length_at, oid_at, open_length_at, open_at}
+use Rattle.per_types.specs.inner.Short.{IsShort}
 use Rattle.per_types.proofs.Elementwise.{Prefix, prefix_high, prefix_low, short_step, ok_step, bad_step, once_step}
 
 -- ---- enumerations

@@ -8,7 +8,7 @@ use Rattle.per_types.specs.Kinds as kind
 use Rattle.per_types.specs.Kinds.{first_bit, Element, element}
 use Rattle.per_types.specs.Types.{Tree, truth, number, text, bytes, root, added, record_of, Fields, no_fields, field, absent, Ty, boolean, integer, characters, octet_string, relative_oid, enumerated, format, sequence, Components, no_components, required, optional, default, presence_count}
 use Rattle.per_types.specs.Spelling.{Elements, Present, MoreElements, SectionElements, mark_elements}
-use Rattle.per_types.specs.inner.Reading.{index_tree}
+use Rattle.per_types.specs.Reading.{index_tree}
 use Rattle.per_types.proofs.Plans.{Plan, done, ask, chain, Path, Follows}
 use Rattle.per_types.proofs.Leaves.{asked, chained, path_chain, truth_plan, follows_truth, whole_plan, follows_whole, presence_plan, follows_presence, text_plan, follows_text, format_plan, follows_format, accepted_truth, truth_bit}
 use Rattle.per_types.proofs.Strings.{string_plan, follows_string, oid_plan, follows_oid, EnumElements, enum_plan, follows_enum, section_plan, follows_section, path_last}

@@ -6,7 +6,7 @@ ghost use Rattle.per_types.specs.Types.{Ty, Tree};
 ghost use Rattle.per_types.specs.Spelling.{Elements, Spells, Canonical, TruthElements, WholeElements, PresenceElements, CharacterElements, SmallElements, LengthElements, StringElements, OidElements, FormatElements, OpenElements, SectionElements};
 ghost use Rattle.per_types.specs.Writing.{EnumElements};
 ghost use Rattle.per_types.specs.Stops.{IsOnlyReading, HasValues};
-ghost use Rattle.per_types.specs.inner.Reading.{truth_at, enum_at, whole_at, presence_at, character_at, small_at, length_at, format_at, content_at, members_at, tree_at, string_at, object_at};
+ghost use Rattle.per_types.specs.Reading.{truth_at, enum_at, whole_at, presence_at, character_at, small_at, length_at, format_at, content_at, members_at, tree_at, string_at, object_at};
 
 /// No spelling begins another one of its type, and each stands for one value.
 pub fn spellings_are_apart()

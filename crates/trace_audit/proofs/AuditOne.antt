@@ -1,17 +1,17 @@
 -- The lines of a trace have one verdict.
 use Rattle.std.specs.Prelude.{◌≡◌, ◌≤◌, ◌<◌, ◌+◌, ◌⊎◌, ℕ, List, [], ◌∷◌, ◌++◌, length, Some, Ok}
 use Rattle.std.proofs.Common.{refl, sym, ap, subst, ◌∙◌, inl, inr, arith, append_assoc}
-use Rattle.trace_text.specs.declared.entry.Entry.{Entry}
-use Rattle.trace_text.specs.declared.reason.BadLine.{BadLine}
-use Rattle.trace_text.specs.declared.reason.Reason.{Reason}
-use Rattle.trace_text.specs.Safety.{Safe}
-use Rattle.trace_text.proofs.Fronts.{nothing_safe, safe_front}
+use Rattle.trace_model.specs.declared.entry.Entry.{Entry}
+use Rattle.line_input.specs.declared.reason.BadLine.{BadLine}
+use Rattle.line_input.specs.declared.reason.Reason.{Reason}
+use Rattle.trace_model.specs.Safety.{Safe}
+use Rattle.trace_model.proofs.Fronts.{nothing_safe, safe_front}
 use Rattle.trace_audit.specs.declared.rule.Rule.{Rule}
 use Rattle.trace_audit.specs.declared.rule.Rule.TheVariants as rule
 use Rattle.trace_audit.specs.declared.verdict.Verdict.{Verdict}
 use Rattle.trace_audit.specs.declared.verdict.Verdict.TheVariants as verdict
 use Rattle.trace_audit.specs.Audit.{Audits, IsBroken, IsFirst, IsRefused, IsSafeTrace, IsTrace, IsUnrefused, NeverFall, entries_of, in_front, line_says}
-use Rattle.trace_text.specs.Tallies.{last_tick}
+use Rattle.trace_model.specs.Tallies.{last_tick}
 use Rattle.trace_audit.specs.Judged.{Judges}
 use Rattle.trace_audit.proofs.AuditRead.{AreUnrefused, entries_append}
 

@@ -6,24 +6,24 @@ use Rattle.std.proofs.Common.{refl, sym, ap, subst, ◌∙◌, inl, inr, arith, 
 use Rattle.std.proofs.lemmas.Bool.{false≢true}
 use Rattle.std.proofs.lemmas.List.{append-nil}
 use Rattle.call_io.specs.Bytes.{Took}
-use Rattle.trace_text.specs.declared.entry.Entry.{Entry}
-use Rattle.trace_text.specs.declared.fault.LineFault.{LineFault}
-use Rattle.trace_text.specs.declared.fault.LineFault.TheVariants as fault
-use Rattle.trace_text.specs.declared.reason.BadLine.{BadLine}
-use Rattle.trace_text.specs.declared.reason.Reason.{Reason}
-use Rattle.trace_text.specs.declared.reason.Reason.TheVariants as reason
+use Rattle.trace_model.specs.declared.entry.Entry.{Entry}
+use Rattle.line_input.specs.declared.fault.LineFault.{LineFault}
+use Rattle.line_input.specs.declared.fault.LineFault.TheVariants as fault
+use Rattle.line_input.specs.declared.reason.BadLine.{BadLine}
+use Rattle.line_input.specs.declared.reason.Reason.{Reason}
+use Rattle.line_input.specs.declared.reason.Reason.TheVariants as reason
 use Rattle.trace_text.specs.EntryLines.{entry_of}
-use Rattle.trace_text.specs.Feed.{IsDone}
-use Rattle.trace_text.specs.Lines.{IsWhole, IsLine, IsPassedOver, Numbered, line_fault, lines_of, most_bytes}
-use Rattle.trace_text.specs.Reading.{FindsBad, FindsEnd, FindsLine, FindsTooMany, MayFollow, Reading, ReadsLine, first_reading}
-use Rattle.trace_text.specs.Safety.{Safe}
+use Rattle.line_input.specs.Feed.{IsDone}
+use Rattle.line_input.specs.Lines.{IsWhole, IsLine, IsPassedOver, Numbered, line_fault, lines_of, most_bytes}
+use Rattle.line_input.specs.Reading.{FindsBad, FindsEnd, FindsLine, FindsTooMany, MayFollow, Reading, ReadsLine, first_reading}
+use Rattle.trace_model.specs.Safety.{Safe}
 use Rattle.trace_audit.specs.declared.audit_lines.Heard.{Heard}
 use Rattle.trace_audit.specs.declared.rule.Rule.{Rule}
 use Rattle.trace_audit.specs.declared.rules.Rules.{Rules}
 use Rattle.trace_audit.specs.declared.verdict.Verdict.{Verdict}
 use Rattle.trace_audit.specs.declared.verdict.Verdict.TheVariants as verdict
 use Rattle.trace_audit.specs.Audit.{Audits, IsRefused, IsSafeTrace, IsUnrefused, NeverFall, entries_of, in_front, line_says, some_entry}
-use Rattle.trace_text.specs.Tallies.{last_tick}
+use Rattle.trace_model.specs.Tallies.{last_tick}
 use Rattle.trace_audit.specs.Judged.{Judges}
 use Rattle.trace_audit.specs.Outcome.{Answered, IsSettled, Outcome}
 use Rattle.trace_audit.specs.RulesStand.{RulesStandFor}

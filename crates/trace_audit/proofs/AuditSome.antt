@@ -11,11 +11,11 @@ use Rattle.link_frames.specs.declared.frame.End.TheVariants as «end»
 use Rattle.link_frames.specs.declared.note.Note.{Note}
 use Rattle.link_frames.specs.declared.note.Note.TheVariants as note
 use Rattle.link_frames.specs.Legs.{muting_limit, owner, through}
-use Rattle.trace_text.specs.declared.entry.Entry.{Entry}
-use Rattle.trace_text.specs.declared.reason.Reason.{Reason}
-use Rattle.trace_text.specs.declared.reason.Reason.TheVariants as reason
-use Rattle.trace_text.specs.Safety.{Agreed, Bounded, IsShown, IsShownFirst, IsWithin, Leg, Opened, OwesOpening, Safe, WasShown, first_leg, is_owned, leg_at, leg_behind, leg_step, own}
-use Rattle.trace_text.proofs.Fronts.{agreed_one, nothing_safe, opened_one}
+use Rattle.trace_model.specs.declared.entry.Entry.{Entry}
+use Rattle.line_input.specs.declared.reason.Reason.{Reason}
+use Rattle.line_input.specs.declared.reason.Reason.TheVariants as reason
+use Rattle.trace_model.specs.Safety.{Agreed, Bounded, IsShown, IsShownFirst, IsWithin, Leg, Opened, OwesOpening, Safe, WasShown, first_leg, is_owned, leg_at, leg_behind, leg_step, own}
+use Rattle.trace_model.proofs.Fronts.{agreed_one, nothing_safe, opened_one}
 use Rattle.trace_audit.specs.declared.rule.Rule.{Rule}
 use Rattle.trace_audit.specs.declared.rule.Rule.TheVariants as rule
 use Rattle.trace_audit.specs.declared.rules.LegOf.{LegOf}
@@ -23,7 +23,7 @@ use Rattle.trace_audit.specs.declared.verdict.Verdict.{Verdict}
 use Rattle.trace_audit.specs.declared.verdict.Verdict.TheVariants as verdict
 use Rattle.trace_audit.specs.declared.voice.Voice.{Voice}
 use Rattle.trace_audit.specs.Audit.{Audits, IsRefused, IsSafeTrace, IsTrace, IsUnrefused, NeverFall, entries_of, in_front, line_says}
-use Rattle.trace_text.specs.Tallies.{last_tick}
+use Rattle.trace_model.specs.Tallies.{last_tick}
 use Rattle.trace_audit.specs.Judged.{Judges}
 use Rattle.trace_audit.specs.LegsStand.{IsVoiceOf}
 use Rattle.trace_audit.specs.RulesStand.{IsOwed}

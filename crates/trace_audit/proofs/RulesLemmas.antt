@@ -11,14 +11,14 @@ use Rattle.link_frames.specs.declared.frame.End.TheVariants as «end»
 use Rattle.link_frames.specs.declared.note.Note.{Note}
 use Rattle.link_frames.specs.declared.note.Note.TheVariants as note
 use Rattle.link_frames.specs.Legs.{is_data_timer, least_opening, muting_limit, through}
-use Rattle.trace_text.specs.declared.entry.Entry.{Entry}
-use Rattle.trace_text.specs.Safety.{Agreed, Bounded, IsShownFirst, IsWithin, Leg, MustOpen, Opened, OwesOpening, TurnsMuted, ends_wait, first_leg, is_leg, is_own, leg_at, leg_behind, leg_moved, leg_step, own, revoiced, same_end}
-use Rattle.trace_text.proofs.Fronts.{agreed_one, bounded_one, leg_one, opened_one, step_within}
+use Rattle.trace_model.specs.declared.entry.Entry.{Entry}
+use Rattle.trace_model.specs.Safety.{Agreed, Bounded, IsShownFirst, IsWithin, Leg, MustOpen, Opened, OwesOpening, TurnsMuted, ends_wait, first_leg, is_leg, is_own, leg_at, leg_behind, leg_moved, leg_step, own, revoiced, same_end}
+use Rattle.trace_model.proofs.Fronts.{agreed_one, bounded_one, leg_one, opened_one, step_within}
 use Rattle.trace_audit.specs.declared.legs.Legs.{Legs}
 use Rattle.trace_audit.specs.declared.rules.LegOf.{LegOf}
 use Rattle.trace_audit.specs.declared.rules.Rules.{Rules}
 use Rattle.trace_audit.specs.declared.voice.Voice.{Voice}
-use Rattle.trace_text.specs.Tallies.{last_tick}
+use Rattle.trace_model.specs.Tallies.{last_tick}
 use Rattle.trace_audit.specs.LegsStand.{IsVoiceOf, Keeps, LegsStandFor, voice_at}
 use Rattle.trace_audit.specs.RulesStand.{IsOwed, RulesStandFor}
 use Rattle.trace_audit.specs.inner.Legs.{AreWithin, Moves, MovesNone, changed, turned, voice_behind}

@@ -7,8 +7,8 @@ use Rattle.std.proofs.Common.{refl, sym, ap, subst, ◌∙◌, inl, inr}
 use Rattle.std.proofs.lemmas.Bool.Decides.{Decides-eqb, Decides-and}
 use Rattle.link_frames.specs.declared.note.Note.{Note}
 use Rattle.link_frames.specs.declared.note.Note.TheVariants as note
-use Rattle.trace_text.specs.declared.entry.Entry.{Entry}
-use Rattle.trace_text.specs.Safety.{IsShown, WasShown}
+use Rattle.trace_model.specs.declared.entry.Entry.{Entry}
+use Rattle.trace_model.specs.Safety.{IsShown, WasShown}
 use Rattle.trace_audit.specs.declared.shown.Showing.{Showing}
 use Rattle.trace_audit.specs.declared.shown.Shown.{Shown}
 use Rattle.trace_audit.specs.ShownStands.{ShownStandsFor, same_showing}

@@ -6,11 +6,11 @@ use Rattle.std.proofs.lemmas.List.{append-nil}
 use Rattle.std.proofs.lemmas.Bool.{false≢true}
 use Rattle.call_io.specs.Bytes.{Took}
 use Rattle.call_io.proofs.BytesLemmas.{Took-append, Took-nothing}
-use Rattle.trace_text.specs.Feed.{Draws, IsDone}
-use Rattle.trace_text.specs.Reading.{Reading, MayFollow, first_reading, FindsLine, FindsEnd, FindsTooMany, ReadsLine}
-use Rattle.trace_text.specs.Lines.{AreWholeLines, IsWhole, lines_of, most_bytes}
+use Rattle.line_input.specs.Feed.{Draws, IsDone}
+use Rattle.line_input.specs.Reading.{Reading, MayFollow, first_reading, FindsLine, FindsEnd, FindsTooMany, ReadsLine}
+use Rattle.line_input.specs.Lines.{AreWholeLines, IsWhole, lines_of, most_bytes}
 use Rattle.trace_audit.specs.inner.AuditTurns.{TakenSoFar}
-use Rattle.trace_text.proofs.WholeLines.{whole_lines, whole_append}
+use Rattle.line_input.proofs.WholeLines.{whole_lines, whole_append}
 
 -- nothing was taken yet
 pub taken_first : (start : Option (List ℕ)) → TakenSoFar start start first_reading []

@@ -1,7 +1,7 @@
 -- Which rule a trace breaks, if it breaks one. This project's profile. Cited by the contracts of `Rules` and `audit`.
 use Rattle.std.specs.Prelude.{ℕ, List, [], ◌∷◌, Option, Some, None}
-use Rattle.trace_text.specs.declared.entry.Entry.{Entry}
-use Rattle.trace_text.specs.Safety.{Agreed, Bounded, Opened, Safe}
+use Rattle.trace_model.specs.declared.entry.Entry.{Entry}
+use Rattle.trace_model.specs.Safety.{Agreed, Bounded, Opened, Safe}
 use Rattle.trace_audit.specs.declared.rule.Rule.{Rule}
 use Rattle.trace_audit.specs.declared.rule.Rule.TheVariants as rule
 

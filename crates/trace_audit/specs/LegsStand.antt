@@ -4,12 +4,12 @@ use Rattle.std.specs.Prelude.{◌≡◌, ◌≤◌, ◌⊎◌, ℕ, true, false,
 use Rattle.std.specs.List.{AllByRecursion}
 use Rattle.std.specs.HashMap.{get}
 use Rattle.link_frames.specs.declared.frame.End.{End}
-use Rattle.trace_text.specs.declared.entry.Entry.{Entry}
-use Rattle.trace_text.specs.Safety.{Leg, leg_at}
+use Rattle.trace_model.specs.declared.entry.Entry.{Entry}
+use Rattle.trace_model.specs.Safety.{Leg, leg_at}
 use Rattle.trace_audit.specs.declared.legs.Legs.{Legs}
 use Rattle.trace_audit.specs.declared.legs.Muting.{Muting}
 use Rattle.trace_audit.specs.declared.voice.Voice.{Voice}
-use Rattle.trace_text.specs.Tallies.{last_tick}
+use Rattle.trace_model.specs.Tallies.{last_tick}
 
 -- the voice that is kept of a call's leg; there is none where the leg isn't up
 abbrev pub voice_at : Legs → ℕ → Option Voice

@@ -4,8 +4,8 @@ use Rattle.std.specs.Prelude.{◌≡◌, ℕ, ◌<◌, ◌≤◌, ◌⊎◌, Lis
 use Rattle.std.specs.List.{AllByRecursion}
 use Rattle.call_io.specs.Bytes.{Took}
 use Rattle.call_io.specs.Counts.{Rose}
-use Rattle.trace_text.specs.Feed.{IsInner}
-use Rattle.trace_text.specs.Lines.{AreWholeLines, IsWhole, lines_of, most_bytes, most_in_line}
+use Rattle.line_input.specs.Feed.{IsInner}
+use Rattle.line_input.specs.Lines.{AreWholeLines, IsWhole, lines_of, most_bytes, most_in_line}
 use Rattle.trace_audit.specs.Audit.{Audits}
 use Rattle.trace_audit.specs.declared.verdict.Verdict.{Verdict}
 use Rattle.trace_audit.specs.declared.verdict.Verdict.TheVariants as verdict

@@ -3,11 +3,11 @@
 use Rattle.std.specs.Prelude.{◌≡◌, ◌↔◌, ℕ, List, Option, Some, None}
 use Rattle.link_frames.specs.declared.frame.End.{End}
 use Rattle.link_frames.specs.declared.frame.End.TheVariants as «end»
-use Rattle.trace_text.specs.declared.entry.Entry.{Entry}
-use Rattle.trace_text.specs.Safety.{OwesOpening, Safe, first_leg}
+use Rattle.trace_model.specs.declared.entry.Entry.{Entry}
+use Rattle.trace_model.specs.Safety.{OwesOpening, Safe, first_leg}
 use Rattle.trace_audit.specs.declared.rules.LegOf.{LegOf}
 use Rattle.trace_audit.specs.declared.rules.Rules.{Rules}
-use Rattle.trace_text.specs.Tallies.{last_tick}
+use Rattle.trace_model.specs.Tallies.{last_tick}
 use Rattle.trace_audit.specs.LegsStand.{LegsStandFor}
 use Rattle.trace_audit.specs.ShownStands.{ShownStandsFor}
 

@@ -2,8 +2,8 @@
 use Rattle.std.specs.Prelude.{◌≡◌, ◌==◌, ◌&&◌, ◌↔◌, ℕ, Bool, true, List, nat_eq}
 use Rattle.std.specs.Cmp.Lexicographic.{pointwise}
 use Rattle.std.specs.HashSet.{contains}
-use Rattle.trace_text.specs.declared.entry.Entry.{Entry}
-use Rattle.trace_text.specs.Safety.{WasShown}
+use Rattle.trace_model.specs.declared.entry.Entry.{Entry}
+use Rattle.trace_model.specs.Safety.{WasShown}
 use Rattle.trace_audit.specs.declared.shown.Showing.{Showing}
 use Rattle.trace_audit.specs.declared.shown.Shown.{Shown}
 

@@ -1,7 +1,7 @@
 //! The audit of a trace, line by line.
 
 ghost use Rattle.std.specs.Prelude.{◌≡◌, ◌≤◌, ◌<◌, ◌^◌, ◌+◌, false, List, MatchOption, None, Option, [], ℕ};
-ghost use Rattle.trace_text.specs.declared.entry.Entry.{Entry as EntryOf};
+ghost use Rattle.trace_model.specs.declared.entry.Entry.{Entry as EntryOf};
 ghost use Rattle.trace_text.specs.EntryLines.{entry_of};
 ghost use Rattle.trace_audit.specs.Outcome.{Outcome, VerdictCause};
 ghost use Rattle.trace_audit.specs.inner.AuditTurns.{HeardStandsFor, Hears, HearsLine, IsOfLine, Standing, Turn, verdict_of};
@@ -9,8 +9,10 @@ ghost use Rattle.trace_audit.specs.inner.AuditTurns.{HeardStandsFor, Hears, Hear
 use crate::rules::Rules;
 use crate::verdict::Verdict;
 use call_io::Source;
+use line_input::{BadLine, Line, LineFault, Lines, Reason};
 use std::alloc::Global;
-use trace_text::{BadLine, Entry, Line, LineFault, Lines, Reason, read_entry};
+use trace_model::Entry;
+use trace_text::read_entry;
 
 /// What an audit keeps of the entries so far: what the rules need, the last tick, and how many entries there were.
 #[derive(Drop)]

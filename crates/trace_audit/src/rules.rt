@@ -5,9 +5,9 @@ ghost use Rattle.link_frames.specs.declared.frame.End.{End as EndOf};
 ghost use Rattle.link_frames.specs.declared.frame.End.TheVariants as «end»;
 ghost use Rattle.link_frames.specs.declared.note.Note.TheVariants as item;
 ghost use Rattle.link_frames.specs.Legs.{is_data_timer};
-ghost use Rattle.trace_text.specs.Safety.{Bounded, IsShownFirst, Safe};
-ghost use Rattle.trace_text.specs.declared.entry.Entry.{Entry as EntryOf};
-ghost use Rattle.trace_text.specs.Tallies.{last_tick};
+ghost use Rattle.trace_model.specs.Safety.{Bounded, IsShownFirst, Safe};
+ghost use Rattle.trace_model.specs.declared.entry.Entry.{Entry as EntryOf};
+ghost use Rattle.trace_model.specs.Tallies.{last_tick};
 ghost use Rattle.trace_audit.specs.Judged.{Judges};
 ghost use Rattle.trace_audit.specs.LegsStand.{LegsStandFor};
 ghost use Rattle.trace_audit.specs.RulesStand.{IsOwed, RulesStandFor};
@@ -22,7 +22,7 @@ use crate::voice::{Voice, both};
 use call_io::Memory;
 use link_frames::{End, Note, Timer};
 use std::alloc::Global;
-use trace_text::Entry;
+use trace_model::Entry;
 
 /// The most ticks for which the voice of the vehicle's leg is muted without a break.
 const VEHICLE_LIMIT: u64 = 320;

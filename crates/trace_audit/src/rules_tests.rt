@@ -5,7 +5,7 @@ use crate::rules::Rules;
 use call_io::Memory;
 use link_frames::{End, Note, Request, Timer};
 use std::alloc::Global;
-use trace_text::Entry;
+use trace_model::Entry;
 
 fn hear(alloc: Global, rules: &mut Rules, tick: u64, note: Note) -> Result<Option<Rule>, Memory> {
     rules.hear(alloc, &Entry { tick, note })

@@ -2,8 +2,8 @@
 
 ghost use Rattle.std.specs.Prelude.{◌≡◌, ◌↔◌, [], ◌∷◌, ◌++◌, IsTrue, List, OnOk, ℕ};
 ghost use Rattle.link_frames.specs.declared.note.Note.TheVariants as note;
-ghost use Rattle.trace_text.specs.Safety.{WasShown};
-ghost use Rattle.trace_text.specs.declared.entry.Entry.{Entry};
+ghost use Rattle.trace_model.specs.Safety.{WasShown};
+ghost use Rattle.trace_model.specs.declared.entry.Entry.{Entry};
 ghost use Rattle.trace_audit.specs.ShownStands.{ShownStandsFor};
 
 use call_io::Memory;

@@ -1,7 +1,7 @@
 //! What an audit answers.
 
 use crate::rule::Rule;
-use trace_text::BadLine;
+use line_input::BadLine;
 
 /// What an audit says of a trace.
 #[derive(Clone, Copy, Debug, PartialEq, Eq)]

@@ -13,7 +13,7 @@ use Rattle.trace_text.specs.EntryLines.{next_leg, next_net, next_set, next_timer
 use Rattle.trace_text.specs.Summary.{summary_words}
 use Rattle.trace_text.specs.declared.entries.kinds.Item.{Item}
 use Rattle.trace_text.specs.declared.entries.kinds.Item.TheVariants as item
-use Rattle.trace_text.specs.declared.reason.Reason.TheVariants as reason
+use Rattle.line_input.specs.declared.reason.Reason.TheVariants as reason
 use Rattle.trace_text.proofs.EntryChoicesBack.{item-back, item_word, net-back, timer-back, voice-back, why-back}
 use Rattle.trace_text.proofs.EntryReads.{Says, call-note, choice-next, dial-note, followed-back, frames-back, last-back, last-note, leg-next, leg-note, made-back, note-same, set-next}
 

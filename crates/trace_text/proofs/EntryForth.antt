@@ -9,7 +9,7 @@ use Rattle.link_frames.specs.declared.note.Note.{Note}
 use Rattle.link_frames.specs.declared.note.Note.TheVariants as note
 use Rattle.trace_text.specs.EntryLine.{frame_words, note_words, spaced}
 use Rattle.trace_text.specs.EntryLines.{IsCall, IsDial, IsFrame, IsNote, IsRequest, IsSet, frame_by_words, note_by_words, summed}
-use Rattle.trace_text.specs.Numbers.{natural_below, positive_below}
+use Rattle.line_input.specs.Numbers.{natural_below, positive_below}
 use Rattle.trace_text.specs.Summary.{summary_words}
 use Rattle.trace_text.specs.declared.entries.kinds.Item.TheVariants as item
 use Rattle.trace_text.proofs.EntryChoicesBack.{answer-read, end-read, item-read, net-read, timer-read, voice-read, why-read}

@@ -4,8 +4,8 @@ use Rattle.std.specs.Prelude.{◌↔◌}
 use Rattle.std.proofs.lemmas.List.{append_cancel_right}
 use Rattle.trace_text.specs.EntryLine.{line_of, note_words, spaced}
 use Rattle.trace_text.specs.EntryLines.{IsEntry, IsNote, entry_of, entry_by_words, next_tick, note_by_words}
-use Rattle.trace_text.specs.Words.{words}
-use Rattle.trace_text.specs.declared.entry.Entry.{Entry}
+use Rattle.line_input.specs.Words.{words}
+use Rattle.trace_model.specs.declared.entry.Entry.{Entry}
 use Rattle.trace_text.proofs.EntryBack.{notes-say}
 use Rattle.trace_text.proofs.EntryForth.{note-reads}
 use Rattle.trace_text.proofs.EntryNumbers.{natural_below-decimal, word-decimal}

@@ -6,10 +6,10 @@ use Rattle.std.proofs.lemmas.Bool.{ltb-true, lt-ltb, cases_eq}
 use Rattle.std.proofs.lemmas.Fmt.{decimal_digit, digits_decimal, digits_value-decimal, decimal-digits_value, first_decimal}
 use Rattle.std.proofs.lemmas.Option.{cond_some}
 use Rattle.std.proofs.lemmas.Slice.Eq.{bytes_eq-Decides}
-use Rattle.trace_text.specs.Characters.{is_space}
-use Rattle.trace_text.specs.Numbers.{is_digit, number_of, is_plain_number, is_natural, natural_below, positive_below}
+use Rattle.line_input.specs.Characters.{is_space}
+use Rattle.line_input.specs.Numbers.{is_digit, number_of, is_plain_number, is_natural, natural_below, positive_below}
 use Rattle.trace_text.proofs.EntryWords.{IsWord}
-use Rattle.trace_text.proofs.NumberLemmas.{digits_model, first_true, second_true, number_of-plain}
+use Rattle.line_input.proofs.NumberLemmas.{digits_model, first_true, second_true, number_of-plain}
 
 pub plain-decimal : (n : ℕ) → 0 < n → n < 2 ^ 64 → is_plain_number (decimal n) ≡ true
 plain-decimal n some fits =

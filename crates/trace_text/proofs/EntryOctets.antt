@@ -6,11 +6,11 @@ use Rattle.hex.specs.Hex.{IsBytes, decode_pairs, digit_or_error, encode_lower, e
 use Rattle.hex.specs.declared.error.FromHexError.{FromHexError}
 use Rattle.hex.proofs.HexLemmas.{decode_of-encode_lower, decode_of-even, decode_of-ok, length-encode_with}
 use Rattle.per_bits.specs.Parts.{AreOctets}
-use Rattle.trace_text.specs.Characters.{is_space}
+use Rattle.line_input.specs.Characters.{is_space}
 use Rattle.trace_text.specs.EntryLines.{IsSet, is_lower_digit, set_octets}
 use Rattle.trace_text.specs.Hexadecimal.{octets_of}
 use Rattle.trace_text.proofs.EntryWords.{IsWord}
-use Rattle.trace_text.proofs.NumberLemmas.{first_true, second_true}
+use Rattle.line_input.proofs.NumberLemmas.{first_true, second_true}
 use Rattle.trace_text.proofs.OctetsLemmas.{octets_of-decodes, set_octets-digits}
 
 pub bytes-octets : (octets : List ℕ) → AreOctets octets → IsBytes octets

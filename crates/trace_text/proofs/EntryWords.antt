@@ -3,10 +3,10 @@ use Rattle.std.proofs.Common.{◌≡◌, ℕ, not, Bool, true, false, List, [], 
 use Rattle.std.specs.List.{list_all, onto_first}
 use Rattle.std.proofs.lemmas.Bool.{eqb-true}
 use Rattle.std.proofs.lemmas.List.Splits.{slice_split-cons_no, slice_split-cons_yes}
-use Rattle.trace_text.specs.Characters.{is_space}
+use Rattle.line_input.specs.Characters.{is_space}
 use Rattle.trace_text.specs.EntryLine.{spaced}
-use Rattle.trace_text.specs.Words.{words}
-use Rattle.trace_text.proofs.NumberLemmas.{first_true, second_true}
+use Rattle.line_input.specs.Words.{words}
+use Rattle.line_input.proofs.NumberLemmas.{first_true, second_true}
 
 spaced-onto : (x : ℕ) (parts : List (List ℕ)) (xs : List ℕ) → spaced parts ≡ 32 ∷ xs → spaced (onto_first x parts) ≡ 32 ∷ x ∷ xs
 spaced-onto x [] xs e = let never : ⊥ = cc in absurd never

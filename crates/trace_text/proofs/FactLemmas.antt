@@ -6,7 +6,7 @@ use Rattle.std.proofs.lemmas.List.Sums.{AllPass-from_list_all, list_all-from_All
 use Rattle.msd_values.specs.Alphabet.{is_vin_character}
 use Rattle.msd_values.specs.Vin.{IsVin}
 use Rattle.trace_text.specs.FactLines.{vin_text}
-use Rattle.trace_text.proofs.NumberLemmas.{first_true, second_true}
+use Rattle.line_input.proofs.NumberLemmas.{first_true, second_true}
 
 pub is_given : {A : Type 0} (r : Option A) (a : A) → IsSome r → IfSome r (λ x. x ≡ a) → r ≡ Some a
 is_given None a has value = let never : ⊥ = cc in absurd never

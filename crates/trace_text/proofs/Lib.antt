@@ -1,4 +1,3 @@
-pub mod BlockLemmas
 pub mod DraftLemmas
 pub mod EntryBack
 pub mod EntryChoicesBack
@@ -9,16 +8,5 @@ pub mod EntryOctets
 pub mod EntryReads
 pub mod EntryWords
 pub mod FactLemmas
-pub mod FeedLemmas
-pub mod Folds
-pub mod Fronts
-pub mod GatherLemmas
-mod HandTraces
-pub mod LinesLemmas
-pub mod NumberLemmas
 pub mod OctetsLemmas
-pub mod SkimLemmas
 pub mod SummaryLemmas
-pub mod TallyLemmas
-pub mod WholeLines
-pub mod WordsLemmas

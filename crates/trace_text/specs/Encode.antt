@@ -7,14 +7,14 @@ use Rattle.msd_fit.specs.declared.facts.OwnFacts.{OwnFacts}
 use Rattle.trace_text.specs.Choices.{cause_of}
 use Rattle.trace_text.specs.FactLines.{own_fact}
 use Rattle.trace_text.specs.Facts.{own_in, is_one_too_many}
-use Rattle.trace_text.specs.Lines.{line_fault, is_comment}
-use Rattle.trace_text.specs.Numbers.{natural_below}
-use Rattle.trace_text.specs.Words.{words}
+use Rattle.line_input.specs.Lines.{line_fault, is_comment}
+use Rattle.line_input.specs.Numbers.{natural_below}
+use Rattle.line_input.specs.Words.{words}
 use Rattle.trace_text.specs.declared.encode.EncodeLine.{EncodeLine}
 use Rattle.trace_text.specs.declared.encode.EncodeLine.TheVariants as line
 use Rattle.trace_text.specs.declared.fact_line.FactLine.{FactLine}
-use Rattle.trace_text.specs.declared.reason.Reason.{Reason}
-use Rattle.trace_text.specs.declared.reason.Reason.TheVariants as reason
+use Rattle.line_input.specs.declared.reason.Reason.{Reason}
+use Rattle.line_input.specs.declared.reason.Reason.TheVariants as reason
 
 -- the arguments of `write` are judged from left to right
 abbrev pub write_of : Option Cause → Option ℕ → Result EncodeLine Reason

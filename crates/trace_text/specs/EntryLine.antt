@@ -15,9 +15,9 @@ use Rattle.link_frames.specs.declared.note.Timer.{Timer}
 use Rattle.link_frames.specs.declared.note.Timer.TheVariants as timer
 use Rattle.link_frames.specs.declared.note.Why.{Why}
 use Rattle.link_frames.specs.declared.note.Why.TheVariants as why
-use Rattle.trace_text.specs.Characters.{newline, space}
+use Rattle.line_input.specs.Characters.{newline, space}
 use Rattle.trace_text.specs.Summary.{summary_words}
-use Rattle.trace_text.specs.declared.entry.Entry.{Entry}
+use Rattle.trace_model.specs.declared.entry.Entry.{Entry}
 
 abbrev pub end_word : End → List ℕ
 end_word «end».Vehicle = codes "vehicle"

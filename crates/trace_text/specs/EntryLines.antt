@@ -17,16 +17,16 @@ use Rattle.trace_text.specs.Choices.{direction}
 use Rattle.trace_text.specs.EntryChoices.{answer_of, end_of, item_of, kind_of, timer_of, voice_of, why_of}
 use Rattle.trace_text.specs.EntryLine.{spaced}
 use Rattle.trace_text.specs.Hexadecimal.{octets_of}
-use Rattle.trace_text.specs.Numbers.{is_digit, natural_below, positive_below}
+use Rattle.line_input.specs.Numbers.{is_digit, natural_below, positive_below}
 use Rattle.trace_text.specs.Summary.{summary_words}
-use Rattle.trace_text.specs.Words.{words}
+use Rattle.line_input.specs.Words.{words}
 use Rattle.trace_text.specs.declared.entries.kinds.FrameKind.{FrameKind}
 use Rattle.trace_text.specs.declared.entries.kinds.FrameKind.TheVariants as kind
 use Rattle.trace_text.specs.declared.entries.kinds.Item.{Item}
 use Rattle.trace_text.specs.declared.entries.kinds.Item.TheVariants as item
-use Rattle.trace_text.specs.declared.entry.Entry.{Entry}
-use Rattle.trace_text.specs.declared.reason.Reason.{Reason}
-use Rattle.trace_text.specs.declared.reason.Reason.TheVariants as reason
+use Rattle.trace_model.specs.declared.entry.Entry.{Entry}
+use Rattle.line_input.specs.declared.reason.Reason.{Reason}
+use Rattle.line_input.specs.declared.reason.Reason.TheVariants as reason
 
 -- ---- one word after another
 

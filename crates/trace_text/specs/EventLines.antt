@@ -1,13 +1,18 @@
 -- The event lines of a script: the form of each, and why it is refused. This project's profile. Cited by the definition
 -- of a script.
-use Rattle.std.specs.Prelude.{ℕ, Bool, List, [], ◌∷◌, codes, Option, Some, None, Result, Ok, Err, if◌then◌else◌}
+use Rattle.std.specs.Prelude.{ℕ, ◌+◌, Bool, List, [], ◌∷◌, codes, Option, Some, None, Result, Ok, Err, if◌then◌else◌}
 use Rattle.std.specs.Str.{bytes_eq}
 use Rattle.trace_text.specs.Choices.{cause_of, direction}
-use Rattle.trace_text.specs.Numbers.{delay, positive}
-use Rattle.trace_text.specs.declared.event.Event.{Event}
-use Rattle.trace_text.specs.declared.event.Event.TheVariants as event
-use Rattle.trace_text.specs.declared.reason.Reason.{Reason}
-use Rattle.trace_text.specs.declared.reason.Reason.TheVariants as reason
+use Rattle.line_input.specs.Numbers.{positive, natural_below}
+use Rattle.trace_model.specs.Delays.{longest_delay}
+use Rattle.trace_model.specs.declared.event.Event.{Event}
+use Rattle.trace_model.specs.declared.event.Event.TheVariants as event
+use Rattle.line_input.specs.declared.reason.Reason.{Reason}
+use Rattle.line_input.specs.declared.reason.Reason.TheVariants as reason
+
+-- the delay of a flow
+abbrev pub delay : List ℕ → Option ℕ
+delay text = natural_below (longest_delay + 1) text
 
 -- the line of a value, or the reason where there is none
 abbrev pub event_or : {A : Type 0} → Reason → (A → Event) → Option A → Result Event Reason

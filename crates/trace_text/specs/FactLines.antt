@@ -7,14 +7,14 @@ use Rattle.msd_values.specs.Alphabet.{is_vin_character}
 use Rattle.msd_values.specs.Position.{Way}
 use Rattle.msd_values.specs.declared.msd.Marks.{Marks}
 use Rattle.msd_fit.specs.Candidates.{AdditionalData, candidate_of}
-use Rattle.trace_text.specs.Characters.{digit_zero, digit_one}
+use Rattle.line_input.specs.Characters.{digit_zero, digit_one}
 use Rattle.trace_text.specs.Choices.{yes_or_no}
 use Rattle.trace_text.specs.Hexadecimal.{octets_of, content_of}
-use Rattle.trace_text.specs.Numbers.{natural_below, positive_below, signed_within}
+use Rattle.line_input.specs.Numbers.{natural_below, positive_below, signed_within}
 use Rattle.trace_text.specs.declared.fact_line.FactLine.{FactLine}
 use Rattle.trace_text.specs.declared.fact_line.FactLine.TheVariants as fact
-use Rattle.trace_text.specs.declared.reason.Reason.{Reason}
-use Rattle.trace_text.specs.declared.reason.Reason.TheVariants as reason
+use Rattle.line_input.specs.declared.reason.Reason.{Reason}
+use Rattle.line_input.specs.declared.reason.Reason.TheVariants as reason
 
 -- the line of a value, or the reason where there is none
 abbrev pub fact_or : {A : Type 0} → Reason → (A → FactLine) → Option A → Result FactLine Reason

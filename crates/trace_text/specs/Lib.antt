@@ -1,4 +1,3 @@
-pub mod Characters
 pub mod Choices
 pub mod Drafts
 pub mod Encode
@@ -8,17 +7,9 @@ pub mod EntryLines
 pub mod EventLines
 pub mod FactLines
 pub mod Facts
-pub mod Feed
 pub mod Hexadecimal
-pub mod History
-pub mod Lines
-pub mod Listener
-pub mod Numbers
-pub mod Reading
-pub mod ReasonCode
-pub mod Safety
+pub mod Rooms
 pub mod Script
 pub mod Summary
-pub mod Tallies
-pub mod Words
+pub mod TextListener
 pub mod inner

@@ -6,13 +6,13 @@ use Rattle.msd_fit.specs.declared.facts.Facts.{Facts}
 use Rattle.trace_text.specs.EventLines.{event_line}
 use Rattle.trace_text.specs.FactLines.{own_fact, set_line}
 use Rattle.trace_text.specs.Facts.{facts_in, is_one_too_many}
-use Rattle.trace_text.specs.Lines.{lines_of, line_fault, is_comment}
-use Rattle.trace_text.specs.Words.{words}
-use Rattle.trace_text.specs.declared.event.Event.{Event}
+use Rattle.line_input.specs.Lines.{lines_of, line_fault, is_comment}
+use Rattle.line_input.specs.Words.{words}
+use Rattle.trace_model.specs.declared.event.Event.{Event}
 use Rattle.trace_text.specs.declared.fact_line.FactLine.{FactLine}
-use Rattle.trace_text.specs.declared.reason.BadLine.{BadLine}
-use Rattle.trace_text.specs.declared.reason.Reason.{Reason}
-use Rattle.trace_text.specs.declared.reason.Reason.TheVariants as reason
+use Rattle.line_input.specs.declared.reason.BadLine.{BadLine}
+use Rattle.line_input.specs.declared.reason.Reason.{Reason}
+use Rattle.line_input.specs.declared.reason.Reason.TheVariants as reason
 use Rattle.trace_text.specs.declared.script.ScriptLine.{ScriptLine}
 use Rattle.trace_text.specs.declared.script.ScriptLine.TheVariants as line
 

@@ -1,9 +1,4 @@
-pub mod Arguments
 pub mod Decoding
 pub mod Drafting
-pub mod Gathering
-pub mod Kinds
-pub mod ListenerLaws
-pub mod LongLines
 pub mod NextWords
-pub mod Tallying
+pub mod TextListenerLaws

@@ -3,7 +3,7 @@
 ghost use Rattle.std.specs.Prelude.{◌≡◌};
 ghost use Rattle.trace_text.specs.Choices.{cause_of, direction, yes_or_no};
 
-use crate::words::is_word;
+use line_input::is_word;
 use msd_fit::Cause;
 
 /// True for `up`, false for `down`.

@@ -3,16 +3,13 @@
 ghost use Rattle.std.specs.Prelude.{◌≡◌};
 ghost use Rattle.std.specs.Option.{option_copied};
 ghost use Rattle.trace_text.specs.Encode.{encode_line, fact_says, other_by_word, write_line};
-ghost use Rattle.trace_text.specs.Lines.{line_answer};
-ghost use Rattle.trace_text.specs.inner.Arguments.{words_behind};
+ghost use Rattle.line_input.specs.Lines.{line_answer};
+ghost use Rattle.line_input.specs.Arguments.{words_behind};
 
 use crate::choices::read_cause;
 use crate::fact_line::FactLine;
 use crate::facts::read_own_fact;
-use crate::line::Line;
-use crate::numbers::read_u8;
-use crate::reason::{BadLine, Reason};
-use crate::words::{is_word, split_word, two_arguments};
+use line_input::{BadLine, Line, Reason, is_word, read_u8, split_word, two_arguments};
 use msd_fit::Cause;
 
 /// What a line of `encode` says.

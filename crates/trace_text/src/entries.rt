@@ -2,7 +2,7 @@
 
 ghost use Rattle.std.specs.Prelude.{◌≡◌};
 ghost use Rattle.trace_text.specs.EntryLines.{entry_of};
-ghost use Rattle.trace_text.specs.Lines.{line_answer};
+ghost use Rattle.line_input.specs.Lines.{line_answer};
 
 mod choices;
 mod frames;
@@ -10,11 +10,10 @@ mod items;
 mod kinds;
 mod next_words;
 
-use crate::entry::Entry;
-use crate::line::Line;
-use crate::reason::{BadLine, Reason};
 use items::read_note;
+use line_input::{BadLine, Line, Reason};
 use next_words::NextWords;
+use trace_model::Entry;
 
 /// The entry whose line this is. Its words are judged from left to right, and the summary of a set that is shown
 /// against the set's octets. Whether its tick may follow on that of another line is not judged here.

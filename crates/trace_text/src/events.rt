@@ -3,14 +3,13 @@
 ghost use Rattle.std.specs.Prelude.{◌≡◌};
 ghost use Rattle.std.specs.Option.{option_copied};
 ghost use Rattle.trace_text.specs.EventLines.{channel_event, deliver_line, drop_line, drop_of, end_event, event_line, fault_line, fault_of, flow_line, lone_line, net_line, number_line, only_number, point_event, trigger_line, vehicle_event};
-ghost use Rattle.trace_text.specs.declared.event.Event.TheVariants as event;
-ghost use Rattle.trace_text.specs.inner.Arguments.{words_behind};
+ghost use Rattle.trace_model.specs.declared.event.Event.TheVariants as event;
+ghost use Rattle.line_input.specs.Arguments.{words_behind};
 
 use crate::choices::{read_cause, read_direction};
-use crate::event::{Event, Positive};
 use crate::numbers::{read_delay, read_positive};
-use crate::reason::Reason;
-use crate::words::{is_word, only_argument, split_word, three_arguments, two_arguments};
+use line_input::{Reason, is_word, only_argument, split_word, three_arguments, two_arguments};
+use trace_model::{Event, Positive};
 
 /// An event line by its first word and what stands behind it.
 pub fn read_event(first: &[u8], rest: Option<&[u8]>) -> Result<Event, Reason>

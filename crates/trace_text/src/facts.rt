@@ -4,15 +4,15 @@ ghost use Rattle.std.specs.Prelude.{◌≡◌, false, ℕ, List, None};
 ghost use Rattle.std.specs.List.{list_all};
 ghost use Rattle.std.specs.Option.{option_copied};
 ghost use Rattle.trace_text.specs.FactLines.{before1_line, before2_line, extra_line, fuel_line, heading_line, is_mark as is_mark_digit, kind_line, marks_of, own_fact, passengers_line, place_line, set_line, time_line, trusted_line, vehicle_fact, vin_line, vin_text, way_fact, way_text};
-ghost use Rattle.trace_text.specs.Numbers.{positive_below};
-ghost use Rattle.trace_text.specs.inner.Arguments.{words_behind};
+ghost use Rattle.line_input.specs.Numbers.{positive_below};
+ghost use Rattle.line_input.specs.Arguments.{words_behind};
 
 use crate::choices::read_yes_or_no;
 use crate::fact_line::FactLine;
 use crate::hexadecimal::{read_candidate, read_set_octets};
-use crate::numbers::{read_positive_u8, read_signed, read_u8, read_u32};
-use crate::reason::Reason;
-use crate::words::{is_word, only_argument, two_arguments};
+use line_input::{
+    Reason, is_word, only_argument, read_positive_u8, read_signed, read_u8, read_u32, two_arguments,
+};
 use msd_values::{Delta, Marks, RootKind, Vin};
 
 /// The limit of an angle, in milliarcseconds.

@@ -2,17 +2,15 @@
 
 ghost use Rattle.std.specs.Prelude.{◌≡◌};
 ghost use Rattle.std.specs.Option.{option_copied};
-ghost use Rattle.trace_text.specs.Lines.{line_answer};
+ghost use Rattle.line_input.specs.Lines.{line_answer};
 ghost use Rattle.trace_text.specs.Script.{fact_says, line_by_word, other_by_word, script_line};
-ghost use Rattle.trace_text.specs.inner.Arguments.{words_behind};
+ghost use Rattle.line_input.specs.Arguments.{words_behind};
 
-use crate::event::Event;
 use crate::events::read_event;
 use crate::fact_line::FactLine;
 use crate::facts::{names_own_fact, read_own_fact, read_set};
-use crate::line::Line;
-use crate::reason::{BadLine, Reason};
-use crate::words::{is_word, split_word};
+use line_input::{BadLine, Line, Reason, is_word, split_word};
+use trace_model::Event;
 
 /// What a line of a script says.
 #[derive(Clone, Copy, Debug, PartialEq, Eq)]

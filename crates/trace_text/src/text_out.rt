@@ -1,13 +1,13 @@
 //! The listener that writes each entry's line.
 ghost use Rattle.std.specs.Prelude.{◌≡◌, ◌≤◌, [], ◌∷◌, OnOk, OnErr, IfErr};
-ghost use Rattle.trace_text.specs.Listener.{DeafCause, sink, sink_name, TextGrew, TextGrewPartly};
-ghost use Rattle.trace_text.specs.inner.ListenerLaws.{TextGrew-nothing, TextGrew-append, TextGrewPartly-whole, TextGrewPartly-after, TextGrewPartly-longer};
+ghost use Rattle.trace_model.specs.Listener.{DeafCause};
+ghost use Rattle.trace_text.specs.TextListener.{sink, sink_name, TextGrew, TextGrewPartly};
+ghost use Rattle.trace_text.specs.inner.TextListenerLaws.{TextGrew-nothing, TextGrew-append, TextGrewPartly-whole, TextGrewPartly-after, TextGrewPartly-longer};
 
-use crate::entry::Entry;
-use crate::listener::{Deaf, Listener};
 use crate::write::write_entry;
 use call_io::Sink;
 use std::alloc::Global;
+use trace_model::{Deaf, Entry, Listener};
 
 /// Writes the line of each entry that it hears to a sink that it borrows. It keeps nothing and takes no memory.
 #[derive(Drop)]
@@ -56,3 +56,6 @@ impl<'a, O: Sink> Listener for TextOut<'a, O> {
 
     ghost longer = { TextGrewPartly-longer O.held O.way };
 }
+
+#[cfg(test)]
+mod tests;

@@ -2,7 +2,7 @@
 -- the register.
 use Rattle.std.proofs.Common.{List, [], ◌++◌, sym, ap, ◌∙◌, append_assoc}
 use Rattle.std.proofs.lemmas.List.{append-nil}
-use Rattle.trace_text.specs.declared.entry.Entry.{Entry}
+use Rattle.trace_model.specs.declared.entry.Entry.{Entry}
 use Rattle.call_register.specs.Rows.{Rows}
 use Rattle.call_register.specs.Table.{table}
 use Rattle.call_register.specs.Growth.{RegisterGrew}

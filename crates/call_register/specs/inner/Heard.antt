@@ -3,7 +3,7 @@
 use Rattle.std.specs.Prelude.{ℕ, ◌==◌, Bool, List, [], ◌∷◌, ◌++◌, map, Option, Some, None, if◌then◌else◌}
 use Rattle.std.specs.List.{list_any}
 use Rattle.std.specs.Option.{option_or}
-use Rattle.trace_text.specs.declared.entry.Entry.{Entry}
+use Rattle.trace_model.specs.declared.entry.Entry.{Entry}
 use Rattle.call_register.specs.Rows.{Row, Rows}
 use Rattle.call_register.specs.Table.{call_up, ending_in, row_of, set_in}
 use Rattle.call_register.specs.declared.record.Ending.{Ending}

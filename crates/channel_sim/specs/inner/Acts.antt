@@ -15,7 +15,7 @@ use Rattle.psap_machine.specs.declared.session.Session as kept_session
 use Rattle.psap_machine.specs.Point.{Point}
 use Rattle.psap_machine.specs.SessionStands.{SessionStandsFor}
 use Rattle.psap_machine.specs.PointRows as point
-use Rattle.trace_text.specs.History.{Sent}
+use Rattle.trace_model.specs.History.{Sent}
 use Rattle.channel_sim.specs.declared.calls.Call as kept_call
 use Rattle.channel_sim.specs.declared.calls.Due as kept_due
 use Rattle.channel_sim.specs.declared.consequence.Consequence.{Consequence}

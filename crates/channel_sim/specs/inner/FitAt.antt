@@ -12,9 +12,9 @@ use Rattle.link_frames.specs.Legs.{Kept, owner}
 use Rattle.link_frames.specs.Owes.{Seat, InTime, IsOf, SaysSeated}
 use Rattle.ivs_machine.specs.Vehicle.{vehicle_call}
 use Rattle.ivs_machine.specs.VehicleKept as vehicle
-use Rattle.trace_text.specs.declared.entry.Entry.{Entry}
-use Rattle.trace_text.specs.History.{sets_of}
-use Rattle.trace_text.specs.Safety.{is_leg, Leg, first_leg, leg_at, AtEach, IsShownFirst, AgreedFrom, MustOpen, IsBounded}
+use Rattle.trace_model.specs.declared.entry.Entry.{Entry}
+use Rattle.trace_model.specs.History.{sets_of}
+use Rattle.trace_model.specs.Safety.{is_leg, Leg, first_leg, leg_at, AtEach, IsShownFirst, AgreedFrom, MustOpen, IsBounded}
 use Rattle.channel_sim.specs.World.{World, Step, call_of}
 use Rattle.channel_sim.specs.Fit.{IsDrawn, Rises, seats_of, FramesFit, CarriesMade, ConfirmsShown, CallLinks, ComesBehind, OrderedFrom, IsCall, HasLeg, AreInOrder}
 

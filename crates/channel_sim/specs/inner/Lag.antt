@@ -3,7 +3,7 @@
 -- and one for each call's session, and none was passed less far than up to the tick at which the line began, the floor.
 -- Cited by the private functions of `World` alone.
 use Rattle.std.specs.Prelude.{◌≡◌, ℕ, ◌≤◌, ◌<◌, ◌+◌, ◌-◌, ◌==◌, ◌||◌, Bool, false, if◌then◌else◌, List, [], ◌∷◌, Option, Some, None, IfSome, Result, MatchResult}
-use Rattle.trace_text.specs.declared.entry.Entry.{Entry}
+use Rattle.trace_model.specs.declared.entry.Entry.{Entry}
 use Rattle.ivs_machine.specs.declared.vehicle.Ivs.{Ivs}
 use Rattle.ivs_machine.specs.IvsStands.{IvsStandsFor}
 use Rattle.ivs_machine.specs.Vehicle.{Vehicle}

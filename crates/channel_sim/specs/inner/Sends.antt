@@ -4,7 +4,7 @@ use Rattle.std.specs.Prelude.{ℕ, ◌<◌, ◌≤◌, List, take, drop}
 use Rattle.std.specs.List.{AllByRecursion}
 use Rattle.link_frames.specs.declared.frame.Frame.{Frame}
 use Rattle.link_frames.specs.declared.frame.Frame.TheVariants as frame
-use Rattle.trace_text.specs.History.{Sent}
+use Rattle.trace_model.specs.History.{Sent}
 use Rattle.channel_sim.specs.declared.kept.KeptFrame.{KeptFrame}
 use Rattle.channel_sim.specs.declared.kept.KeptFrame.TheVariants as kept
 use Rattle.channel_sim.specs.declared.sends.KeptSent.{KeptSent}

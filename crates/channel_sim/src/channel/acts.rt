@@ -11,7 +11,7 @@ use link_frames::{Items, Note, Steps, Why};
 use psap_machine::PointEvent;
 use std::alloc::Global;
 use std::sync::ledger::Ledger;
-use trace_text::Listener;
+use trace_model::Listener;
 
 impl Channel {
     ghost use Rattle.std.specs.Prelude.{true, false, ◌≡◌, ◌+◌, ◌<◌, ◌≤◌, ℕ, List, [], ◌∷◌, Some, None, map, OnOk, OnErr, IfOk, IfErr, ◌^◌, length};
@@ -19,7 +19,7 @@ impl Channel {
     ghost use Rattle.ivs_machine.specs.Vehicle.{Vehicle, vehicle_call};
     ghost use Rattle.ivs_machine.specs.VehicleRows as vehicle;
     ghost use Rattle.psap_machine.specs.PointRows as point;
-    ghost use Rattle.trace_text.specs.History.{told};
+    ghost use Rattle.trace_model.specs.History.{told};
     ghost use Rattle.channel_sim.specs.World as model;
     ghost use Rattle.channel_sim.specs.SimFault.{SimFaultCause};
     ghost use Rattle.channel_sim.specs.inner.Acts.{IsCaught, IsReady, OtherHasLeg};

@@ -10,7 +10,7 @@ use link_frames::Steps;
 use psap_machine::PointEvent;
 use std::alloc::{AllocError, Global};
 use std::sync::ledger::Ledger;
-use trace_text::Listener;
+use trace_model::Listener;
 
 impl Channel {
     ghost use Rattle.std.specs.Prelude.{true, false, ◌≡◌, ◌+◌, ◌<◌, ◌≤◌, ℕ, List, [], ◌∷◌, Some, None, map, OnOk, OnErr, IfOk, IfErr, ◌^◌};

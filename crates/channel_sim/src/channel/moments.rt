@@ -17,7 +17,7 @@ use ivs_machine::Ivs;
 use link_frames::{Items, Steps};
 use std::alloc::Global;
 use std::sync::ledger::Ledger;
-use trace_text::Listener;
+use trace_model::Listener;
 
 /// The tick at which an end acts that was passed up to here; at most `end`.
 fn acts_at(passed: u64, due: Option<u32>, end: u64) -> u64

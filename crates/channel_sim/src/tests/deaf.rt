@@ -10,7 +10,7 @@ use std::marker::Brand;
 use std::process::Abort;
 use std::sync::ledger::{Blank, Ledger};
 use std::test::Fail;
-use trace_text::{Deaf, Entry, Event, Listener};
+use trace_model::{Deaf, Entry, Event, Listener};
 
 /// Takes so many entries, and then fails.
 #[derive(Drop)]

@@ -13,7 +13,7 @@ use std::marker::Brand;
 use std::process::Abort;
 use std::sync::ledger::{Blank, Ledger};
 use std::test::Fail;
-use trace_text::Event;
+use trace_model::Event;
 
 /// A call is dialled and answered at tick 0.
 fn opened<L: Ledger>(

@@ -6,9 +6,9 @@ use Rattle.per_bits.specs.declared.refusals.Refusal.{Refusal}
 use Rattle.msd_values.specs.Description.{description}
 use Rattle.msd_values.specs.declared.msd.Msd.{Msd}
 use Rattle.msd_codec.specs.Sets.{Shows, StopsAt}
-use Rattle.trace_text.specs.Lines.{most_bytes}
-use Rattle.trace_text.specs.Reading.{Reading}
-use Rattle.trace_text.specs.declared.reason.Reason.{Reason}
+use Rattle.line_input.specs.Lines.{most_bytes}
+use Rattle.line_input.specs.Reading.{Reading}
+use Rattle.line_input.specs.declared.reason.Reason.{Reason}
 use Rattle.ecall_top.specs.declared.command.Command.TheVariants as command
 use Rattle.ecall_top.specs.declared.refusal.Refused.{Refused}
 use Rattle.ecall_top.specs.declared.refusal.Refused.TheVariants as refused

@@ -4,13 +4,13 @@ use Rattle.std.specs.Prelude.{◌≡◌, ℕ, ◌<◌, ◌≤◌, List, Option, 
 use Rattle.call_io.specs.Bytes.{Grew, GrewPartly}
 use Rattle.msd_fit.specs.declared.cause.Cause.{Cause}
 use Rattle.trace_text.specs.Drafts.{DraftOf}
-use Rattle.trace_text.specs.Lines.{most_bytes}
-use Rattle.trace_text.specs.Reading.{Reading}
+use Rattle.line_input.specs.Lines.{most_bytes}
+use Rattle.line_input.specs.Reading.{Reading}
 use Rattle.trace_text.specs.declared.draft.Draft.{Draft}
 use Rattle.trace_text.specs.declared.encode.EncodeLine.{EncodeLine}
 use Rattle.trace_text.specs.declared.encode.EncodeLine.TheVariants as line
 use Rattle.trace_text.specs.declared.fact_line.FactLine.{FactLine}
-use Rattle.trace_text.specs.declared.reason.Reason.{Reason}
+use Rattle.line_input.specs.declared.reason.Reason.{Reason}
 use Rattle.ecall_top.specs.declared.command.Command.TheVariants as command
 use Rattle.ecall_top.specs.declared.refusal.Refused.{Refused}
 use Rattle.ecall_top.specs.declared.refusal.Refused.TheVariants as refused

@@ -2,9 +2,9 @@
 -- that end a command and by the one that reads its next line.
 use Rattle.std.specs.Prelude.{◌≡◌, ℕ, ◌⊎◌, Bool, List, [], Option, Result, Ok, Err}
 use Rattle.call_io.specs.Bytes.{Grew, GrewPartly}
-use Rattle.trace_text.specs.Reading.{Reading, ReadsLine}
-use Rattle.trace_text.specs.declared.fault.LineFault.{LineFault}
-use Rattle.trace_text.specs.declared.fault.LineFault.TheVariants as fault
+use Rattle.line_input.specs.Reading.{Reading, ReadsLine}
+use Rattle.line_input.specs.declared.fault.LineFault.{LineFault}
+use Rattle.line_input.specs.declared.fault.LineFault.TheVariants as fault
 use Rattle.ecall_top.specs.declared.refusal.Refused.TheVariants as refused
 use Rattle.ecall_top.specs.declared.status.Status.{Status}
 use Rattle.ecall_top.specs.declared.status.Status.TheVariants as status

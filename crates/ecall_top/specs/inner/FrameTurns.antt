@@ -8,9 +8,9 @@ use Rattle.link_frames.specs.Streams.{Holds, FrameStops}
 use Rattle.link_frames.specs.declared.fault.FrameFault.{FrameFault}
 use Rattle.link_frames.specs.declared.frame.Frame.{Frame}
 use Rattle.link_frames.specs.declared.frame.Frame.TheVariants as frame
-use Rattle.trace_text.specs.Lines.{most_bytes}
-use Rattle.trace_text.specs.Reading.{Reading}
-use Rattle.trace_text.specs.declared.reason.Reason.{Reason}
+use Rattle.line_input.specs.Lines.{most_bytes}
+use Rattle.line_input.specs.Reading.{Reading}
+use Rattle.line_input.specs.declared.reason.Reason.{Reason}
 use Rattle.ecall_top.specs.declared.command.Command.TheVariants as command
 use Rattle.ecall_top.specs.declared.refusal.Refused.{Refused}
 use Rattle.ecall_top.specs.declared.refusal.Refused.TheVariants as refused

@@ -3,9 +3,9 @@
 -- project's profile. Cited by the turns of the commands `decode`, `encode` and `frames`.
 use Rattle.std.specs.Prelude.{◌≡◌, ℕ, ◌+◌, List, [], ◌∷◌, ◌++◌, Option, Some}
 use Rattle.call_io.specs.Bytes.{Grew, GrewPartly}
-use Rattle.trace_text.specs.Lines.{lines_of, line_fault, IsPassedOver}
-use Rattle.trace_text.specs.Reading.{Reading, MayFollow}
-use Rattle.trace_text.specs.declared.reason.Reason.{Reason}
+use Rattle.line_input.specs.Lines.{lines_of, line_fault, IsPassedOver}
+use Rattle.line_input.specs.Reading.{Reading, MayFollow}
+use Rattle.line_input.specs.declared.reason.Reason.{Reason}
 use Rattle.ecall_top.specs.declared.command.Command.{Command}
 use Rattle.ecall_top.specs.declared.refusal.Refused.{Refused}
 use Rattle.ecall_top.specs.declared.refusal.Refused.TheVariants as refused

@@ -1,7 +1,7 @@
 -- How a script that is made is written, line by line and call by call. This project's profile. Cited by the contracts
 -- of private functions of `make`.
 use Rattle.std.specs.Prelude.{◌≡◌, ℕ, List, [], ◌∷◌, ◌++◌}
-use Rattle.trace_text.specs.Characters.{newline}
+use Rattle.line_input.specs.Characters.{newline}
 use Rattle.ecall_top.specs.declared.make.CallTimes.{CallTimes}
 use Rattle.ecall_top.specs.Make.{call_lines, text_of_lines}
 

@@ -2,12 +2,12 @@
 -- contracts of the functions that play a script line by line.
 use Rattle.std.specs.Prelude.{◌≡◌, ℕ, ◌+◌, List, [], ◌∷◌, ◌++◌, Option, Some, None}
 use Rattle.msd_fit.specs.declared.facts.Facts.{Facts}
-use Rattle.trace_text.specs.declared.entry.Entry.{Entry}
-use Rattle.trace_text.specs.declared.event.Event.{Event}
+use Rattle.trace_model.specs.declared.entry.Entry.{Entry}
+use Rattle.trace_model.specs.declared.event.Event.{Event}
 use Rattle.trace_text.specs.declared.script.ScriptLine.{ScriptLine}
 use Rattle.trace_text.specs.declared.script.ScriptLine.TheVariants as line
-use Rattle.trace_text.specs.Lines.{lines_of}
-use Rattle.trace_text.specs.Reading.{Reading, MayFollow}
+use Rattle.line_input.specs.Lines.{lines_of}
+use Rattle.line_input.specs.Reading.{Reading, MayFollow}
 use Rattle.trace_text.specs.Facts.{facts_in}
 use Rattle.trace_text.specs.Script.{Said, Script, script_of, script_from}
 use Rattle.channel_sim.specs.Lines.{passes_within, step, world_after}

@@ -2,11 +2,11 @@
 -- profile. Cited by the contracts of the functions that keep the register of a script.
 use Rattle.std.specs.Prelude.{◌≡◌, ℕ, ◌<◌, ◌≤◌, ◌⊎◌, List, Option, Some, None, Result}
 use Rattle.trace_text.specs.Facts.{facts_in}
-use Rattle.trace_text.specs.Lines.{most_bytes}
-use Rattle.trace_text.specs.Reading.{Reading}
+use Rattle.line_input.specs.Lines.{most_bytes}
+use Rattle.line_input.specs.Reading.{Reading}
 use Rattle.trace_text.specs.Script.{Said}
-use Rattle.trace_text.specs.declared.event.Event.{Event}
-use Rattle.trace_text.specs.declared.reason.Reason.{Reason}
+use Rattle.trace_model.specs.declared.event.Event.{Event}
+use Rattle.line_input.specs.declared.reason.Reason.{Reason}
 use Rattle.trace_text.specs.declared.script.ScriptLine.{ScriptLine}
 use Rattle.call_register.specs.Growth.{RegisterGrew}
 use Rattle.call_register.specs.Rows.{Rows}

@@ -2,12 +2,12 @@
 -- a script, each by the part of the line that it sees.
 use Rattle.std.specs.Prelude.{◌≡◌, ℕ, ◌<◌, ◌≤◌, ◌⊎◌, List, ◌++◌, Option, Some, None, Result, Ok, Err}
 use Rattle.call_io.specs.Bytes.{Grew, GrewPartly}
-use Rattle.trace_text.specs.declared.entry.Entry.{Entry}
-use Rattle.trace_text.specs.declared.event.Event.{Event}
-use Rattle.trace_text.specs.declared.reason.Reason.{Reason}
+use Rattle.trace_model.specs.declared.entry.Entry.{Entry}
+use Rattle.trace_model.specs.declared.event.Event.{Event}
+use Rattle.line_input.specs.declared.reason.Reason.{Reason}
 use Rattle.trace_text.specs.declared.script.ScriptLine.{ScriptLine}
 use Rattle.trace_text.specs.EntryLine.{text_of}
-use Rattle.trace_text.specs.Reading.{Reading}
+use Rattle.line_input.specs.Reading.{Reading}
 use Rattle.trace_text.specs.Script.{Said, said_after}
 use Rattle.ecall_top.specs.declared.command.Command.TheVariants as command
 use Rattle.ecall_top.specs.declared.refusal.Refused.{Refused}
@@ -15,7 +15,7 @@ use Rattle.ecall_top.specs.declared.refusal.Refused.TheVariants as refused
 use Rattle.ecall_top.specs.declared.stage.Stage.{Stage}
 use Rattle.ecall_top.specs.declared.status.Status.{Status}
 use Rattle.ecall_top.specs.declared.status.Status.TheVariants as status
-use Rattle.trace_text.specs.Lines.{most_bytes}
+use Rattle.line_input.specs.Lines.{most_bytes}
 use Rattle.ecall_top.specs.Outcome.{Streams, Outcome}
 use Rattle.ecall_top.specs.Refusals.{refusal_line}
 use Rattle.ecall_top.specs.inner.Progress.{event_of, entries_of, passes_by}

@@ -2,14 +2,14 @@
 -- the contracts of `Stage` and of the functions that play a script.
 use Rattle.std.specs.Prelude.{◌≡◌, ℕ, ◌+◌, ◌*◌, ◌≤◌, true, false, List, [], ◌∷◌, ◌++◌, Option, Some, None, Result, Ok, Err}
 use Rattle.msd_fit.specs.declared.facts.Facts.{Facts}
-use Rattle.trace_text.specs.declared.entry.Entry.{Entry}
-use Rattle.trace_text.specs.declared.event.Event.{Event}
+use Rattle.trace_model.specs.declared.entry.Entry.{Entry}
+use Rattle.trace_model.specs.declared.event.Event.{Event}
 use Rattle.trace_text.specs.declared.script.ScriptLine.{ScriptLine}
 use Rattle.trace_text.specs.Drafts.{DraftOf}
 use Rattle.trace_text.specs.Facts.{facts_in, is_one_too_many}
 use Rattle.trace_text.specs.declared.draft.Draft.{Draft}
 use Rattle.trace_text.specs.declared.fact_line.FactLine.{FactLine}
-use Rattle.trace_text.specs.declared.reason.Reason.TheVariants as reason
+use Rattle.line_input.specs.declared.reason.Reason.TheVariants as reason
 use Rattle.trace_text.specs.Script.{Said, placed, said_after}
 use Rattle.channel_sim.specs.declared.world.World.{World}
 use Rattle.channel_sim.specs.SimFault.{SimFaultCause}

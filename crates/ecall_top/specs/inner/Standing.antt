@@ -3,9 +3,9 @@
 -- that play a script.
 use Rattle.std.specs.Prelude.{◌≡◌, ℕ, ◌+◌, ◌≤◌, ◌⊎◌, true, List, []}
 use Rattle.call_io.specs.Bytes.{Grew}
-use Rattle.trace_text.specs.declared.event.Event.{Event}
+use Rattle.trace_model.specs.declared.event.Event.{Event}
 use Rattle.trace_text.specs.EntryLine.{text_of}
-use Rattle.trace_text.specs.Reading.{Reading}
+use Rattle.line_input.specs.Reading.{Reading}
 use Rattle.trace_text.specs.Facts.{facts_in}
 use Rattle.trace_text.specs.Script.{Said}
 use Rattle.ecall_top.specs.Outcome.{Streams}

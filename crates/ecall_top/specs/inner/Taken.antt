@@ -3,9 +3,9 @@
 use Rattle.std.specs.Prelude.{◌≡◌, ℕ, true, false, List, [], ◌++◌, length}
 use Rattle.std.specs.Io.KnownBytes.{IsAtEnd}
 use Rattle.call_io.specs.Bytes.{Took}
-use Rattle.trace_text.specs.Reading.{Reading}
+use Rattle.line_input.specs.Reading.{Reading}
 use Rattle.ecall_top.specs.Outcome.{Streams}
-use Rattle.trace_text.specs.Lines.{AreWholeLines}
+use Rattle.line_input.specs.Lines.{AreWholeLines}
 
 -- A front of the input was given in lines, and what was taken beyond it is pending.
 pub record TakenSoFar (start now : Streams) (reading : Reading) (front : List ℕ) : Type 0 where

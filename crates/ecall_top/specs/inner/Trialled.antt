@@ -5,10 +5,10 @@ use Rattle.msd_fit.specs.declared.cause.Cause.TheVariants as cause
 use Rattle.msd_fit.specs.declared.facts.Facts.{Facts}
 use Rattle.msd_fit.specs.declared.facts.OwnFacts.{OwnFacts}
 use Rattle.trace_text.specs.Facts.{no_marks}
-use Rattle.trace_text.specs.Tallies.{tally_of}
-use Rattle.trace_text.specs.declared.event.Event.{Event}
-use Rattle.trace_text.specs.declared.event.Event.TheVariants as event
-use Rattle.trace_text.specs.declared.tally.Tally.{Tally}
+use Rattle.trace_model.specs.Tallies.{tally_of}
+use Rattle.trace_model.specs.declared.event.Event.{Event}
+use Rattle.trace_model.specs.declared.event.Event.TheVariants as event
+use Rattle.trace_model.specs.declared.tally.Tally.{Tally}
 use Rattle.channel_sim.specs.declared.world.World.{World}
 use Rattle.channel_sim.specs.Lines.{bound, trace, world_after}
 use Rattle.channel_sim.specs.World.{first_world}

@@ -5,7 +5,7 @@ use Rattle.std.specs.Prelude.{◌≡◌, ◌≤◌, ℕ, ◌/◌, ◌%◌, ◌^�
 use Rattle.per_bits.specs.Bits.{Part}
 use Rattle.per_types.specs.Types.{Tree, Ty}
 use Rattle.per_types.specs.Stops.{Read}
-use Rattle.per_types.specs.inner.Reading.{tree_at, ◌>>=◌}
+use Rattle.per_types.specs.Reading.{tree_at, ◌>>=◌}
 
 -- whether the presence bit is 1 behind which so many others stand, of bits that read this number
 abbrev pub presence_bit : ℕ → ℕ → Bool

@@ -3,11 +3,11 @@ ghost use Rattle.std.specs.Prelude.{◌≡◌, ◌+◌, ◌*◌, ◌/◌, ◌%�
 ghost use Rattle.std.specs.Option.{option_to_list};
 ghost use Rattle.per_bits.specs.Bits.{digits};
 ghost use Rattle.per_types.specs.Types.{truth, number, boolean};
-ghost use Rattle.per_types.specs.inner.Reading.{Gives, truth_at, presence_at, tree_at, more_at};
+ghost use Rattle.per_types.specs.Reading.{Gives, truth_at, presence_at, tree_at, more_at};
 ghost use Rattle.msd_values.specs.Position.{IsDelta};
 ghost use Rattle.msd_codec.specs.Module.{octet, timestamp, angle, angle_delta, vehicle_type};
 ghost use Rattle.msd_codec.specs.Trees.{count_tree, kind_tree, more_of};
-ghost use Rattle.msd_codec.specs.Places.{LieBetween};
+ghost use Rattle.msd_codec.specs.Places.{LieBetween, Fills};
 ghost use Rattle.msd_codec.specs.inner.Reading.{MovesOn};
 ghost use Rattle.msd_codec.specs.inner.Reading.{presence_bit, default_at};
 
@@ -64,6 +64,7 @@ pub fn read_flag(c: &mut Cursor<'_>, presence: u16, others: u32) -> Result<bool,
 /// A number from 0 to 255.
 pub fn read_octet(c: &mut Cursor<'_>) -> Result<u8, Refusal>
     ensures exact { Gives count_tree result (tree_at octet c.old) c.new }
+    ensures step { OnOk result (c.new.start ≡ c.old.start + 8) }
     ensures on { OnOk result (MovesOn c.old c.new) }
 {
     let n = read_whole(c, 0, 255, 8)?;
@@ -73,6 +74,7 @@ pub fn read_octet(c: &mut Cursor<'_>) -> Result<u8, Refusal>
 /// Seconds.
 pub fn read_timestamp(c: &mut Cursor<'_>) -> Result<u32, Refusal>
     ensures exact { Gives count_tree result (tree_at timestamp c.old) c.new }
+    ensures step { OnOk result (c.new.start ≡ c.old.start + 32) }
     ensures on { OnOk result (MovesOn c.old c.new) }
 {
     let n = read_whole(c, 0, 4_294_967_295, 32)?;
@@ -82,6 +84,7 @@ pub fn read_timestamp(c: &mut Cursor<'_>) -> Result<u32, Refusal>
 /// Milliarcseconds.
 pub fn read_angle(c: &mut Cursor<'_>) -> Result<i32, Refusal>
     ensures exact { Gives number result (tree_at angle c.old) c.new }
+    ensures step { OnOk result (c.new.start ≡ c.old.start + 32) }
     ensures on { OnOk result (MovesOn c.old c.new) }
 {
     let n = read_whole(c, -2_147_483_648, 2_147_483_647, 32)?;
@@ -92,6 +95,7 @@ pub fn read_angle(c: &mut Cursor<'_>) -> Result<i32, Refusal>
 pub fn read_angle_delta(c: &mut Cursor<'_>) -> Result<i16, Refusal>
     ensures exact { Gives number result (tree_at angle_delta c.old) c.new }
     ensures range { IfOk result (λ n. IsDelta n) }
+    ensures step { OnOk result (c.new.start ≡ c.old.start + 10) }
     ensures on { OnOk result (MovesOn c.old c.new) }
 {
     let n = read_whole(c, -512, 511, 10)?;
@@ -113,6 +117,7 @@ pub fn read_vehicle_type(c: &mut Cursor<'_>) -> Result<VehicleKind, Refusal>
 pub fn read_more<'a>(c: &mut Cursor<'a>, extended: bool) -> Result<Option<Additions<'a>>, Refusal>
     ensures exact { Gives more_of result (more_at extended c.old) c.new }
     ensures parts { IfOk result (λ more. LieBetween c.old.all c.old.start (option_to_list more) c.new.start) }
+    ensures fills { IfOk result (λ more. Fills c.old.start more c.new.start) }
     ensures on { OnOk result (MovesOn c.old c.new) }
 {
     if !extended {

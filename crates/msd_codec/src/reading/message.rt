@@ -1,10 +1,10 @@
 //! Readers of the whole message, and of what stands beside the structure.
 ghost use Rattle.std.specs.Prelude.{◌≡◌, List, [], ◌∷◌, IfOk, IfSome, OnOk};
 ghost use Rattle.std.specs.Option.{option_map};
-ghost use Rattle.per_types.specs.inner.Reading.{Gives, tree_at};
+ghost use Rattle.per_types.specs.Reading.{Gives, tree_at};
 ghost use Rattle.msd_codec.specs.Module.{additional_data, msd_message, ecall_message};
 ghost use Rattle.msd_codec.specs.Trees.{extra_tree, message_tree, tree};
-ghost use Rattle.msd_codec.specs.Places.{LieBetween, ContentFollows, extra_parts, parts_of};
+ghost use Rattle.msd_codec.specs.Places.{LieBetween, ContentFollows, ExtraFills, DataFills, MessageEnds, extra_parts, parts_of};
 ghost use Rattle.msd_codec.specs.inner.Reading.{MovesOn};
 ghost use Rattle.msd_codec.specs.inner.Reading.{presence_bit, optional_at};
 
@@ -22,6 +22,7 @@ pub fn read_message<'a>(c: &mut Cursor<'a>) -> Result<Msd<'a>, Refusal>
     ensures exact { Gives tree result (tree_at ecall_message c.old) c.new }
     ensures parts { IfOk result (λ msd. LieBetween c.old.all c.old.start (parts_of msd) c.new.start) }
     ensures content { IfOk result (λ msd. IfSome msd.extra ContentFollows) }
+    ensures ends { IfOk result (λ msd. MessageEnds msd c.new.start) }
     ensures on { OnOk result (MovesOn c.old c.new) }
 {
     let _format = read_format(c, &FORMATS)?;
@@ -34,6 +35,7 @@ fn read_body<'a>(c: &mut Cursor<'a>) -> Result<Msd<'a>, Refusal>
     ensures exact { Gives message_tree result (tree_at msd_message c.old) c.new }
     ensures parts { IfOk result (λ msd. LieBetween c.old.all c.old.start (parts_of msd) c.new.start) }
     ensures content { IfOk result (λ msd. IfSome msd.extra ContentFollows) }
+    ensures ends { IfOk result (λ msd. MessageEnds msd c.new.start) }
     ensures on { OnOk result (MovesOn c.old c.new) }
 {
     let extended = read_extended(c)?;
@@ -51,6 +53,7 @@ fn read_extra<'a>(c: &mut Cursor<'a>, presence: u16) -> Result<Option<Extra<'a>>
     ensures exact { Gives (option_map extra_tree) result (optional_at (presence_bit presence 0) additional_data c.old) c.new }
     ensures parts { IfOk result (λ extra. LieBetween c.old.all c.old.start (extra_parts extra) c.new.start) }
     ensures content { IfOk result (λ extra. IfSome extra ContentFollows) }
+    ensures fills { IfOk result (λ extra. DataFills c.old.start extra c.new.start) }
     ensures on { OnOk result (MovesOn c.old c.new) }
 {
     if !is_present(presence, 0) {
@@ -64,6 +67,7 @@ fn read_additional_data<'a>(c: &mut Cursor<'a>) -> Result<Extra<'a>, Refusal>
     ensures exact { Gives extra_tree result (tree_at additional_data c.old) c.new }
     ensures parts { IfOk result (λ extra. LieBetween c.old.all c.old.start (extra.oid ∷ extra.content ∷ []) c.new.start) }
     ensures content { IfOk result ContentFollows }
+    ensures fills { IfOk result (λ extra. ExtraFills c.old.start extra c.new.start) }
     ensures on { OnOk result (MovesOn c.old c.new) }
 {
     let oid = read_oid(c)?;

@@ -1,12 +1,12 @@
 //! Readers of the structure of a set of data and of its components.
-ghost use Rattle.std.specs.Prelude.{◌≡◌, ◌<◌, ◌≤◌, List, [], ◌∷◌, length, IfOk, OnOk};
+ghost use Rattle.std.specs.Prelude.{◌≡◌, ℕ, ◌+◌, ◌<◌, ◌≤◌, List, [], ◌∷◌, length, IfOk, OnOk};
 ghost use Rattle.per_bits.specs.Bits.{behind};
 ghost use Rattle.std.specs.Option.{option_map, option_to_list};
-ghost use Rattle.per_types.specs.inner.Reading.{Gives, tree_at, text_at};
+ghost use Rattle.per_types.specs.Reading.{Gives, tree_at, text_at};
 ghost use Rattle.msd_values.specs.Vin.{IsVin};
 ghost use Rattle.msd_codec.specs.Module.{octet, control_type, vehicle_identification, propulsion_storage, vehicle_location, location_delta, msd_structure};
 ghost use Rattle.msd_codec.specs.Trees.{count_tree, control_tree, vin_tree, storage_tree, pair_tree, way_tree, structure_tree};
-ghost use Rattle.msd_codec.specs.Places.{LieBetween, structure_parts};
+ghost use Rattle.msd_codec.specs.Places.{LieBetween, Fills, StructureEnds, len_of, structure_parts};
 ghost use Rattle.msd_codec.specs.inner.Reading.{MovesOn};
 ghost use Rattle.msd_codec.specs.inner.Reading.{presence_bit, optional_at};
 
@@ -42,6 +42,7 @@ struct Storage<'a> {
 pub fn read_structure<'a>(c: &mut Cursor<'a>) -> Result<Msd<'a>, Refusal>
     ensures exact { Gives structure_tree result (tree_at msd_structure c.old) c.new }
     ensures parts { IfOk result (λ msd. LieBetween c.old.all c.old.start (structure_parts msd) c.new.start) }
+    ensures ends { IfOk result (λ msd. StructureEnds msd c.new.start) }
     ensures on { OnOk result (MovesOn c.old c.new) }
 {
     let extended = read_extended(c)?;
@@ -132,6 +133,7 @@ fn leave(c: &mut Cursor<'_>, n: u32)
 fn read_storage<'a>(c: &mut Cursor<'a>) -> Result<Storage<'a>, Refusal>
     ensures exact { Gives (λ s. storage_tree s.fuel s.more) result (tree_at propulsion_storage c.old) c.new }
     ensures parts { IfOk result (λ s. LieBetween c.old.all c.old.start (option_to_list s.more) c.new.start) }
+    ensures ends { IfOk result (λ s. (fuel : ℕ) × Fills fuel s.more c.new.start) }
     ensures on { OnOk result (MovesOn c.old c.new) }
 {
     let extended = read_extended(c)?;
@@ -159,6 +161,7 @@ fn read_storage<'a>(c: &mut Cursor<'a>) -> Result<Storage<'a>, Refusal>
 // Latitude and longitude.
 fn read_location(c: &mut Cursor<'_>) -> Result<(i32, i32), Refusal>
     ensures exact { Gives (λ l. pair_tree l.0 l.1) result (tree_at vehicle_location c.old) c.new }
+    ensures step { OnOk result (c.new.start ≡ c.old.start + 64) }
     ensures on { OnOk result (MovesOn c.old c.new) }
 {
     let latitude = read_angle(c)?;
@@ -168,6 +171,7 @@ fn read_location(c: &mut Cursor<'_>) -> Result<(i32, i32), Refusal>
 
 fn read_delta(c: &mut Cursor<'_>) -> Result<Delta, Refusal>
     ensures exact { Gives way_tree result (tree_at location_delta c.old) c.new }
+    ensures step { OnOk result (c.new.start ≡ c.old.start + 20) }
     ensures on { OnOk result (MovesOn c.old c.new) }
 {
     let latitude = read_angle_delta(c)?;
@@ -182,6 +186,7 @@ fn read_delta(c: &mut Cursor<'_>) -> Result<Delta, Refusal>
 fn read_recent(c: &mut Cursor<'_>, presence: u16, others: u32) -> Result<Option<Delta>, Refusal>
     requires { others < 16 }
     ensures exact { Gives (option_map way_tree) result (optional_at (presence_bit presence others) location_delta c.old) c.new }
+    ensures step { IfOk result (λ way. c.new.start ≡ c.old.start + len_of 20 way) }
     ensures on { OnOk result (MovesOn c.old c.new) }
 {
     if !is_present(presence, others) {
@@ -194,6 +199,7 @@ fn read_recent(c: &mut Cursor<'_>, presence: u16, others: u32) -> Result<Option<
 // How many passengers there are, if the number is present; its presence bit is the last.
 fn read_passengers(c: &mut Cursor<'_>, presence: u16) -> Result<Option<u8>, Refusal>
     ensures exact { Gives (option_map count_tree) result (optional_at (presence_bit presence 0) octet c.old) c.new }
+    ensures step { IfOk result (λ count. c.new.start ≡ c.old.start + len_of 8 count) }
     ensures on { OnOk result (MovesOn c.old c.new) }
 {
     if !is_present(presence, 0) {

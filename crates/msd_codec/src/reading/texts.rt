@@ -1,7 +1,7 @@
 //! The reader of the characters of a vehicle identification number, where all of them are known.
 ghost use Rattle.std.specs.Prelude.{◌≡◌, ℕ, ◌*◌, ◌/◌, ◌%◌, ◌^◌, ◌<◌, ◌≤◌, List, Ok, IfSome, IfNone, length, take, drop};
 ghost use Rattle.per_bits.specs.Bits.{Part, behind, value_of};
-ghost use Rattle.per_types.specs.inner.Reading.{text_at};
+ghost use Rattle.per_types.specs.Reading.{text_at};
 ghost use Rattle.msd_values.specs.Vin.{IsVin};
 
 use per_bits::Cursor;

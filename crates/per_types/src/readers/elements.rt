@@ -1,7 +1,7 @@
 //! One element at a cursor: its bits are looked at first, and left behind once they are judged.
 ghost use Rattle.std.specs.Prelude.{◌≡◌, ◌^◌, ◌<◌, ◌≤◌, length, take, IfOk, IfErr};
 ghost use Rattle.per_bits.specs.Bits.{behind, front, value_of};
-ghost use Rattle.per_types.specs.inner.Reading.{IsShort};
+ghost use Rattle.per_types.specs.inner.Short.{IsShort};
 
 use per_bits::{Bits, Cursor, Reason, Refusal, Short};
 

@@ -3,7 +3,7 @@ ghost use Rattle.std.specs.Prelude.{◌≡◌, ◌≤◌};
 ghost use Rattle.per_types.specs.Kinds.{root_width};
 ghost use Rattle.per_types.specs.Stops.{Reads};
 ghost use Rattle.per_types.specs.Writing.{EnumElements};
-ghost use Rattle.per_types.specs.inner.Reading.{Gives, enum_at, root_at};
+ghost use Rattle.per_types.specs.Reading.{Gives, enum_at, root_at};
 
 use crate::index::EnumIndex;
 use crate::readers::elements::{look, refusal, skip};

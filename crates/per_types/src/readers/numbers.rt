@@ -5,7 +5,7 @@ ghost use Rattle.per_bits.specs.Bits.{digits};
 ghost use Rattle.per_types.specs.Kinds.{whole_width};
 ghost use Rattle.per_types.specs.Spelling.{TruthElements, WholeElements, PresenceElements, CharacterElements, SmallElements, LengthElements, FormatElements};
 ghost use Rattle.per_types.specs.Stops.{Reads};
-ghost use Rattle.per_types.specs.inner.Reading.{Gives, truth_at, whole_at, presence_at, character_at, small_at, length_at, format_at};
+ghost use Rattle.per_types.specs.Reading.{Gives, truth_at, whole_at, presence_at, character_at, small_at, length_at, format_at};
 
 use crate::readers::elements::{look, refusal, skip};
 use per_bits::{Cursor, Reason, Refusal};

@@ -4,7 +4,7 @@ ghost use Rattle.per_bits.specs.Bits.{front};
 ghost use Rattle.per_bits.specs.Parts.{members_of};
 ghost use Rattle.per_types.specs.Spelling.{SectionElements};
 ghost use Rattle.per_types.specs.Stops.{Reads};
-ghost use Rattle.per_types.specs.inner.Reading.{Gives, additions_at, member_at, opens_at, over_at, section_at};
+ghost use Rattle.per_types.specs.Reading.{Gives, additions_at, member_at, opens_at, over_at, section_at};
 
 use crate::readers::elements::{look, refusal, taken};
 use crate::readers::numbers::read_small;

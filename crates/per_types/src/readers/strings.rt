@@ -4,7 +4,8 @@ ghost use Rattle.per_bits.specs.Bits.{behind, front, octets_of};
 ghost use Rattle.per_types.specs.Kinds.{oid_fault};
 ghost use Rattle.per_types.specs.Spelling.{StringElements, OidElements, OpenElements};
 ghost use Rattle.per_types.specs.Stops.{Reads};
-ghost use Rattle.per_types.specs.inner.Reading.{IsShort, Gives, octets_at, oid_at, oid_length_at, open_at, open_length_at};
+ghost use Rattle.per_types.specs.Reading.{Gives, octets_at, oid_at, oid_length_at, open_at, open_length_at};
+ghost use Rattle.per_types.specs.inner.Short.{IsShort};
 
 use crate::readers::elements::{look, refusal, short, skip};
 use crate::readers::numbers::read_length;

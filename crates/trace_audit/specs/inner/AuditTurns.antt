@@ -4,18 +4,18 @@ use Rattle.std.specs.Prelude.{◌≡◌, ℕ, ◌<◌, ◌≤◌, true, false, L
 use Rattle.std.specs.List.{AllByRecursion}
 use Rattle.std.specs.Io.KnownBytes.{IsAtEnd}
 use Rattle.call_io.specs.Bytes.{Took}
-use Rattle.trace_text.specs.declared.entry.Entry.{Entry}
-use Rattle.trace_text.specs.declared.fault.LineFault.{LineFault}
-use Rattle.trace_text.specs.declared.fault.LineFault.TheVariants as fault
-use Rattle.trace_text.specs.declared.reason.Reason.{Reason}
-use Rattle.trace_text.specs.declared.reason.Reason.TheVariants as reason
-use Rattle.trace_text.specs.Lines.{AreWholeLines, lines_of, most_bytes}
-use Rattle.trace_text.specs.Reading.{MayFollow, Reading}
+use Rattle.trace_model.specs.declared.entry.Entry.{Entry}
+use Rattle.line_input.specs.declared.fault.LineFault.{LineFault}
+use Rattle.line_input.specs.declared.fault.LineFault.TheVariants as fault
+use Rattle.line_input.specs.declared.reason.Reason.{Reason}
+use Rattle.line_input.specs.declared.reason.Reason.TheVariants as reason
+use Rattle.line_input.specs.Lines.{AreWholeLines, lines_of, most_bytes}
+use Rattle.line_input.specs.Reading.{MayFollow, Reading}
 use Rattle.trace_audit.specs.Audit.{IsUnrefused, NeverFall, entries_of, line_says}
 use Rattle.trace_audit.specs.declared.audit_lines.Heard.{Heard}
 use Rattle.trace_audit.specs.declared.verdict.Verdict.{Verdict}
 use Rattle.trace_audit.specs.declared.verdict.Verdict.TheVariants as verdict
-use Rattle.trace_text.specs.Tallies.{last_tick}
+use Rattle.trace_model.specs.Tallies.{last_tick}
 use Rattle.trace_audit.specs.Judged.{Judges}
 use Rattle.trace_audit.specs.Outcome.{Outcome}
 use Rattle.trace_audit.specs.RulesStand.{RulesStandFor}

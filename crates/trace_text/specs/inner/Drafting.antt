@@ -3,7 +3,7 @@ use Rattle.std.specs.Prelude.{nat_lt, Bool, true, false, [], ◌∷◌, ◌++◌
 use Rattle.trace_text.specs.declared.draft.Draft.{Draft}
 use Rattle.trace_text.specs.declared.fact_line.FactLine.{FactLine}
 use Rattle.trace_text.specs.declared.fact_line.FactLine.TheVariants as fact
-use Rattle.trace_text.specs.Characters.{digit_zero}
+use Rattle.line_input.specs.Characters.{digit_zero}
 use Rattle.trace_text.specs.Facts.{most_extras, no_marks, unknown_place, unknown_heading}
 use Rattle.msd_fit.specs.declared.facts.OwnFacts.{OwnFacts}
 

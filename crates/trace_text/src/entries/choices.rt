@@ -3,7 +3,7 @@
 ghost use Rattle.std.specs.Prelude.{◌≡◌};
 ghost use Rattle.trace_text.specs.EntryChoices.{answer_of, end_of, first_timer, last_timer, timer_of, voice_of, why_of};
 
-use crate::words::is_word;
+use line_input::is_word;
 use link_frames::{Answer, End, Timer, Why};
 
 /// `vehicle` or `point`.

@@ -5,7 +5,7 @@ ghost use Rattle.trace_text.specs.EntryLines.{app_frame, data_frame, frame_by_wo
 
 use super::kinds::FrameKind;
 use super::next_words::NextWords;
-use crate::reason::Reason;
+use line_input::Reason;
 use link_frames::{Frame, Request};
 
 /// The frame that the words left say.

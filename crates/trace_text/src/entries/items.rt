@@ -6,7 +6,7 @@ ghost use Rattle.trace_text.specs.EntryLines.{acked_note, down_note, ended_note,
 use super::frames::read_frame;
 use super::kinds::Item;
 use super::next_words::NextWords;
-use crate::reason::Reason;
+use line_input::Reason;
 use link_frames::{DialAttempt, End, Note};
 
 /// The item that the words left say.

@@ -3,7 +3,7 @@
 ghost use Rattle.std.specs.Prelude.{◌≡◌};
 ghost use Rattle.trace_text.specs.EntryChoices.{call_item, dial_item, item_of, kind_of, leg_item, other_item, rest_item, vehicle_item};
 
-use crate::words::is_word;
+use line_input::is_word;
 
 /// Which item a line of a trace has.
 #[derive(Clone, Copy, Debug, PartialEq, Eq)]

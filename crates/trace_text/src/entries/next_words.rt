@@ -2,17 +2,16 @@
 
 ghost use Rattle.std.specs.Prelude.{◌≡◌, ◌∷◌};
 ghost use Rattle.std.specs.Str.{bytes_eq};
-ghost use Rattle.trace_text.specs.Characters.{space};
+ghost use Rattle.line_input.specs.Characters.{space};
 
 use super::choices::{read_answer, read_end, read_timer, read_voice, read_why};
 use super::kinds::{FrameKind, Item, read_item, read_kind};
 use crate::choices::read_direction;
 use crate::hexadecimal::read_full_set;
-use crate::numbers::{read_dial_attempt, read_request, read_u8, read_u32, read_u64};
-use crate::reason::Reason;
+use crate::numbers::{read_dial_attempt, read_request};
 use crate::summary::{LONGEST_SUMMARY, push_summary};
-use crate::words::split_word;
 use arrayvec::ArrayVec;
+use line_input::{Reason, read_u8, read_u32, read_u64, split_word};
 use link_frames::{Answer, DialAttempt, End, OCTETS, Request, Timer, Why};
 use std::marker::Model;
 
@@ -33,7 +32,7 @@ pub struct NextWords<'a> {
 impl<'a> Model for NextWords<'a> {
     ghost use Rattle.std.specs.Prelude.{List, ℕ};
     ghost use Rattle.std.specs.Option.{option_copied};
-    ghost use Rattle.trace_text.specs.inner.Arguments.{words_behind};
+    ghost use Rattle.line_input.specs.Arguments.{words_behind};
 
     ghost Value = { List (List ℕ) };
 
@@ -46,7 +45,7 @@ impl<'a> NextWords<'a> {
     ghost use Rattle.trace_text.specs.EntryLine.{spaced};
     ghost use Rattle.trace_text.specs.EntryLines.{next_answer, next_attempt, next_call, next_dial, next_end, next_item, next_kind, next_leg, next_net, next_octets, next_request, next_set, next_tick, next_timer, next_voice, next_why, no_more};
     ghost use Rattle.trace_text.specs.Summary.{summary_words};
-    ghost use Rattle.trace_text.specs.Words.{words};
+    ghost use Rattle.line_input.specs.Words.{words};
     ghost use Rattle.trace_text.specs.inner.NextWords.{next_word, told, word_told};
 
     /// All words of a line.

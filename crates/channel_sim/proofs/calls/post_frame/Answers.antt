@@ -1,6 +1,6 @@
 use Rattle.std.proofs.Common.{map, ap, sym, ◌∙◌, subst}
 use Rattle.std.proofs.Math.ListN.{set}
-use Rattle.trace_text.specs.History.{Sent}
+use Rattle.trace_model.specs.History.{Sent}
 use Rattle.channel_sim.specs.World.{carries}
 use Rattle.channel_sim.specs.inner.Acts.{pushed}
 use Rattle.channel_sim.specs.inner.Lag.{CallsLag}

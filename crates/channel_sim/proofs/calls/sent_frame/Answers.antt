@@ -1,6 +1,6 @@
 use Rattle.std.proofs.Common.{◌≡◌, [], None, if◌then◌else◌, true, false, List, refl, ap, sym, ◌∙◌, slice_get}
 use Rattle.std.specs.Option.{option_map}
-use Rattle.trace_text.specs.History.{Sent}
+use Rattle.trace_model.specs.History.{Sent}
 use Rattle.channel_sim.specs.Lines as lines
 use Rattle.channel_sim.proofs.CallsLemmas.{found_at}
 use Rattle.channel_sim.proofs.ChangeLemmas.{sent_at, no_call_of, either}

@@ -1,6 +1,6 @@
 use Rattle.std.proofs.Common.{◌+◌, drop, subst, sym, ◌∙◌}
 use Rattle.std.proofs.lemmas.Result.{err_from_is_err_and}
-use Rattle.trace_text.specs.History.{told}
+use Rattle.trace_model.specs.History.{told}
 use Rattle.channel_sim.proofs.TellingLemmas.{told-take_more, told-around}
 use Rattle.channel_sim.proofs.telling.tell.Goals as goal
 

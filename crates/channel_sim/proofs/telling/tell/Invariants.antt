@@ -1,5 +1,5 @@
 use Rattle.std.proofs.Common.{◌≡◌, take}
-use Rattle.trace_text.specs.History.{told}
+use Rattle.trace_model.specs.History.{told}
 use Rattle.channel_sim.proofs.telling.tell.Given as goal
 
 -- the listener grew by the items so far, and its count stood

@@ -1,7 +1,7 @@
 use Rattle.std.proofs.Common.{rules, ◌≡◌, ◌∷◌, [], ◌++◌, List, ℕ, refl, ap, ◌∙◌}
 use Rattle.std.specs.Prelude.{decimal}
 use Rattle.msd_codec.specs.Reading.{reading_of}
-use Rattle.trace_text.specs.Characters.{newline}
+use Rattle.line_input.specs.Characters.{newline}
 use Rattle.trace_text.specs.EntryLine.{spaced}
 use Rattle.ecall_top.specs.inner.ConformLines.{answer_words, vector_line}
 use Rattle.ecall_top.proofs.ConformTold.{text_octets}

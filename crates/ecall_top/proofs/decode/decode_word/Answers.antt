@@ -1,6 +1,6 @@
 use Rattle.std.proofs.Common.{rules, ◌≡◌, Ok}
 use Rattle.hex.specs.Hex.{decode_of}
-use Rattle.trace_text.specs.declared.reason.Reason.TheVariants as reason
+use Rattle.line_input.specs.declared.reason.Reason.TheVariants as reason
 use Rattle.ecall_top.specs.Decode.{octets_in, some_octets}
 use Rattle.ecall_top.proofs.SetsGiven.{refuses, no_hex, hex_read}
 use Rattle.ecall_top.proofs.decode.decode_word.Goals as goal

@@ -1,6 +1,6 @@
 use Rattle.std.proofs.Common.{arith, refl, sym, subst, ◌∙◌, None}
 use Rattle.call_io.proofs.BlockLemmas.{Onward-append, Onward-nothing}
-use Rattle.trace_text.specs.Reading.{Reading}
+use Rattle.line_input.specs.Reading.{Reading}
 use Rattle.call_io.specs.Blocks.{held}
 use Rattle.ecall_top.specs.Outcome.{Streams, streams_of}
 use Rattle.ecall_top.specs.inner.EncodeTurns.{EncodeStanding, EncodeTurn}

@@ -1,6 +1,6 @@
 use Rattle.trace_text.specs.Encode.{encode_placed}
 use Rattle.trace_text.specs.declared.encode.EncodeLine.TheVariants as line
-use Rattle.trace_text.specs.declared.reason.Reason.TheVariants as reason
+use Rattle.line_input.specs.declared.reason.Reason.TheVariants as reason
 use Rattle.ecall_top.proofs.EncodeSaid.{fifth, refuses}
 use Rattle.ecall_top.proofs.encode.take_fact.Goals as goal
 

@@ -1,6 +1,6 @@
 use Rattle.trace_text.specs.Encode.{encode_placed}
 use Rattle.trace_text.specs.declared.encode.EncodeLine.TheVariants as line
-use Rattle.trace_text.specs.declared.reason.Reason.TheVariants as reason
+use Rattle.line_input.specs.declared.reason.Reason.TheVariants as reason
 use Rattle.ecall_top.proofs.EncodeSaid.{missing, refuses, set_cut}
 use Rattle.ecall_top.proofs.encode.write_asked.Goals as goal
 

@@ -1,6 +1,6 @@
 use Rattle.std.specs.Prelude.{List, ℕ, [], ◌∷◌, ◌++◌}
 use Rattle.std.proofs.Common.{◌∙◌, ap}
-use Rattle.trace_text.specs.Characters.{newline}
+use Rattle.line_input.specs.Characters.{newline}
 use Rattle.ecall_top.specs.Frames.{frame_line}
 use Rattle.ecall_top.proofs.frames.push_frame.Goals as goal
 

@@ -1,7 +1,7 @@
 use Rattle.std.proofs.Common.{arith, refl, sym, subst, ◌∙◌, None}
 use Rattle.call_io.proofs.BlockLemmas.{Onward-append, Onward-nothing}
 use Rattle.link_frames.specs.Reading as frames
-use Rattle.trace_text.specs.Reading.{Reading, first_reading}
+use Rattle.line_input.specs.Reading.{Reading, first_reading}
 use Rattle.call_io.specs.Blocks.{held}
 use Rattle.ecall_top.specs.Outcome.{Streams, streams_of}
 use Rattle.ecall_top.specs.inner.FrameTurns.{FramesStanding, FrameTurn}

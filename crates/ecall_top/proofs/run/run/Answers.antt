@@ -1,7 +1,7 @@
 use Rattle.std.proofs.Common.{arith, refl, sym, subst, ◌∙◌, None}
 use Rattle.call_io.specs.Blocks.{held}
 use Rattle.call_io.proofs.BlockLemmas.{Onward-append, Onward-nothing}
-use Rattle.trace_text.specs.Reading.{Reading}
+use Rattle.line_input.specs.Reading.{Reading}
 use Rattle.ecall_top.specs.Outcome.{Streams, streams_of}
 use Rattle.ecall_top.specs.inner.Stage.{StageStandsFor}
 use Rattle.ecall_top.specs.inner.Standing.{Standing}

@@ -1,6 +1,6 @@
 use Rattle.std.proofs.Common.{ap, arith, sym, subst, ◌∙◌, ◌≡◌, ◌+◌, ◌++◌, [], ◌∷◌, List, get_or, take, append_assoc}
 use Rattle.std.proofs.lemmas.List.{append-nil, take_more}
-use Rattle.trace_text.specs.declared.event.Event.{Event}
+use Rattle.trace_model.specs.declared.event.Event.{Event}
 use Rattle.ecall_top.specs.inner.Trialled.{Counted}
 use Rattle.ecall_top.proofs.Trialled.{counted_event, counted_whole, still_few, still_soon}
 use Rattle.ecall_top.proofs.trial.count_call.Goals as goal

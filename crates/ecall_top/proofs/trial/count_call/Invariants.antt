@@ -1,6 +1,6 @@
 use Rattle.std.proofs.Common.{ℕ, List, ◌++◌, take}
 use Rattle.msd_fit.specs.declared.facts.Facts.{Facts}
-use Rattle.trace_text.specs.declared.event.Event.{Event}
+use Rattle.trace_model.specs.declared.event.Event.{Event}
 use Rattle.ecall_top.specs.inner.Trialled.{Counted}
 use Rattle.ecall_top.proofs.trial.count_call.Given as goal
 

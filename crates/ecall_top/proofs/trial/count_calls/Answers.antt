@@ -1,7 +1,7 @@
 use Rattle.std.proofs.Common.{arith, sym, subst, ◌∙◌, List}
 use Rattle.msd_fit.specs.declared.facts.Facts.TheVariants as facts
 use Rattle.msd_fit.specs.declared.facts.OwnFacts.{OwnFacts}
-use Rattle.trace_text.specs.declared.event.Event.{Event}
+use Rattle.trace_model.specs.declared.event.Event.{Event}
 use Rattle.channel_sim.specs.World.{first_world}
 use Rattle.channel_sim.specs.WorldStands.{WorldStandsFor}
 use Rattle.ecall_top.specs.inner.Trialled.{Counted, events_of_calls, made_own}

@@ -6,7 +6,7 @@ use Rattle.per_bits.specs.Parts.{AreOctets}
 use Rattle.per_bits.proofs.Places.{length_octet_bits}
 use Rattle.msd_codec.specs.Sets.{HasSize}
 use Rattle.msd_codec.specs.Trees.{tree}
-use Rattle.msd_codec.proofs.SetLaws.{refused, rest_refused, passed, exit_stopped, exit_read, size_refused, answer_is}
+use Rattle.msd_codec.proofs.SetLaws.{refused, rest_refused, passed, in_place, exit_stopped, exit_read, size_refused, answer_is}
 use Rattle.msd_codec.proofs.reading.decode.Goals as goal
 use Rattle.msd_codec.proofs.reading.decode.Goals.{then-is_empty-via-then-is_empty, then-is_empty-via-else-is_empty+then-octets-gt-MOST_OCTETS}
 
@@ -53,3 +53,8 @@ pub returns-then-is_empty-clause-read : goal.returns-then-is_empty-clause-read
 returns-then-is_empty-clause-read c =
     let size : (length c.args.octets.now ≡ 0) ⊎ (140 < length c.args.octets.now) = elim c.then-is_empty.branch [ then-is_empty-via-then-is_empty w ↦ inl (grind (arith, nat_tests)) | then-is_empty-via-else-is_empty+then-octets-gt-MOST_OCTETS w ↦ inr (omega arith) ] in
     size_refused _ _ size (grind arith)
+
+pub returns-clause-places : goal.returns-clause-places
+returns-clause-places c =
+    let size : HasSize c.args.octets.now = (grind (arith, nat_tests), omega arith) in
+    in_place _ c.of-cursor.result size (c.of-cursor.ensures ∙ c.of.ensures.all) _ c.in_ok-msd.msd c.in_ok-msd.ensures.exact c.in_ok-msd.ensures.ends

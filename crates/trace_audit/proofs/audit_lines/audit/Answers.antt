@@ -1,5 +1,5 @@
 use Rattle.std.proofs.Common.{arith, refl, sym, subst, ◌∙◌, None}
-use Rattle.trace_text.specs.Reading.{Reading}
+use Rattle.line_input.specs.Reading.{Reading}
 use Rattle.trace_audit.specs.inner.AuditTurns.{Standing, Turn}
 use Rattle.trace_audit.proofs.AuditRead.{audit_first, items_few}
 use Rattle.trace_audit.proofs.audit_lines.audit.Goals as goal

@@ -1,5 +1,5 @@
 use Rattle.std.proofs.Common.{refl}
-use Rattle.trace_text.proofs.WordsLemmas.{words-some}
+use Rattle.line_input.proofs.WordsLemmas.{words-some}
 use Rattle.trace_text.proofs.events.read_lone.Goals as goal
 
 pub returns-in-Some : goal.returns-in-Some

@@ -2,7 +2,7 @@ use Rattle.std.proofs.Common.{◌≡◌, ℕ, ◌+◌, Some, [], refl, ap, sym, 
 use Rattle.std.proofs.lemmas.Result.{err_from_is_err_and}
 use Rattle.ivs_machine.specs.IvsStands.{IvsStandsFor}
 use Rattle.ivs_machine.specs.VehicleRows as vehicle
-use Rattle.trace_text.specs.History.{told}
+use Rattle.trace_model.specs.History.{told}
 use Rattle.channel_sim.specs.World as model
 use Rattle.channel_sim.specs.Lines as lines
 use Rattle.channel_sim.specs.inner.Acts.{IsReady}

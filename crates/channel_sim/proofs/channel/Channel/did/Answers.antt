@@ -1,7 +1,7 @@
 use Rattle.std.proofs.Common.{◌≡◌, ◌-◌, map, ap, sym, subst}
 use Rattle.std.proofs.lemmas.Result.{err_from_is_err_and}
 use Rattle.ivs_machine.specs.Vehicle.{vehicle_call}
-use Rattle.trace_text.specs.History.{told}
+use Rattle.trace_model.specs.History.{told}
 use Rattle.channel_sim.specs.World.{carries}
 use Rattle.channel_sim.specs.inner.Lag.{CallsLag}
 use Rattle.channel_sim.specs.Tidy.{AreAbove}

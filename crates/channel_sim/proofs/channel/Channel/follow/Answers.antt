@@ -2,7 +2,7 @@ use Rattle.channel_sim.proofs.BoundLemmas.{passes_more}
 use Rattle.channel_sim.specs.inner.Passes.{passes_of}
 use Rattle.std.proofs.Common.{◌≡◌, ◌+◌, take, arith, refl, sym, ◌∙◌, subst, ◌≤◌, ◌<◌, ◌^◌}
 use Rattle.std.proofs.lemmas.Result.{err_from_is_err_and}
-use Rattle.trace_text.specs.History.{told}
+use Rattle.trace_model.specs.History.{told}
 use Rattle.channel_sim.specs.World.{Step, does_each, consequences, consequence}
 use Rattle.channel_sim.specs.inner.Lag.{StandsAt}
 use Rattle.channel_sim.proofs.StepLemmas.{follow_more, follow_all, take_all}

@@ -1,6 +1,6 @@
 use Rattle.channel_sim.specs.inner.Passes.{passes_of}
 use Rattle.std.proofs.Common.{◌≡◌, ℕ, take, ◌≤◌, ◌<◌, ◌+◌, ◌^◌}
-use Rattle.trace_text.specs.History.{told}
+use Rattle.trace_model.specs.History.{told}
 use Rattle.channel_sim.specs.World.{World, does_each, consequences}
 use Rattle.channel_sim.specs.inner.Lag.{StandsAt}
 use Rattle.channel_sim.proofs.channel.Channel.follow.Given as goal

@@ -3,6 +3,7 @@ use Rattle.std.proofs.lemmas.Int.{ints}
 use Rattle.msd_codec.proofs.Casts.{cast_angle}
 use Rattle.per_types.specs.Kinds.{width_of, width_from}
 use Rattle.msd_codec.specs.Module.{angle}
+use Rattle.msd_codec.proofs.Parts.{whole_step}
 use Rattle.msd_codec.proofs.Steps.{exit, whole_tree, whole_err, whole_moves}
 use Rattle.msd_codec.proofs.reading.elements.read_angle.Goals as goal
 
@@ -20,3 +21,7 @@ returns-clause-exact c = whole_tree _ _ _ _ _ _ c.in_ok-n.ensures.exact (cast_an
 
 pub returns-clause-on : goal.returns-clause-on
 returns-clause-on c = whole_moves _ _ (omega (arith, ints)) _ _ _ c.in_ok-n.ensures.exact
+
+pub returns-clause-step : goal.returns-clause-step
+unfolding width_of width_from
+returns-clause-step c = whole_step _ _ _ _ _ c.in_ok-n.ensures.exact

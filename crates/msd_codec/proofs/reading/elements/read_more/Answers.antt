@@ -1,7 +1,7 @@
 use Rattle.std.proofs.Common.{subst}
 use Rattle.per_bits.specs.Bits.{Part, IsInPlace}
 use Rattle.msd_codec.proofs.Steps.{exit}
-use Rattle.msd_codec.proofs.Parts.{more_none, more_some, more_failed, section_lies, section_moves, lie_between}
+use Rattle.msd_codec.proofs.Parts.{more_none, more_some, more_failed, section_lies, section_fills, section_moves, lie_between}
 use Rattle.msd_codec.proofs.reading.elements.read_more.Goals as goal
 
 pub returns-then-not-extended-clause-exact : goal.returns-then-not-extended-clause-exact
@@ -19,3 +19,6 @@ returns-clause-parts c =
 
 pub returns-clause-on : goal.returns-clause-on
 returns-clause-on c = section_moves _ _ _ c.in_ok-additions.ensures.exact
+
+pub returns-clause-fills : goal.returns-clause-fills
+returns-clause-fills c = section_fills _ _ _ c.in_ok-additions.ensures.exact

@@ -1,9 +1,9 @@
-use Rattle.std.proofs.Common.{refl}
+use Rattle.std.proofs.Common.{refl, sym}
 use Rattle.msd_codec.specs.Module.{additional_data}
 use Rattle.msd_codec.proofs.Steps.{exit, none_is, plain_is, required_err, required_is}
 use Rattle.std.proofs.Common.{subst}
 use Rattle.per_bits.specs.Bits.{Part, IsInPlace}
-use Rattle.msd_codec.proofs.Parts.{oid_tree, oid_err, octets_tree, octets_err, two_parts, two_move, content_follows}
+use Rattle.msd_codec.proofs.Parts.{oid_tree, oid_err, octets_tree, octets_err, two_parts, two_move, content_follows, oid_start, octets_lie}
 use Rattle.msd_codec.proofs.reading.message.read_additional_data.Goals as goal
 
 pub returns-in_err-oid-clause-exact : goal.returns-in_err-oid-clause-exact
@@ -33,3 +33,7 @@ returns-clause-on c = two_move _ _ _ _ _ c.in_ok-oid.ensures.exact c.in_ok-conte
 
 pub returns-clause-content : goal.returns-clause-content
 returns-clause-content c = content_follows _ _ _ _ _ c.in_ok-oid.ensures.exact c.in_ok-content.ensures.exact
+
+pub returns-clause-fills : goal.returns-clause-fills
+returns-clause-fills c =
+    (oid_start _ _ _ c.in_ok-oid.ensures.exact, content_follows _ _ _ _ _ c.in_ok-oid.ensures.exact c.in_ok-content.ensures.exact, sym (octets_lie _ _ _ c.in_ok-content.ensures.exact).to)

@@ -39,3 +39,14 @@ returns-clause-parts c = three _ _ _ _ c.read_more.new.c _ _ _ (moves_on _ _ _ c
 
 pub returns-clause-on : goal.returns-clause-on
 returns-clause-on c = (moves_on _ _ _ c.in_ok-extended.ensures.on (moves_on _ _ _ c.in_ok-present.ensures.on (moves_on _ _ _ c.in_ok-msd.ensures.on (moves_on _ _ _ c.in_ok-extra.ensures.on c.in_ok-message_more.ensures.on))))
+
+pub returns-clause-ends : goal.returns-clause-ends
+returns-clause-ends c =
+    let s = c.in_ok-msd.ensures.ends in
+    record {
+      beside = c.read_structure.new.c.start;
+      more = c.read_extra.new.c.start;
+      structure = record { fuel = s.fuel; time = s.time; more = s.more; fuel_more = s.fuel_more; fields = s.fields; set_more = s.set_more };
+      extra = c.in_ok-extra.ensures.fills;
+      message_more = c.in_ok-message_more.ensures.fills;
+    }

@@ -1,6 +1,6 @@
 use Rattle.std.proofs.Common.{◌≡◌, ◌-◌, length, take}
 use Rattle.std.specs.List.{AllPass}
-use Rattle.per_types.specs.inner.Reading.{text_at}
+use Rattle.per_types.specs.Reading.{text_at}
 use Rattle.msd_values.specs.Alphabet.{is_vin_character}
 use Rattle.msd_codec.proofs.Identification.{text_behind}
 use Rattle.msd_codec.proofs.reading.structure.read_characters.Given as goal

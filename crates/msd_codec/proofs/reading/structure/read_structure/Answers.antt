@@ -1,4 +1,4 @@
-use Rattle.std.proofs.Common.{refl, ◌∙◌, rules, w32}
+use Rattle.std.proofs.Common.{refl, ◌∙◌, rules, w32, arith}
 use Rattle.std.proofs.lemmas.Int.{to_z-of_z}
 use mir.Val.{SFits}
 use Rattle.per_bits.specs.Bits.{digits}
@@ -127,3 +127,13 @@ returns-clause-parts c =
 
 pub returns-clause-on : goal.returns-clause-on
 returns-clause-on c = (moves_on _ _ _ c.in_ok-extended.ensures.on (moves_on _ _ _ c.in_ok-present.ensures.on (moves_on _ _ _ c.in_ok-message.ensures.on (moves_on _ _ _ c.in_ok-control.ensures.on (moves_on _ _ _ c.in_ok-vin.ensures.on (moves_on _ _ _ c.in_ok-storage.ensures.on (moves_on _ _ _ c.in_ok-time.ensures.on (moves_on _ _ _ c.in_ok-latitude.ensures.on (moves_on _ _ _ c.in_ok-heading.ensures.on (moves_on _ _ _ c.in_ok-before1.ensures.on (moves_on _ _ _ c.in_ok-before2.ensures.on (moves_on _ _ _ c.in_ok-passengers.ensures.on c.in_ok-set_more.ensures.on))))))))))))
+
+pub returns-clause-ends : goal.returns-clause-ends
+returns-clause-ends c = record {
+  fuel = c.in_ok-storage.ensures.ends.0;
+  time = c.read_storage.new.c.start;
+  more = c.read_passengers.new.c.start;
+  fuel_more = c.in_ok-storage.ensures.ends.1;
+  fields = omega (arith, c.in_ok-time.ensures.step, c.in_ok-latitude.ensures.step, c.in_ok-heading.ensures.step, c.in_ok-before1.ensures.step, c.in_ok-before2.ensures.step, c.in_ok-passengers.ensures.step);
+  set_more = c.in_ok-set_more.ensures.fills;
+}

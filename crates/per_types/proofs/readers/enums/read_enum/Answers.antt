@@ -5,7 +5,7 @@ use Rattle.per_types.proofs.Stringwise.{enum_refused, enum_unadded, enum_added, 
 use Rattle.std.proofs.Common.{Ok}
 use Rattle.per_types.proofs.Decided.{gives_reads, only_enum}
 use Rattle.per_types.specs.Writing.{EnumElements}
-use Rattle.per_types.specs.inner.Reading.{enum_at}
+use Rattle.per_types.specs.Reading.{enum_at}
 use Rattle.per_types.proofs.readers.enums.read_enum.Goals as goal
 
 pub returns-in_err-read_bool-clause-exact : goal.returns-in_err-read_bool-clause-exact

@@ -3,7 +3,7 @@ use Rattle.per_types.proofs.Elementwise.{truth_short, truth_ok}
 use Rattle.std.proofs.Common.{Ok}
 use Rattle.per_types.proofs.Decided.{gives_reads, only_truth}
 use Rattle.per_types.specs.Spelling.{TruthElements}
-use Rattle.per_types.specs.inner.Reading.{truth_at}
+use Rattle.per_types.specs.Reading.{truth_at}
 use Rattle.per_types.proofs.readers.numbers.read_bool.Goals as goal
 
 pub returns-in_err-n-clause-exact : goal.returns-in_err-n-clause-exact

@@ -4,7 +4,7 @@ use Rattle.per_types.proofs.Elementwise.{character_short, character_unknown, cha
 use Rattle.std.proofs.Common.{Ok, Err}
 use Rattle.per_types.proofs.Decided.{gives_reads, only_character}
 use Rattle.per_types.specs.Spelling.{CharacterElements}
-use Rattle.per_types.specs.inner.Reading.{character_at}
+use Rattle.per_types.specs.Reading.{character_at}
 use Rattle.per_types.proofs.readers.numbers.read_char.Goals as goal
 
 pub returns-in_err-n-clause-exact : goal.returns-in_err-n-clause-exact

@@ -5,7 +5,7 @@ use Rattle.std.proofs.Common.{Ok, Err, get_or, arith}
 use Rattle.std.proofs.lemmas.List.{get_or_default}
 use Rattle.per_types.proofs.Decided.{gives_reads, only_format}
 use Rattle.per_types.specs.Spelling.{FormatElements}
-use Rattle.per_types.specs.inner.Reading.{format_at}
+use Rattle.per_types.specs.Reading.{format_at}
 use Rattle.per_types.proofs.readers.numbers.read_format.Goals as goal
 
 pub returns-in_err-n-clause-exact : goal.returns-in_err-n-clause-exact

@@ -3,7 +3,7 @@ use Rattle.per_types.proofs.Elementwise.{length_short, length_large, length_ok}
 use Rattle.std.proofs.Common.{Ok, Err}
 use Rattle.per_types.proofs.Decided.{gives_reads, only_length}
 use Rattle.per_types.specs.Spelling.{LengthElements}
-use Rattle.per_types.specs.inner.Reading.{length_at}
+use Rattle.per_types.specs.Reading.{length_at}
 use Rattle.per_types.proofs.readers.numbers.read_length.Goals as goal
 
 pub returns-in_err-n-clause-exact : goal.returns-in_err-n-clause-exact

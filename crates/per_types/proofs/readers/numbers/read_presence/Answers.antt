@@ -4,7 +4,7 @@ use Rattle.std.proofs.Common.{Ok}
 use Rattle.per_bits.specs.Bits.{digits}
 use Rattle.per_types.proofs.Decided.{gives_reads, only_presence}
 use Rattle.per_types.specs.Spelling.{PresenceElements}
-use Rattle.per_types.specs.inner.Reading.{presence_at}
+use Rattle.per_types.specs.Reading.{presence_at}
 use Rattle.per_types.proofs.readers.numbers.read_presence.Goals as goal
 
 pub returns-in_err-bits-clause-exact : goal.returns-in_err-bits-clause-exact

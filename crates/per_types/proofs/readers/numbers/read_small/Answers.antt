@@ -3,7 +3,7 @@ use Rattle.per_types.proofs.Elementwise.{small_short, small_large, small_ok}
 use Rattle.std.proofs.Common.{Ok, Err}
 use Rattle.per_types.proofs.Decided.{gives_reads, only_small}
 use Rattle.per_types.specs.Spelling.{SmallElements}
-use Rattle.per_types.specs.inner.Reading.{small_at}
+use Rattle.per_types.specs.Reading.{small_at}
 use Rattle.per_types.proofs.readers.numbers.read_small.Goals as goal
 
 pub returns-in_err-n-clause-exact : goal.returns-in_err-n-clause-exact

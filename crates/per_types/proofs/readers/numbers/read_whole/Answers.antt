@@ -8,7 +8,7 @@ use Rattle.per_types.proofs.Elementwise.{whole_short, whole_above, whole_sum, sp
 use Rattle.std.proofs.Common.{Ok, Err}
 use Rattle.per_types.proofs.Decided.{gives_reads, only_whole}
 use Rattle.per_types.specs.Spelling.{WholeElements}
-use Rattle.per_types.specs.inner.Reading.{whole_at}
+use Rattle.per_types.specs.Reading.{whole_at}
 use Rattle.per_types.proofs.readers.numbers.read_whole.Goals as goal
 
 pub look-requires : goal.look-requires

@@ -5,7 +5,7 @@ use Rattle.std.proofs.Common.{Ok}
 use Rattle.per_bits.specs.Bits.{Part}
 use Rattle.per_bits.specs.Parts.{members_of}
 use Rattle.per_types.specs.Spelling.{SectionElements}
-use Rattle.per_types.specs.inner.Reading.{section_at, members_at}
+use Rattle.per_types.specs.Reading.{section_at, members_at}
 use Rattle.per_types.proofs.Decided.{part_reads, only_members}
 use Rattle.per_types.proofs.PartLaws.{members_are, section_part}
 use Rattle.per_types.proofs.readers.sections.read_additions.Goals as goal

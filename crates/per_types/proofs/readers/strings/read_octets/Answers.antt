@@ -3,7 +3,7 @@ use Rattle.per_types.proofs.Stringwise.{octets_refused, octets_give}
 use Rattle.per_bits.specs.Bits.{Part, octets_of}
 use Rattle.per_types.proofs.Decided.{part_reads, only_string}
 use Rattle.per_types.specs.Spelling.{StringElements}
-use Rattle.per_types.specs.inner.Reading.{octets_at, string_at}
+use Rattle.per_types.specs.Reading.{octets_at, string_at}
 use Rattle.per_types.proofs.PartLaws.{string_is, string_part}
 use Rattle.per_types.proofs.readers.strings.read_octets.Goals as goal
 

@@ -5,7 +5,7 @@ use Rattle.std.proofs.Common.{Ok, Err}
 use Rattle.per_bits.specs.Bits.{Part, octets_of}
 use Rattle.per_types.proofs.Decided.{part_reads, only_object}
 use Rattle.per_types.specs.Spelling.{OidElements}
-use Rattle.per_types.specs.inner.Reading.{oid_at, object_at}
+use Rattle.per_types.specs.Reading.{oid_at, object_at}
 use Rattle.per_types.proofs.PartLaws.{object_is, object_part}
 use Rattle.per_types.proofs.readers.strings.read_oid.Goals as goal
 

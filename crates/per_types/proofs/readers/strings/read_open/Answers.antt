@@ -3,7 +3,7 @@ use Rattle.per_types.proofs.Stringwise.{open_refused, open_gives}
 use Rattle.per_bits.specs.Bits.{Part, octets_of}
 use Rattle.per_types.proofs.Decided.{part_reads, only_open}
 use Rattle.per_types.specs.Spelling.{OpenElements}
-use Rattle.per_types.specs.inner.Reading.{open_at, content_at}
+use Rattle.per_types.specs.Reading.{open_at, content_at}
 use Rattle.per_types.proofs.PartLaws.{content_is, open_part}
 use Rattle.per_types.proofs.readers.strings.read_open.Goals as goal
 

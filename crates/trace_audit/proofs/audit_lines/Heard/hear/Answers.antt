@@ -1,5 +1,5 @@
 use Rattle.std.proofs.Common.{arith, ◌≤◌}
-use Rattle.trace_text.specs.Tallies.{last_tick}
+use Rattle.trace_model.specs.Tallies.{last_tick}
 use Rattle.trace_audit.proofs.AuditRead.{taken_entry}
 use Rattle.trace_audit.proofs.audit_lines.Heard.hear.Goals as goal
 

@@ -1,5 +1,5 @@
 use Rattle.link_frames.specs.declared.frame.End.TheVariants as «end»
-use Rattle.trace_text.proofs.Fronts.{nothing_safe}
+use Rattle.trace_model.proofs.Fronts.{nothing_safe}
 use Rattle.trace_audit.proofs.rules.Rules.new.Goals as goal
 
 pub returns : goal.returns

@@ -1,6 +1,6 @@
 use Rattle.std.proofs.Common.{[], ◌++◌, ◌∙◌, ◌∷◌, refl, subst, sym, ℕ}
 use Rattle.link_frames.specs.declared.frame.End.TheVariants as «end»
-use Rattle.trace_text.specs.Safety.{Safe}
+use Rattle.trace_model.specs.Safety.{Safe}
 use Rattle.trace_audit.specs.declared.legs.Legs.{Legs}
 use Rattle.trace_audit.specs.declared.shown.Shown.{Shown}
 use Rattle.trace_audit.specs.LegsStand.{LegsStandFor}

@@ -3,7 +3,7 @@ use Rattle.std.specs.Option.{option_copied}
 use Rattle.std.specs.Str.{bytes_eq}
 use Rattle.trace_text.specs.EntryLine.{spaced}
 use Rattle.trace_text.specs.Summary.{summary_words}
-use Rattle.trace_text.specs.inner.Arguments.{words_behind}
+use Rattle.line_input.specs.Arguments.{words_behind}
 use Rattle.trace_text.proofs.EntryWords.{spaced-words}
 use Rattle.trace_text.proofs.entries.next_words.NextWords.are_summary.Goals as goal
 

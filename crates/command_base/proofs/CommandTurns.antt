@@ -1,0 +1,182 @@
+-- What a turn of the loop over lines comes to, by what the command does with a line and at the end.
+use Rattle.std.specs.Prelude.{◌≡◌, ℕ, ◌+◌, ◌<◌, ◌≤◌, true, false, List, Option, Some, None, Ok, MatchOption, length}
+use Rattle.std.proofs.Common.{◌∙◌, arith, subst, sym, inl, inr}
+use Rattle.line_input.specs.Lines.{Numbered, most_bytes}
+use Rattle.line_input.specs.Reading.{Reading, ReadsLine, first_reading}
+use Rattle.command_base.specs.LineCommands.{IsLined, IsQuietLine, IsQuietTurn, TakesLine, EndsInput}
+use Rattle.command_base.specs.declared.status.Status.{Status}
+use Rattle.command_base.specs.declared.status.Status.TheVariants as status
+use Rattle.command_base.specs.Outcome.{Streams, Outcome, ReadCause}
+use Rattle.command_base.specs.Refusals.{Reply}
+use Rattle.command_base.specs.inner.ReadEnds.{EndsReading, by_line, in_front}
+use Rattle.line_input.specs.declared.fault.LineFault.TheVariants as fault
+use Rattle.command_base.specs.inner.Standing.{CommandStanding, RepliesFrom, most_from, TurnsTo}
+use Rattle.command_base.proofs.LinesRead as lines
+
+module _ {Seen : Type 0} (Rest : Seen → ℕ → List (List ℕ) → Reply → Type 0) (most : Seen → ℕ → List (List ℕ) → ℕ)
+    (first : Seen) where
+  -- the command stands at its beginning
+  pub stands_first : (Stands : ℕ → Seen → Type 0) (start : Streams) → Stands 0 first
+      → CommandStanding Rest most first Stands start start first_reading
+  stands_first Stands start stands =
+      record {
+        seen = first;
+        stands = stands;
+        lines =
+            lines.first_standing (RepliesFrom Rest most first) (most_from Rest most first) (Rest first) (most first)
+            (λ input r replied. replied) (λ input. omega arith) start;
+      }
+
+  -- a line was read, with all as it was written, and the command took it
+  pub found : (Stands Stands' : ℕ → Seen → Type 0)
+      → ((before : ℕ) (seen : Seen) → Stands before seen → IsLined (Rest seen) (most seen))
+      → (start now : Streams) (passes : ℕ) (old new : Reading) (line : Numbered) (left between held : Option (List ℕ))
+      → between ≡ now.held → line ≡ record { number = new.lines; text = new.text }
+      → ReadsLine old new now.left left (Ok true) → (answer : Option Status)
+      → ((before : ℕ) (seen : Seen) → Stands before seen → before < line.number
+      → TakesLine Rest most (Stands' line.number) seen line.number line.text now.passes passes between held answer)
+      → CommandStanding Rest most first Stands start now old
+      → TurnsTo Rest most first Stands' start (record { left = left; held = held; passes = passes }) old new answer
+  found Stands Stands' lined start now passes old new line left between held same line_is reads answer takes s =
+      by_answer answer
+      (subst (λ (h : Option (List ℕ)).
+      TakesLine Rest most (Stands' new.lines) s.seen new.lines new.text now.passes passes h held answer) same
+      (subst (λ (l : Numbered).
+      TakesLine Rest most (Stands' l.number) s.seen l.number l.text now.passes passes between held answer) line_is
+      (takes old.lines s.seen s.stands
+      (subst (λ (l : Numbered). old.lines < l.number) (sym line_is) (counted.0)))))
+    where
+      is_lined : IsLined (Rest s.seen) (most s.seen)
+      is_lined = lined old.lines s.seen s.stands
+
+      counted : (old.lines < new.lines) × (new.lines ≤ most_bytes)
+      counted =
+          lines.counted (RepliesFrom Rest most first) (most_from Rest most first) (Rest s.seen) (most s.seen) is_lined
+          start now old new left s.lines reads
+
+      by_answer : (answer : Option Status)
+          → TakesLine Rest most (Stands' new.lines) s.seen new.lines new.text now.passes passes now.held held answer
+          → TurnsTo Rest most first Stands' start (record { left = left; held = held; passes = passes }) old new answer
+      by_answer None t = (
+        record {
+          seen = t.next;
+          stands = t.stands;
+          lines =
+              lines.goes_on (RepliesFrom Rest most first) (most_from Rest most first) (Rest s.seen) (most s.seen)
+              is_lined (Rest t.next) (most t.next) start now passes old new left held s.lines t.text reads t.goes
+              t.counted t.wrote;
+        },
+        counted.0,
+        counted.1,
+      )
+      by_answer (Some answer) t =
+          lines.ends_line (RepliesFrom Rest most first) (most_from Rest most first) (Rest s.seen) (most s.seen) is_lined
+          start now passes old new left held s.lines reads answer t.0 t.1
+
+  -- the end of the input was read, with all as it was written, and the command ended there
+  pub finished : (Stands : ℕ → Seen → Type 0)
+      → ((before : ℕ) (seen : Seen) → Stands before seen → IsLined (Rest seen) (most seen))
+      → (start now : Streams) (old new : Reading) (left between held : Option (List ℕ)) → between ≡ now.held
+      → ReadsLine old new now.left left (Ok false) → (answer : Status)
+      → ((before : ℕ) (seen : Seen) → Stands before seen → (number : ℕ)
+      → EndsInput (Rest seen) number between held answer)
+      → CommandStanding Rest most first Stands start now old
+      → Outcome (RepliesFrom Rest most first) (most_from Rest most first) true start
+      (record now { left = left; held = held }) answer
+  finished Stands lined start now old new left between held same reads answer ends s =
+      lines.ended (RepliesFrom Rest most first) (most_from Rest most first) (Rest s.seen) (most s.seen)
+      (lined old.lines s.seen s.stands) start now old new left held s.lines reads answer
+      (subst (λ (h : Option (List ℕ)).
+      EndsInput (Rest s.seen) (old.lines + 1 + length reads.finds.0.passed) h held answer) same
+      (ends old.lines s.seen s.stands (old.lines + 1 + length reads.finds.0.passed)))
+
+  -- a line that wasn't read ends the command
+  pub unread : (Stands : ℕ → Seen → Type 0)
+      → ((before : ℕ) (seen : Seen) → Stands before seen → IsLined (Rest seen) (most seen))
+      → (start now : Streams) (old new : Reading) (left held : Option (List ℕ)) (answer : Status)
+      → EndsReading old new now.left left now.held held answer → CommandStanding Rest most first Stands start now old
+      → Outcome (RepliesFrom Rest most first) (most_from Rest most first) true start
+      (record now { left = left; held = held }) answer
+  unread Stands lined start now old new left held answer ends s =
+      lines.unread (RepliesFrom Rest most first) (most_from Rest most first) (Rest s.seen) (most s.seen)
+      (lined old.lines s.seen s.stands) start now old new left held answer ends s.lines
+
+  -- no read fails where a line was taken
+  pub line_reads : (Stands : Seen → Type 0) (seen : Seen) (number : ℕ) (line : List ℕ) (passes passes' : ℕ)
+      (held held' : Option (List ℕ)) (old new : ℕ) → new ≡ old → (answer : Option Status)
+      → TakesLine Rest most Stands seen number line passes passes' held held' answer
+      → MatchOption answer (new ≡ old) (λ a. ReadCause a old new)
+  line_reads Stands seen number line passes passes' held held' old new same None t = same
+  line_reads Stands seen number line passes passes' held held' old new same (Some (status.Refused why)) t = same
+  line_reads Stands seen number line passes passes' held held' old new same (Some (status.Broken place rule)) t = same
+  line_reads Stands seen number line passes passes' held held' old new same (Some status.WriteFault) t = same
+  line_reads Stands seen number line passes passes' held held' old new same (Some status.Memory) t = same
+  line_reads Stands seen number line passes passes' held held' old new same (Some status.Done) t = same
+  line_reads Stands seen number line passes passes' held held' old new same (Some status.Usage) t = same
+  line_reads Stands seen number line passes passes' held held' old new same (Some status.TooLong) t = same
+  line_reads Stands seen number line passes passes' held held' old new same (Some status.ReadFault) t = absurd t.0
+
+  -- nor at the end
+  pub end_reads : (seen : Seen) (number : ℕ) (held held' : Option (List ℕ)) (old new : ℕ) → new ≡ old
+      → (answer : Status) → EndsInput (Rest seen) number held held' answer → ReadCause answer old new
+  end_reads seen number held held' old new same (status.Refused why) e = same
+  end_reads seen number held held' old new same (status.Broken place rule) e = same
+  end_reads seen number held held' old new same status.WriteFault e = same
+  end_reads seen number held held' old new same status.Memory e = same
+  end_reads seen number held held' old new same status.Done e = same
+  end_reads seen number held held' old new same status.Usage e = same
+  end_reads seen number held held' old new same status.TooLong e = same
+  end_reads seen number held held' old new same status.ReadFault e = absurd e
+
+  -- a line that was taken, or not for want of memory, was taken in silence
+  pub line_silent : (Stands : Seen → Type 0) (seen : Seen) (number : ℕ) (line : List ℕ) (passes passes' : ℕ)
+      (held between held' : Option (List ℕ)) → between ≡ held → (answer : Option Status)
+      → TakesLine Rest most Stands seen number line passes passes' between held' answer
+      → (IsQuietLine answer → held' ≡ between) → IsQuietTurn answer → held' ≡ held
+  line_silent Stands seen number line passes passes' held between held' same None t silent quiet = silent tt ∙ same
+  line_silent Stands seen number line passes passes' held between held' same (Some status.Memory) t silent quiet =
+      silent tt ∙ same
+  line_silent Stands seen number line passes passes' held between held' same (Some status.ReadFault) t silent quiet =
+      absurd t.0
+  line_silent Stands seen number line passes passes' held between held' same (Some status.TooLong) t silent quiet =
+      absurd t.0
+  line_silent Stands seen number line passes passes' held between held' same (Some (status.Refused why)) t silent q =
+      absurd q
+  line_silent Stands seen number line passes passes' held between held' same (Some (status.Broken p r)) t silent q =
+      absurd q
+  line_silent Stands seen number line passes passes' held between held' same (Some status.Done) t silent q = absurd q
+  line_silent Stands seen number line passes passes' held between held' same (Some status.Usage) t silent q = absurd q
+  line_silent Stands seen number line passes passes' held between held' same (Some status.WriteFault) t silent q =
+      absurd q
+
+  -- so is the end
+  pub end_silent : (seen : Seen) (number : ℕ) (held between held' : Option (List ℕ)) → between ≡ held
+      → (answer : Status) → EndsInput (Rest seen) number between held' answer → IsQuietTurn (Some answer)
+      → held' ≡ held
+  end_silent seen number held between held' same status.Memory e quiet = e ∙ same
+  end_silent seen number held between held' same status.ReadFault e quiet = absurd e
+  end_silent seen number held between held' same status.TooLong e quiet = absurd e
+  end_silent seen number held between held' same (status.Refused why) e quiet = absurd quiet
+  end_silent seen number held between held' same (status.Broken p r) e quiet = absurd quiet
+  end_silent seen number held between held' same status.Done e quiet = absurd quiet
+  end_silent seen number held between held' same status.Usage e quiet = absurd quiet
+  end_silent seen number held between held' same status.WriteFault e quiet = absurd quiet
+
+-- and a line that wasn't read
+pub unread_silent : (old new : Reading) (left left' held held' : Option (List ℕ)) (answer : Status)
+    → EndsReading old new left left' held held' answer → IsQuietTurn (Some answer) → held' ≡ held
+unread_silent old new left left' held held' answer (by_line (fault.Bad bad) reads (inl h)) quiet =
+    absurd (subst (λ (a : Status). IsQuietTurn (Some a)) h.0 quiet)
+unread_silent old new left left' held held' answer (by_line (fault.Bad bad) reads (inr h)) quiet =
+    absurd (subst (λ (a : Status). IsQuietTurn (Some a)) h.0 quiet)
+unread_silent old new left left' held held' answer (by_line fault.ReadFault reads fails) quiet = fails.1
+unread_silent old new left left' held held' answer (by_line fault.TooLong reads fails) quiet = fails.1
+unread_silent old new left left' held held' answer (in_front is left_is held_is) quiet = held_is
+
+-- a line that is found stands behind those before it
+pub found_less : (old new : Reading) (line : Numbered) (left left' : Option (List ℕ))
+    → line ≡ record { number = new.lines; text = new.text } → ReadsLine old new left left' (Ok true)
+    → old.lines < line.number
+found_less old new line left left' line_is reads =
+    let less : old.lines < new.lines = omega (arith, reads.finds.0.last) in
+    subst (λ (l : Numbered). old.lines < l.number) (sym line_is) less

@@ -1,0 +1,5 @@
+mod Takings
+mod LinesRead
+mod CommandTurns
+pub mod LineEnds
+pub mod WholeReplies

@@ -1,0 +1,45 @@
+-- Where a command over lines stands between two lines, and what one more line comes to. This project's profile. Cited by
+-- the loop over lines.
+use Rattle.std.specs.Prelude.{ℕ, ◌+◌, ◌<◌, ◌≤◌, true, List, ◌++◌, Option, Some, None}
+use Rattle.call_io.specs.Bytes.{Grew}
+use Rattle.line_input.specs.Lines.{lines_of, most_bytes}
+use Rattle.line_input.specs.Reading.{Reading, MayFollow}
+use Rattle.command_base.specs.declared.status.Status.{Status}
+use Rattle.command_base.specs.Outcome.{Streams, Outcome}
+use Rattle.command_base.specs.Refusals.{Reply, in_front_of}
+use Rattle.command_base.specs.inner.Taken.{TakenSoFar}
+
+-- The text of a front of the input stands in front of the reply to what follows it, whatever that is; and so for how
+-- often ends are passed.
+pub record LinesStanding (replies : List ℕ → Reply → Type 0) (most : List ℕ → ℕ)
+    (Rest : ℕ → List (List ℕ) → Reply → Type 0) (more_passes : ℕ → List (List ℕ) → ℕ) (start now : Streams)
+    (reading : Reading) : Type 0 where
+  pub front : List ℕ
+  pub taken : TakenSoFar start now reading front
+  pub text : List ℕ
+  pub read : (more : List ℕ) → MayFollow reading.feed more → (r : Reply) → Rest (reading.lines + 1) (lines_of more) r
+      → replies (front ++ more) (in_front_of text r)
+  pub wrote : Grew start.held now.held text
+  pub counted : (more : List ℕ) → MayFollow reading.feed more
+      → now.passes + more_passes (reading.lines + 1) (lines_of more) ≤ start.passes + most (front ++ more)
+
+module _ {Seen : Type 0} (Rest : Seen → ℕ → List (List ℕ) → Reply → Type 0) (most : Seen → ℕ → List (List ℕ) → ℕ)
+    (first : Seen) where
+  abbrev pub RepliesFrom : List ℕ → Reply → Type 0
+  RepliesFrom input r = Rest first 1 (lines_of input) r
+
+  abbrev pub most_from : List ℕ → ℕ
+  most_from input = most first 1 (lines_of input)
+
+  -- where a command stands between two lines
+  pub record CommandStanding (Stands : ℕ → Seen → Type 0) (start now : Streams) (reading : Reading) : Type 0 where
+    pub seen : Seen
+    pub stands : Stands reading.lines seen
+    pub lines : LinesStanding RepliesFrom most_from (Rest seen) (most seen) start now reading
+
+  -- what a turn comes to: the command stands behind one more line, or it ended with this outcome
+  abbrev pub TurnsTo : (Stands : ℕ → Seen → Type 0) → (start now : Streams) → (old new : Reading) → Option Status
+      → Type 0
+  TurnsTo Stands start now old new None =
+      CommandStanding Stands start now new × (old.lines < new.lines) × (new.lines ≤ most_bytes)
+  TurnsTo Stands start now old new (Some answer) = Outcome RepliesFrom most_from true start now answer

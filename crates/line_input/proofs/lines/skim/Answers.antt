@@ -1,0 +1,50 @@
+use Rattle.std.proofs.Common.{sym, refl, ◌∙◌}
+use Rattle.std.proofs.lemmas.Result.{err_from_is_err_and}
+use Rattle.line_input.proofs.SkimLemmas.{Skimmed-none, Skimmed-more, ReadsLine-found, ReadsLine-bad, ReadsLine-end, ReadsLine-fault, Cuts-says, Cuts-passed, CutsBad-refused, GathersLine-none, passed_none, newline_too, begins_still}
+use Rattle.line_input.proofs.lines.skim.Goals as goal
+
+pub loop-ending-init : goal.loop-ending-init
+loop-ending-init g c = (Skimmed-none _ _ _ _ c.requires.done c.requires.few, refl, λ _. (refl, refl))
+
+pub returns-in_err-ending-clause-reads : goal.returns-in_err-ending-clause-reads
+returns-in_err-ending-clause-reads g c =
+    let p = err_from_is_err_and c.from_residual.result c.from_residual.ensures.1 in
+    rw (p.1, p.2) (ReadsLine-fault _ _ _ _ _ _ _ _ c.loop-ending.invariant.0 c.in_err-ending.ensures.line c.in_err-ending.ensures.limit)
+
+pub returns-in-NoLine-clause-reads : goal.returns-in-NoLine-clause-reads
+returns-in-NoLine-clause-reads g c =
+    let none = GathersLine-none _ _ _ _ _ _ c.in_ok-ending.ensures.line (sym (rw c.as_slice.ensures.value at c.in-NoLine.ensures)) in
+    ReadsLine-end _ _ _ _ _ _ _ c.loop-ending.invariant.0 none.0 c.in_ok-ending.ensures.limit none.1
+
+pub returns-in-Says-clause-reads : goal.returns-in-Says-clause-reads
+returns-in-Says-clause-reads g c =
+    let line = c.in_ok-ending.ensures.line in
+    let cut = Cuts-says _ _ _ _ _ _ line (sym (rw c.as_slice.ensures.value at c.in-Says.ensures)) in
+    ReadsLine-found _ _ _ _ _ _ _ _ c.loop-ending.invariant.0 line.draws line.done c.in_ok-ending.ensures.limit cut.0 cut.1
+
+pub returns-in-Refused-clause-reads : goal.returns-in-Refused-clause-reads
+returns-in-Refused-clause-reads g c =
+    let line = c.in_ok-ending.ensures.line in
+    let cut = CutsBad-refused _ _ _ _ _ _ _ line (sym (rw c.as_slice.ensures.value at c.in-Refused.ensures)) in
+    ReadsLine-bad _ _ _ _ _ _ _ _ _ c.loop-ending.invariant.0 line.draws line.done c.in_ok-ending.ensures.limit cut
+
+pub loop-ending-preserved : goal.loop-ending-preserved
+loop-ending-preserved g c =
+    let line = c.in_ok-ending.ensures.line in
+    let cut = Cuts-passed _ _ _ _ _ _ line (sym (rw c.as_slice.ensures.value at c.in-PassedOver.ensures)) in (
+      Skimmed-more _ _ _ _ _ _ _ _ c.loop-ending.invariant.0 line.draws line.done cut.0 cut.1,
+      c.in_ok-ending.ensures.stood ∙ c.loop-ending.invariant.1,
+      λ begins. absurd (passed_none _ _ _ _ _ _ line (sym (rw c.as_slice.ensures.value at c.in-PassedOver.ensures)) (begins_still _ _ (c.loop-ending.invariant.2 begins).0 begins)),
+    )
+
+pub returns-in_err-ending-clause-at_hand : goal.returns-in_err-ending-clause-at_hand
+returns-in_err-ending-clause-at_hand g c = λ begins. let first = c.loop-ending.invariant.2 begins in c.in_err-ending.ensures.at_hand (newline_too c.loop-ending.bytes.pending (begins_still _ _ first.0 begins)) ∙ first.1
+
+pub returns-in-NoLine-clause-at_hand : goal.returns-in-NoLine-clause-at_hand
+returns-in-NoLine-clause-at_hand g c = λ begins. let first = c.loop-ending.invariant.2 begins in c.in_ok-ending.ensures.at_hand (newline_too c.loop-ending.bytes.pending (begins_still _ _ first.0 begins)) ∙ first.1
+
+pub returns-in-Says-clause-at_hand : goal.returns-in-Says-clause-at_hand
+returns-in-Says-clause-at_hand g c = λ begins. let first = c.loop-ending.invariant.2 begins in c.in_ok-ending.ensures.at_hand (newline_too c.loop-ending.bytes.pending (begins_still _ _ first.0 begins)) ∙ first.1
+
+pub returns-in-Refused-clause-at_hand : goal.returns-in-Refused-clause-at_hand
+returns-in-Refused-clause-at_hand g c = λ begins. let first = c.loop-ending.invariant.2 begins in c.in_ok-ending.ensures.at_hand (newline_too c.loop-ending.bytes.pending (begins_still _ _ first.0 begins)) ∙ first.1

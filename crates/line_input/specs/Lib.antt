@@ -1,0 +1,9 @@
+pub mod Arguments
+pub mod Characters
+pub mod Feed
+pub mod Lines
+pub mod Numbers
+pub mod Reading
+pub mod ReasonCode
+pub mod Words
+pub mod inner

@@ -1,0 +1,163 @@
+//! Numbers in decimal digits, as lines have them.
+
+ghost use Rattle.std.specs.Prelude.{◌≡◌, ◌<◌, ◌≤◌, ◌^◌, pos, neg_ℤ, ◌≤ℤ◌, ◌<ℤ◌, length, IsTrue, IfSome};
+ghost use Rattle.std.specs.Option.{SomeIff};
+ghost use Rattle.std.specs.List.{list_all};
+ghost use Rattle.line_input.specs.Numbers.{is_digit, is_plain_number, is_natural as is_natural_number, number_of, positive, positive_below, natural_below, negative_from, signed_natural, signed_within};
+
+use crate::words::is_word;
+
+/// A number from 1 to 4294967295.
+pub fn read_positive_u32(text: &[u8]) -> Option<u32>
+    ensures value { result ≡ positive text.now }
+    ensures low { IfSome result (λ n. 0 < n) }
+{
+    if !is_plain(text) {
+        return None;
+    }
+    read_digits(text)
+}
+
+/// A number from 1 on, below a limit of at most 256.
+pub fn read_positive_u8(text: &[u8], limit: u16) -> Option<u8>
+    requires { limit ≤ 256 }
+    ensures value { result ≡ positive_below limit text.now }
+    ensures range { IfSome result (λ n. (1 ≤ n) × (n < limit)) }
+{
+    if !is_plain(text) {
+        return None;
+    }
+    let number = read_digits(text)?;
+    if number < u32::from(limit) {
+        Some(number as u8)
+    } else {
+        None
+    }
+}
+
+/// A number from 0 to 255.
+pub fn read_u8(text: &[u8]) -> Option<u8>
+    ensures { result ≡ natural_below 256 text.now }
+{
+    let number = read_u32(text)?;
+    if number < 256 {
+        Some(number as u8)
+    } else {
+        None
+    }
+}
+
+/// A number from 0 to 4294967295 in decimal digits. There is none where the text is empty, has any other byte, as a sign,
+/// or a zero in front of other digits, or spells more.
+pub fn read_u32(text: &[u8]) -> Option<u32>
+    ensures { result ≡ natural_below (2 ^ 32) text.now }
+{
+    if is_natural(text) {
+        read_digits(text)
+    } else {
+        None
+    }
+}
+
+/// A number from 0 to 18446744073709551615.
+pub fn read_u64(text: &[u8]) -> Option<u64>
+    ensures { result ≡ natural_below (2 ^ 64) text.now }
+{
+    if is_natural(text) {
+        read_long_digits(text)
+    } else {
+        None
+    }
+}
+
+/// A number from the negative of a limit on, below that limit, which is at most 2147483648.
+pub fn read_signed(text: &[u8], limit: u32) -> Option<i32>
+    requires low { 0 < limit }
+    requires high { limit ≤ 2 ^ 31 }
+    ensures value { result ≡ signed_within limit text.now }
+    ensures low { IfSome result (λ z. neg_ℤ (pos limit) ≤ℤ z) }
+    ensures high { IfSome result (λ z. z <ℤ pos limit) }
+{
+    match text {
+        [b'-', digits @ ..] => read_negative(digits, limit),
+        _ => read_natural(text, limit),
+    }
+}
+
+/// The negative of a number from 1 to a limit.
+fn read_negative(digits: &[u8], limit: u32) -> Option<i32>
+    requires { limit ≤ 2 ^ 31 }
+    ensures value { result ≡ negative_from limit digits.now }
+    ensures low { IfSome result (λ z. neg_ℤ (pos limit) ≤ℤ z) }
+    ensures high { IfSome result (λ z. z ≤ℤ pos 0) }
+{
+    if !is_plain(digits) {
+        return None;
+    }
+    let number = read_digits(digits)?;
+    if number <= limit {
+        Some((-i64::from(number)) as i32)
+    } else {
+        None
+    }
+}
+
+/// A number from 0 on, below a limit.
+fn read_natural(text: &[u8], limit: u32) -> Option<i32>
+    requires { limit ≤ 2 ^ 31 }
+    ensures value { result ≡ signed_natural (natural_below limit text.now) }
+    ensures low { IfSome result (λ z. neg_ℤ (pos limit) ≤ℤ z) }
+    ensures high { IfSome result (λ z. z <ℤ pos limit) }
+{
+    let number = read_u32(text)?;
+    if number < limit {
+        Some(number as i32)
+    } else {
+        None
+    }
+}
+
+/// Whether a text is the digit 0, or digits without a zero in front.
+fn is_natural(text: &[u8]) -> bool
+    ensures { result ≡ is_natural_number text.now }
+{
+    is_plain(text) || is_word(text, "0")
+}
+
+/// Whether a text is digits, without a zero in front.
+fn is_plain(text: &[u8]) -> bool
+    ensures { result ≡ is_plain_number text.now }
+{
+    is_digits(text) && !text.is_empty() && text[0] != b'0'
+}
+
+/// Whether each byte is a decimal digit.
+fn is_digits(text: &[u8]) -> bool
+    ensures { result ≡ list_all is_digit text.now }
+{
+    text.iter().all(|byte| b'0' <= *byte && *byte <= b'9')
+}
+
+/// The number that digits spell, where it is below 2^32.
+fn read_digits(text: &[u8]) -> Option<u32>
+    requires digits { IsTrue (list_all is_digit text.now) }
+    requires some { 0 < length text.now }
+    ensures { SomeIff result (number_of text.now < 2 ^ 32) (number_of text.now) }
+{
+    match str::from_utf8(text) {
+        Ok(digits) => digits.parse::<u32>().ok(),
+        Err(_) => None,
+    }
+}
+
+/// The number that digits spell, where it is below 2^64.
+fn read_long_digits(text: &[u8]) -> Option<u64>
+    requires digits { IsTrue (list_all is_digit text.now) }
+    requires some { 0 < length text.now }
+    ensures { SomeIff result (number_of text.now < 2 ^ 64) (number_of text.now) }
+{
+    match str::from_utf8(text) {
+        Ok(digits) => digits.parse::<u64>().ok(),
+        Err(_) => None,
+    }
+}

@@ -1,0 +1,199 @@
+-- How the command `replay` ends, by what the audit took and its verdict; and that each input has one reply of it.
+use Rattle.std.specs.Prelude.{◌≡◌, ℕ, ◌⊎◌, true, List, [], ◌++◌, Option}
+use Rattle.std.proofs.Common.{sym, ◌∙◌, ap, refl, subst, inl, inr, arith}
+use Rattle.call_io.specs.Bytes.{Took, Grew, GrewPartly}
+use Rattle.call_io.proofs.BytesLemmas.{Grew-nothing}
+use Rattle.line_input.specs.Lines.{IsWhole, lines_of}
+use Rattle.trace_audit.specs.Audit.{Audits}
+use Rattle.trace_audit.specs.Outcome as audit
+use Rattle.trace_audit.specs.declared.verdict.Verdict.{Verdict}
+use Rattle.trace_audit.specs.declared.verdict.Verdict.TheVariants as verdict
+use Rattle.trace_audit.proofs.AuditSome.{some_verdict}
+use Rattle.trace_audit.proofs.AuditOne.{one_verdict}
+use Rattle.command_base.specs.declared.refusal.Refused.TheVariants as refused
+use Rattle.command_base.specs.declared.status.Status.{Status}
+use Rattle.command_base.specs.declared.status.Status.TheVariants as status
+use Rattle.command_base.specs.Outcome.{Streams, Answered, CutShort, IsSettled, Outcome, ReadCause, RunsOver}
+use Rattle.command_base.specs.Refusals.{Reply, in_front_of}
+use Rattle.script_commands.specs.Replay.{IsReplayed, verdict_reply, verdict_status, verdict_text}
+use Rattle.script_commands.specs.inner.ReplayEnds.{EndsWithVerdict}
+
+by_verdict : (input : List ℕ) (v : Verdict) → Audits (lines_of input) v → IsReplayed input (verdict_reply v)
+by_verdict input v audits = record { verdict = v; audits = audits; says = refl }
+
+pub replayed_some : (input : List ℕ) → (r : Reply) × IsReplayed input r
+replayed_some input =
+    let found : (v : Verdict) × Audits (lines_of input) v = some_verdict (lines_of input) in
+    (verdict_reply found.0, by_verdict input found.0 found.1)
+
+pub replayed_one : (input : List ℕ) (r s : Reply) → IsReplayed input r → IsReplayed input s → r ≡ s
+replayed_one input r s a b =
+    a.says ∙ ap verdict_reply (one_verdict (lines_of input) a.verdict b.verdict a.audits b.audits) ∙ sym b.says
+
+-- what settles a verdict settles its reply
+settled : (v : Verdict) (input : List ℕ) → audit.IsSettled v input → IsSettled IsReplayed input (verdict_reply v)
+settled v input s =
+    record {
+      front = s.front;
+      rest = s.rest;
+      split = s.split;
+      within = s.within;
+      replied = λ more. by_verdict (s.front ++ more) v (s.audits more);
+    }
+
+settled_or_whole : (v : Verdict) (input : List ℕ) (left : Option (List ℕ))
+    → audit.IsSettled v input ⊎ IsWhole left input
+    → IsSettled IsReplayed input (verdict_reply v) ⊎ IsWhole left input
+settled_or_whole v input left (inl s) = inl (settled v input s)
+settled_or_whole v input left (inr w) = inr w
+
+-- an input that is too long for an audit is too long for the command
+runs_over : (input : List ℕ) → audit.RunsOver input → RunsOver IsReplayed input
+runs_over input o =
+    record {
+      front = o.front;
+      unended = o.unended;
+      rest = o.rest;
+      split = o.split;
+      full = o.full;
+      beyond = o.beyond;
+      lines = o.lines;
+      inner = o.inner;
+      short = o.short;
+      unrefused =
+          (verdict_reply (verdict.Sound o.sound.0), by_verdict o.front (verdict.Sound o.sound.0) o.sound.1, refl);
+    }
+
+module _ (left left' held held' : Option (List ℕ)) (passes : ℕ) where
+  abbrev old : Streams
+  old = record { left = left; held = held; passes = passes }
+
+  abbrev new : Streams
+  new = record { left = left'; held = held'; passes = passes }
+
+  abbrev Ended : Status → Type 0
+  Ended answer = Outcome IsReplayed (λ input. 0) true old new answer
+
+  -- the whole line of a verdict was written
+  answered : (v : Verdict) (input : List ℕ) → audit.Answered left left' v input → Grew held held' (verdict_text v)
+      → Answered IsReplayed (λ input. 0) old new input (verdict_reply v)
+  answered v input a grew =
+      record { took = a.took; replied = by_verdict input v a.audits; wrote = grew; counted = omega arith }
+
+  -- the bytes of a front and what is left of a text
+  front_of : (v : Verdict) (input front rest : List ℕ) → front ++ rest ≡ verdict_text v
+      → IsReplayed input (verdict_reply v)
+      → IsReplayed input (in_front_of front (record { text = rest; status = verdict_status v }))
+  front_of v input front rest same replied =
+      subst (λ (t : List ℕ). IsReplayed input (record { text = t; status = verdict_status v })) (sym same) replied
+
+  -- a part of it was written
+  cut : (v : Verdict) (input : List ℕ) → audit.Answered left left' v input → GrewPartly held held' (verdict_text v)
+      → audit.IsSettled v input ⊎ IsWhole left' input → CutShort IsReplayed old new input
+  cut v input a grew (inl s) =
+      record {
+        took = a.took;
+        front = s.front;
+        rest = s.rest;
+        split = s.split;
+        text = grew.0;
+        wrote = grew.3;
+        begins =
+            inl
+            (λ more. (
+              record { text = grew.1; status = verdict_status v },
+              front_of v (s.front ++ more) grew.0 grew.1 grew.2 (by_verdict (s.front ++ more) v (s.audits more)),
+            ));
+      }
+  cut v input a grew (inr w) =
+      record {
+        took = a.took;
+        front = [];
+        rest = input;
+        split = refl;
+        text = grew.0;
+        wrote = grew.3;
+        begins =
+            inr (
+              w.«end»,
+              (
+                record { text = grew.1; status = verdict_status v },
+                front_of v input grew.0 grew.1 grew.2 (by_verdict input v a.audits),
+              ),
+            );
+      }
+
+  -- nothing was written
+  untold : (input : List ℕ) → Took left left' input → held' ≡ held → CutShort IsReplayed old new input
+  untold input took same =
+      record {
+        took = took;
+        front = [];
+        rest = input;
+        split = refl;
+        text = [];
+        wrote = subst (λ (h : Option (List ℕ)). Grew held h []) (sym same) (Grew-nothing held);
+        begins = inl (λ more. replayed_some more);
+      }
+
+  told : (answer wanted : Status) → answer ≡ wanted → Ended wanted → Ended answer
+  told answer wanted same o = subst Ended (sym same) o
+
+  pub replayed : (v : Verdict) (answer : Status) → audit.Outcome left left' v → EndsWithVerdict v held held' answer
+      → Ended answer
+  replayed (verdict.Sound items) answer o (inl ends) =
+      told answer status.Done ends.0 (
+        o.0,
+        verdict_reply (verdict.Sound items),
+        answered (verdict.Sound items) o.0 o.1 ends.1,
+        refl,
+        inl o.2,
+      )
+  replayed (verdict.Sound items) answer o (inr ends) =
+      told answer status.WriteFault ends.0 (o.0, cut (verdict.Sound items) o.0 o.1 ends.1 (inr o.2))
+  replayed (verdict.Broken place rule) answer o (inl ends) =
+      told answer (status.Broken place rule) ends.0 (
+        o.0,
+        verdict_reply (verdict.Broken place rule),
+        answered (verdict.Broken place rule) o.0 o.1 ends.1,
+        refl,
+        settled_or_whole (verdict.Broken place rule) o.0 left' o.2,
+      )
+  replayed (verdict.Broken place rule) answer o (inr ends) =
+      told answer status.WriteFault ends.0 (o.0, cut (verdict.Broken place rule) o.0 o.1 ends.1 o.2)
+  replayed (verdict.Bad bad) answer o (inl ends) =
+      told answer (status.Refused (refused.Line bad)) ends.0 (
+        o.0,
+        verdict_reply (verdict.Bad bad),
+        answered (verdict.Bad bad) o.0 o.1 ends.1,
+        refl,
+        settled_or_whole (verdict.Bad bad) o.0 left' o.2,
+      )
+  replayed (verdict.Bad bad) answer o (inr ends) =
+      told answer status.WriteFault ends.0 (o.0, cut (verdict.Bad bad) o.0 o.1 ends.1 o.2)
+  replayed verdict.ReadFault answer o ends =
+      told answer status.ReadFault ends.0 (o.0, untold o.0 o.1 ends.1, omega arith)
+  replayed verdict.TooLong answer o ends =
+      told answer status.TooLong ends.0 (o.0, untold o.0 o.1 ends.1, runs_over o.0 o.2, omega arith)
+  replayed verdict.Memory answer o ends =
+      told answer status.Memory ends.0 (o.0, untold o.0 o.1 ends.1)
+
+-- what a verdict says of failed reads holds of the answer
+pub unread_by : (v : Verdict) (held held' : Option (List ℕ)) (answer : Status) (old new : ℕ)
+    → EndsWithVerdict v held held' answer → audit.VerdictCause v old new → ReadCause answer old new
+unread_by v held held' answer old new ends cause = by_case v ends cause
+  where
+    told : (wanted : Status) → answer ≡ wanted → ReadCause wanted old new → ReadCause answer old new
+    told wanted same h = subst (λ (a : Status). ReadCause a old new) (sym same) h
+
+    by_case : (v : Verdict) → EndsWithVerdict v held held' answer → audit.VerdictCause v old new
+        → ReadCause answer old new
+    by_case (verdict.Sound items) (inl ends) h = told status.Done ends.0 h
+    by_case (verdict.Sound items) (inr ends) h = told status.WriteFault ends.0 h
+    by_case (verdict.Broken place rule) (inl ends) h = told (status.Broken place rule) ends.0 h
+    by_case (verdict.Broken place rule) (inr ends) h = told status.WriteFault ends.0 h
+    by_case (verdict.Bad bad) (inl ends) h = told (status.Refused (refused.Line bad)) ends.0 h
+    by_case (verdict.Bad bad) (inr ends) h = told status.WriteFault ends.0 h
+    by_case verdict.ReadFault ends h = told status.ReadFault ends.0 h
+    by_case verdict.TooLong ends h = told status.TooLong ends.0 h
+    by_case verdict.Memory ends h = told status.Memory ends.0 h

@@ -1,0 +1,11 @@
+use Rattle.script_commands.proofs.stage.play.Goals as goal
+
+pub returns-in-Ok-clause-played : goal.returns-in-Ok-clause-played
+returns-in-Ok-clause-played g c = λ w stands.
+    let came = c.in-Ok.ensures.step w stands in (
+      came.0,
+      came.1,
+      c.in-Ok.ensures.calls w stands,
+      c.in-Ok.ensures.reached w stands,
+      c.in-Ok.ensures.passes w stands,
+    )

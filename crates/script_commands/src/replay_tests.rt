@@ -1,0 +1,106 @@
+//! What no clause says: that the definitions mean, on traces worked out by hand, what the description of an audit says.
+
+use crate::tests::{Asked, bad, expand_all, expect, failing, source};
+use command_base::Status;
+use line_input::Reason;
+use std::alloc::Global;
+use std::process::Abort;
+use std::test::Fail;
+use trace_audit::Rule;
+
+/// A call over delayed frames, in front of the line that shows its set.
+const SENT: &str = "0 dial 1
+0 up vehicle 1
+0 voice vehicle 1 muted muted
+0 send vehicle 1 init
+0 up point 1
+0 voice point 1 muted muted
+3 send point 1 start 1
+5 send vehicle 1 init
+6 send vehicle 1 data 1 0 H
+8 send point 1 start 1
+";
+
+const SHOWN: &str = "9 shown 1 1 H S
+";
+
+/// The same call behind that line.
+const ACKNOWLEDGED: &str = "9 send point 1 ack 1
+9 send point 1 app 1 positive
+12 acked 1 1 H
+12 voice vehicle 1 open open
+14 send point 1 app 1 positive
+19 send point 1 app 1 positive
+24 send point 1 app 1 positive
+29 send point 1 app 1 positive
+34 voice point 1 open open
+";
+
+/// Checks what `replay` answers, and writes, for these pieces of a trace, where the reads of these numbers fail.
+fn expect_told(
+    rt: &impl Abort,
+    alloc: Global,
+    pieces: &[&str],
+    fails: Vec<u64>,
+    status: Status,
+    text: &str,
+) -> Result<(), Fail> {
+    let trace = expand_all(alloc, pieces)?;
+    let input = source(alloc, &[trace.as_str()], 100, fails)?;
+    expect(rt, alloc, Asked::Replay, text, input, status, text)
+}
+
+#[test]
+fn tells_of_a_worked_call(rt: HostRuntime) -> Result<(), Fail> {
+    let alloc = rt.alloc();
+    let none = Vec::new(alloc);
+    let whole = [SENT, SHOWN, ACKNOWLEDGED];
+    expect_told(&rt, alloc, &whole, none, Status::Done, "sound 20\n")?;
+    let unshown = Status::Broken {
+        line: 13,
+        rule: Rule::Agreed,
+    };
+    let none = Vec::new(alloc);
+    expect_told(
+        &rt,
+        alloc,
+        &[SENT, ACKNOWLEDGED],
+        none,
+        unshown,
+        "broken 13 1\n",
+    )?;
+    expect_told(&rt, alloc, &[], Vec::new(alloc), Status::Done, "sound 0\n")
+}
+
+#[test]
+fn refuses_a_line_and_says_no_more(rt: HostRuntime) -> Result<(), Fail> {
+    let alloc = rt.alloc();
+    let late = "9 shown 1 1\n";
+    let status = bad(11, Reason::Count);
+    expect_told(
+        &rt,
+        alloc,
+        &[SENT, late],
+        Vec::new(alloc),
+        status,
+        "refused 11 3\n",
+    )?;
+    let fall = "7 nothing\n";
+    let status = bad(11, Reason::Number);
+    expect_told(
+        &rt,
+        alloc,
+        &[SENT, fall],
+        Vec::new(alloc),
+        status,
+        "refused 11 2\n",
+    )
+}
+
+#[test]
+fn writes_nothing_behind_a_failed_read(rt: HostRuntime) -> Result<(), Fail> {
+    let alloc = rt.alloc();
+    let fails = failing(alloc, 2)?;
+    let whole = [SENT, SHOWN, ACKNOWLEDGED];
+    expect_told(&rt, alloc, &whole, fails, Status::ReadFault, "")
+}

@@ -1,0 +1,4 @@
+pub mod Folds
+pub mod Fronts
+mod HandTraces
+pub mod TallyLemmas

@@ -1,0 +1,2 @@
+pub mod ListenerLaws
+pub mod Tallying

@@ -1,5 +1,0 @@
-use Rattle.trace_text.proofs.WordsLemmas.{first_space}
-use Rattle.trace_text.proofs.words.find_space.Goals as goal
-
-pub returns : goal.returns
-returns c = first_space c.args.text.now c.memchr.result c.memchr.ensures

@@ -1,6 +1,0 @@
-use Rattle.std.proofs.Common.{refl}
-use Rattle.trace_text.proofs.WordsLemmas.{words-some}
-use Rattle.trace_text.proofs.words.only_word.Goals as goal
-
-pub returns-in-Some : goal.returns-in-Some
-returns-in-Some c = let w = words-some c.in-Some.field-0.now in rw (c.split_word.ensures, c.in-Some.is, w.2) refl
