@@ -175,11 +175,13 @@ oid_length p n s oid = spelled_length relative_oid (bytes (octets_of p.bits)) _ 
 string_length : (p : Part) (n : ℕ) → AreCounted p n → HasLength (Canon octet_string (bytes (octets_of p.bits))) (8 + 8 * n)
 string_length p n s = spelled_length octet_string (bytes (octets_of p.bits)) _ (8 + 8 * n) (string_spelled p p n n refl s.whole s.few s.number refl) (string_long p p n n refl s.whole)
 
-pub extra_length : (o : Option Extra) (x : Extra) (p : Part) (m n : ℕ) → o ≡ Some x → p ≡ x.oid → AreCounted p m → IsOid (octets_of x.oid.bits) → AreCounted x.content n → HasLength (Optional additional_data (option_map extra_tree o)) ((8 + 8 * m) + ((8 + 8 * n) + 0))
+pub data_length : (x : Extra) (p : Part) (m n : ℕ) → p ≡ x.oid → AreCounted p m → IsOid (octets_of x.oid.bits) → AreCounted x.content n → HasLength (Canon additional_data (extra_tree x)) (8 + 8 * m + (8 + 8 * n + 0))
 unfolding additional_data
-extra_length o x p m n e is counted_oid oid counted_content =
-    optional_some (sequence false (required relative_oid (required octet_string no_components))) (option_map extra_tree o) (extra_tree x) _ (ap (λ (y : Option Extra). option_map extra_tree y) e)
-    (plain_length (required_length (oid_length x.oid m (subst (λ (q : Part). AreCounted q m) is counted_oid) oid) (required_length (string_length x.content n counted_content) rest_none)))
+data_length x p m n is counted_oid oid counted_content =
+    plain_length (required_length (oid_length x.oid m (subst (λ (q : Part). AreCounted q m) is counted_oid) oid) (required_length (string_length x.content n counted_content) rest_none))
+
+pub extra_length : (o : Option Extra) (x : Extra) (n : ℕ) → o ≡ Some x → HasLength (Canon additional_data (extra_tree x)) n → HasLength (Optional additional_data (option_map extra_tree o)) n
+extra_length o x n e h = optional_some additional_data (option_map extra_tree o) (extra_tree x) n (ap (λ (y : Option Extra). option_map extra_tree y) e) h
 
 -- ---- additions
 

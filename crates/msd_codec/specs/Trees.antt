@@ -2,7 +2,7 @@
 -- identification number is cut behind 3, 6 and 1 characters and stands in the tree whole, a root of the
 -- vehicle's type counts from 0, and a borrowed part is read as its octets or its additions. Cited by the
 -- definitions of which octets show a set and which are the canonical ones, and by each reader and writer.
-use Rattle.std.specs.Prelude.{ℕ, ◌-◌, ℤ, pos, Bool, List, take, drop, Option, Some, None}
+use Rattle.std.specs.Prelude.{◌≡◌, ℕ, ◌-◌, ℤ, pos, Bool, List, take, drop, Option, Some, None}
 use Rattle.std.specs.Option.{option_map}
 use Rattle.per_bits.specs.Bits.{Part, octets_of}
 use Rattle.per_bits.specs.Parts.{Member, members_of}
@@ -102,3 +102,10 @@ message_tree msd =
 -- the value tree of a set, in format 2
 abbrev pub tree : Msd → Tree
 tree msd = record_of (field (count_tree 2) (field (message_tree msd) no_fields)) None
+
+-- the set has no part of variable length: no additional data, and no additions
+pub record IsPlain (msd : Msd) : Type 0 where
+  pub fuel_more : msd.fuel_more ≡ None
+  pub set_more : msd.set_more ≡ None
+  pub extra : msd.extra ≡ None
+  pub message_more : msd.message_more ≡ None
