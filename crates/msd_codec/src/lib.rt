@@ -2,6 +2,7 @@
 //! unaligned variant, values after EN 15722.
 #![tactic(auto)]
 
+mod formats;
 mod laws;
 mod reading;
 mod writing;

@@ -1,8 +1,9 @@
 -- How many bits additional data adds to the canonical spelling of the set of own facts.
-use Rattle.std.proofs.Common.{◌≡◌, ℕ, ◌+◌, true, false, [], ◌∷◌, length, Option, Some, None, refl, arith}
+use Rattle.std.proofs.Common.{◌≡◌, ℕ, ◌+◌, true, false, length, Option, Some, None, refl, arith}
 use Rattle.std.proofs.lemmas.List.{length-append}
 use Rattle.per_types.specs.Types.{Tree, record_of, Fields, no_fields, field, absent, Ty, format, sequence, Components, no_components, required, optional}
-use Rattle.msd_codec.specs.Module.{additional_data, msd_structure, msd_message, ecall_message}
+use Rattle.msd_values.specs.Format.{format_number}
+use Rattle.msd_codec.specs.Module.{additional_data, known_formats, msd_structure, msd_message, ecall_message}
 use Rattle.msd_codec.specs.Trees.{count_tree, extra_tree, structure_tree, tree}
 use Rattle.msd_codec.specs.Canonical.{presence_bits, canonical_bits, written_bits}
 use Rattle.msd_fit.specs.declared.cause.Cause.{Cause}
@@ -44,7 +45,7 @@ with_data : (s d : Tree) → length (canonical_bits msd_message (record_of (fiel
 unfolding msd_message presence_bits
 with_data s d = rw (marked_long _ _, required_long, present_long, nothing_long) (omega arith)
 
-whole_long : (v : Tree) → length (canonical_bits ecall_message (record_of (field (count_tree 2) (field v no_fields)) None)) ≡ length (canonical_bits (format (2 ∷ [])) (count_tree 2)) + length (canonical_bits msd_message v)
+whole_long : (v : Tree) → length (canonical_bits ecall_message (record_of (field (count_tree format_number) (field v no_fields)) None)) ≡ length (canonical_bits (format known_formats) (count_tree format_number)) + length (canonical_bits msd_message v)
 unfolding ecall_message presence_bits
 whole_long v = rw (plain_long _ _, required_long, required_long, nothing_long) (omega arith)
 
