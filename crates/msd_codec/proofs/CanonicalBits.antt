@@ -20,7 +20,7 @@ use Rattle.per_types.proofs.Widths.{only_width}
 use Rattle.msd_codec.specs.Module.{ecall_message}
 use Rattle.msd_codec.specs.Canonical.{alphabet_index, same_additions, same_tree, same_fields, character_bits, string_bits, more_bits, presence_bits, canonical_bits, written_bits, canonical_octets}
 use Rattle.msd_codec.specs.Sets.{AreCanonical, NeedsMoreBits}
-use Rattle.msd_codec.specs.inner.Writing.{Puts, Canon}
+use Rattle.msd_codec.specs.inner.Writing.{Puts, HasLength, Canon}
 use Rattle.msd_codec.proofs.Puts.{bits_append}
 
 -- ---- the test of two values says whether they are the same
@@ -233,3 +233,7 @@ needed v n s = (s.count ∙ ap length (canonical_is ecall_message v s.spelling s
 pub put_alone : {X E : Type 0} (t : Ty) (v : Tree) (old new : List Bool) (r : Result X E) → Puts (Canon t v) old r new → old ≡ [] → is_err r ≡ false → new ≡ canonical_bits t v
 put_alone t v old new (Ok x) p none good = p.ok.2 ∙ ap (λ (l : List Bool). l ++ bits_of p.ok.0) none ∙ bits_are t v p.ok.0 p.ok.1.spelled
 put_alone t v old new (Err x) p none good = absurd cc
+
+-- how many bits a counted spelling has
+pub length_is : (t : Ty) (v : Tree) (n : ℕ) → HasLength (Canon t v) n → n ≡ length (canonical_bits t v)
+length_is t v n h = h.count ∙ ap length (bits_are t v h.elements h.spelled.spelled)

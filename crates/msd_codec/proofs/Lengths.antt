@@ -24,7 +24,8 @@ use Rattle.msd_values.specs.Alphabet.{is_vin_character}
 use Rattle.msd_values.specs.Position.{Way, IsDelta}
 use Rattle.msd_values.specs.Vin.{IsVin}
 use Rattle.msd_values.specs.declared.msd.Extra.{Extra}
-use Rattle.msd_codec.specs.Module.{angle, angle_delta, location_delta, vehicle_identification, additional_data}
+use Rattle.msd_values.specs.Format.{format_number}
+use Rattle.msd_codec.specs.Module.{angle, angle_delta, location_delta, vehicle_identification, additional_data, known_formats}
 use Rattle.msd_codec.specs.Trees.{optional_field, more_of, way_tree, vin_tree, extra_tree}
 use Rattle.msd_codec.specs.inner.Writing.{Puts, HasLength, Canon, Optional, Flag}
 use Rattle.msd_codec.proofs.Puts.{bits_long, put_of, optional_join, flag_join, Flags}
@@ -125,8 +126,8 @@ way_length way north east = plain_length (required_length (delta_length way.lati
 pub truth_length : (v : Bool) → HasLength (Canon boolean (truth v)) 1
 truth_length v = record { elements = element kind.truth (v ∷ []) ∷ []; spelled = record { spelled = refl }; count = refl }
 
-pub format_length : HasLength (Canon (format (2 ∷ [])) (number (pos 2))) 8
-format_length = spelled_length (format (2 ∷ [])) (number (pos 2)) (digits 8 2) 8 (format_spelled (2 ∷ []) 2 2 refl (lit< tt) (0, lit< tt, refl)) (length_digits 8 2)
+pub format_length : HasLength (Canon (format known_formats) (number (pos format_number))) 8
+format_length = spelled_length (format known_formats) (number (pos format_number)) (digits 8 2) 8 (format_spelled known_formats 2 2 refl (lit< tt) (0, lit< tt, refl)) (length_digits 8 2)
 
 pub flag_bits : (v : Bool) (n : ℕ) → n ≡ from_bool v → HasLength (Flag v) n
 flag_bits true n e = record { elements = element kind.truth (true ∷ []) ∷ []; spelled = record { written = λ h. refl; left = λ h. absurd (cc h) }; count = e }
@@ -175,11 +176,13 @@ oid_length p n s oid = spelled_length relative_oid (bytes (octets_of p.bits)) _ 
 string_length : (p : Part) (n : ℕ) → AreCounted p n → HasLength (Canon octet_string (bytes (octets_of p.bits))) (8 + 8 * n)
 string_length p n s = spelled_length octet_string (bytes (octets_of p.bits)) _ (8 + 8 * n) (string_spelled p p n n refl s.whole s.few s.number refl) (string_long p p n n refl s.whole)
 
-pub extra_length : (o : Option Extra) (x : Extra) (p : Part) (m n : ℕ) → o ≡ Some x → p ≡ x.oid → AreCounted p m → IsOid (octets_of x.oid.bits) → AreCounted x.content n → HasLength (Optional additional_data (option_map extra_tree o)) ((8 + 8 * m) + ((8 + 8 * n) + 0))
+pub data_length : (x : Extra) (p : Part) (m n : ℕ) → p ≡ x.oid → AreCounted p m → IsOid (octets_of x.oid.bits) → AreCounted x.content n → HasLength (Canon additional_data (extra_tree x)) (8 + 8 * m + (8 + 8 * n + 0))
 unfolding additional_data
-extra_length o x p m n e is counted_oid oid counted_content =
-    optional_some (sequence false (required relative_oid (required octet_string no_components))) (option_map extra_tree o) (extra_tree x) _ (ap (λ (y : Option Extra). option_map extra_tree y) e)
-    (plain_length (required_length (oid_length x.oid m (subst (λ (q : Part). AreCounted q m) is counted_oid) oid) (required_length (string_length x.content n counted_content) rest_none)))
+data_length x p m n is counted_oid oid counted_content =
+    plain_length (required_length (oid_length x.oid m (subst (λ (q : Part). AreCounted q m) is counted_oid) oid) (required_length (string_length x.content n counted_content) rest_none))
+
+pub extra_length : (o : Option Extra) (x : Extra) (n : ℕ) → o ≡ Some x → HasLength (Canon additional_data (extra_tree x)) n → HasLength (Optional additional_data (option_map extra_tree o)) n
+extra_length o x n e h = optional_some additional_data (option_map extra_tree o) (extra_tree x) n (ap (λ (y : Option Extra). option_map extra_tree y) e) h
 
 -- ---- additions
 

@@ -15,7 +15,8 @@ use Rattle.per_types.specs.Stops.{Read, IsOnlyReading, HasValues, element_at}
 use Rattle.per_types.specs.Reading.{◌>>=◌, Gives, truth_at, truth_at, whole_at, format_at, extended_at, presence_at, more_at, tree_at, fields_at}
 use Rattle.per_types.proofs.Plans.{element_accepted, element_taken, next_ok}
 use Rattle.per_types.proofs.Decided.{only_type, only_presence, only_truth, only_whole, only_format}
-use Rattle.msd_codec.specs.Module.{octet, timestamp, control_type, vehicle_identification, propulsion_storage, vehicle_location, location_delta, msd_structure}
+use Rattle.msd_values.specs.Format.{format_number}
+use Rattle.msd_codec.specs.Module.{octet, timestamp, control_type, vehicle_identification, propulsion_storage, vehicle_location, location_delta, msd_structure, known_formats}
 use Rattle.msd_codec.specs.Trees.{optional_field, pair_tree}
 use Rattle.msd_codec.specs.inner.Reading.{MovesOn}
 use Rattle.msd_codec.specs.inner.Reading.{default_at, optional_at}
@@ -185,19 +186,19 @@ truth_moves r p q e = on_ok (λ v. v) r (truth_at p) p q (λ v h. moves TruthEle
 
 -- ---- the format
 
-pub only_two : (v : ℕ) → Contains (2 ∷ []) v → v ≡ 2
-only_two v (k, below, is) = sym is ∙ ap (λ n. get_or (2 ∷ []) n v) (let zero_is : k ≡ 0 = omega arith in zero_is)
+pub only_two : (v : ℕ) → Contains known_formats v → v ≡ format_number
+only_two v (k, below, is) = sym is ∙ ap (λ n. get_or known_formats n v) (let zero_is : k ≡ 0 = omega arith in zero_is)
 
-pub format_tree : (p q : Part) (v : ℕ) → format_at (2 ∷ []) p ≡ Ok (v, q) → Contains (2 ∷ []) v → tree_at (format (2 ∷ [])) p ≡ Ok (number (pos 2), q)
+pub format_tree : (p q : Part) (v : ℕ) → format_at known_formats p ≡ Ok (v, q) → Contains known_formats v → tree_at (format known_formats) p ≡ Ok (number (pos format_number), q)
 unfolding tree_at
 format_tree p q v e known = rw e (ap (λ (n : ℕ). Ok (number (pos n), q)) (only_two v known))
 
-pub format_err : (p : Part) (e : Refusal × Part) → format_at (2 ∷ []) p ≡ Err e → tree_at (format (2 ∷ [])) p ≡ Err e
+pub format_err : (p : Part) (e : Refusal × Part) → format_at known_formats p ≡ Err e → tree_at (format known_formats) p ≡ Err e
 unfolding tree_at
 format_err p e h = rw h refl
 
-pub format_moves : (p q : Part) (v : ℕ) → format_at (2 ∷ []) p ≡ Ok (v, q) → MovesOn p q
-format_moves p q v e = moves (FormatElements (2 ∷ [])) (format_at (2 ∷ [])) (only_format (2 ∷ []) 2 (lit< tt) (0, lit< tt, refl)) p q v e
+pub format_moves : (p q : Part) (v : ℕ) → format_at known_formats p ≡ Ok (v, q) → MovesOn p q
+format_moves p q v e = moves (FormatElements known_formats) (format_at known_formats) (only_format known_formats 2 (lit< tt) (0, lit< tt, refl)) p q v e
 
 -- ---- numbers in pairs, and the structure
 

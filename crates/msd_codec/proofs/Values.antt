@@ -17,7 +17,8 @@ use Rattle.msd_values.specs.declared.kind.VehicleKind.TheVariants.{Root, Added}
 use Rattle.msd_values.specs.declared.msd.Marks.{Marks}
 use Rattle.msd_values.specs.declared.msd.Extra.{Extra}
 use Rattle.msd_values.specs.declared.msd.Msd.{Msd}
-use Rattle.msd_codec.specs.Module.{octet, timestamp, angle, angle_delta, vehicle_type, control_type, vehicle_identification, storages, propulsion_storage, vehicle_location, location_delta, msd_structure, additional_data, msd_message, ecall_message}
+use Rattle.msd_values.specs.Format.{format_number}
+use Rattle.msd_codec.specs.Module.{octet, timestamp, angle, angle_delta, vehicle_type, control_type, vehicle_identification, storages, propulsion_storage, vehicle_location, location_delta, msd_structure, additional_data, msd_message, ecall_message, known_formats}
 use Rattle.msd_codec.specs.Trees.{count_tree, optional_field, more_of, kind_tree, control_tree, vin_tree, storage_tree, way_tree, extra_tree, structure_tree, message_tree, tree}
 use Rattle.msd_codec.proofs.Steps.{only_two}
 use Rattle.msd_codec.proofs.Identification.{cut}
@@ -60,7 +61,7 @@ oid_with : (t : Tree) (es : List Element) → Elements false relative_oid t es �
 oid_with (bytes os) es s = (all_bits os, ap bytes (octets_of_bits os s.2))
 oid_with _ es s = absurd s
 
-format_with : (t : Tree) (es : List Element) → Elements false (format (2 ∷ [])) t es → count_tree 2 ≡ t
+format_with : (t : Tree) (es : List Element) → Elements false (format known_formats) t es → count_tree format_number ≡ t
 format_with (number (pos n)) es s = ap count_tree (sym (s.3 ∙ only_two _ s.2))
 format_with (number (negsuc n)) es s = absurd s
 format_with _ es s = absurd s
@@ -185,7 +186,7 @@ string_of t s = string_with t s.elements s.spelled
 oid_of : (t : Tree) → IsSpelled relative_oid t → (part : Part) × (bytes (octets_of part.bits) ≡ t)
 oid_of t s = oid_with t s.elements s.spelled
 
-format_of : (t : Tree) → IsSpelled (format (2 ∷ [])) t → count_tree 2 ≡ t
+format_of : (t : Tree) → IsSpelled (format known_formats) t → count_tree format_number ≡ t
 format_of t s = format_with t s.elements s.spelled
 
 -- ---- the module's types

@@ -1,7 +1,8 @@
 -- The module of a minimum set of data in format 2, as a tree of types: this project's profile, after
 -- EN 15722, in the kinds of ITU-T X.691, unaligned variant. Cited by the definitions of which octets show a
 -- set, by the laws, and by every reader and writer of this crate.
-use Rattle.std.specs.Prelude.{pos, neg_ℤ, true, false, [], ◌∷◌}
+use Rattle.std.specs.Prelude.{ℕ, List, pos, neg_ℤ, true, false, [], ◌∷◌}
+use Rattle.msd_values.specs.Format.{format_number}
 use Rattle.per_types.specs.Types.{truth, Ty, boolean, integer, characters, octet_string, relative_oid, enumerated, format, sequence, Components, no_components, required, optional, default}
 
 -- a number from 0 to 255
@@ -86,6 +87,10 @@ additional_data = sequence false (required relative_oid (required octet_string n
 unfoldable pub msd_message : Ty
 msd_message = sequence true (required msd_structure (optional additional_data no_components))
 
--- the number of the format, of which 2 is known, and the message
+-- the numbers of the known formats, of which there is one
+abbrev pub known_formats : List ℕ
+known_formats = format_number ∷ []
+
+-- the number of the format, and the message
 unfoldable pub ecall_message : Ty
-ecall_message = sequence false (required (format (2 ∷ [])) (required msd_message no_components))
+ecall_message = sequence false (required (format known_formats) (required msd_message no_components))

@@ -2,11 +2,12 @@
 -- identification number is cut behind 3, 6 and 1 characters and stands in the tree whole, a root of the
 -- vehicle's type counts from 0, and a borrowed part is read as its octets or its additions. Cited by the
 -- definitions of which octets show a set and which are the canonical ones, and by each reader and writer.
-use Rattle.std.specs.Prelude.{ℕ, ◌-◌, ℤ, pos, Bool, List, take, drop, Option, Some, None}
+use Rattle.std.specs.Prelude.{◌≡◌, ℕ, ◌-◌, ℤ, pos, Bool, List, take, drop, Option, Some, None}
 use Rattle.std.specs.Option.{option_map}
 use Rattle.per_bits.specs.Bits.{Part, octets_of}
 use Rattle.per_bits.specs.Parts.{Member, members_of}
 use Rattle.per_types.specs.Types.{Tree, truth, number, text, bytes, root, added, record_of, Fields, no_fields, field, absent}
+use Rattle.msd_values.specs.Format.{format_number}
 use Rattle.msd_values.specs.Position.{Way}
 use Rattle.msd_values.specs.declared.kind.VehicleKind.{VehicleKind}
 use Rattle.msd_values.specs.declared.kind.VehicleKind.TheVariants.{Root, Added}
@@ -99,6 +100,13 @@ message_tree msd =
     (optional_field (option_map extra_tree msd.extra) no_fields))
     (more_of msd.message_more)
 
--- the value tree of a set, in format 2
+-- the value tree of a set, in the known format
 abbrev pub tree : Msd → Tree
-tree msd = record_of (field (count_tree 2) (field (message_tree msd) no_fields)) None
+tree msd = record_of (field (count_tree format_number) (field (message_tree msd) no_fields)) None
+
+-- the set has no part of variable length: no additional data, and no additions
+pub record IsPlain (msd : Msd) : Type 0 where
+  pub fuel_more : msd.fuel_more ≡ None
+  pub set_more : msd.set_more ≡ None
+  pub extra : msd.extra ≡ None
+  pub message_more : msd.message_more ≡ None

@@ -2,13 +2,14 @@
 //! unaligned variant, values after EN 15722.
 #![tactic(auto)]
 
+mod formats;
 mod laws;
 mod reading;
 mod writing;
 
 pub use laws::spelling_laws;
 pub use reading::decode;
-pub use writing::{TooLong, encode};
+pub use writing::{TooLong, encode, encoded_bits, extra_bits};
 
 #[cfg(test)]
 mod tests;

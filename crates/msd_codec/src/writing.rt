@@ -1,8 +1,8 @@
 //! Writing a set of data.
 ghost use Rattle.std.specs.Prelude.{◌≡◌, ◌<◌, ◌≤◌, length, IfOk, IfErr};
 ghost use Rattle.per_bits.specs.Bits.{room_bits, room_octets};
-ghost use Rattle.msd_codec.specs.Module.{ecall_message};
-ghost use Rattle.msd_codec.specs.Trees.{tree};
+ghost use Rattle.msd_codec.specs.Module.{additional_data, ecall_message};
+ghost use Rattle.msd_codec.specs.Trees.{IsPlain, extra_tree, tree};
 ghost use Rattle.msd_codec.specs.Canonical.{canonical_bits, canonical_octets};
 ghost use Rattle.msd_codec.specs.Sets.{AreCanonical, NeedsMoreBits};
 
@@ -12,10 +12,10 @@ mod message;
 mod structure;
 mod texts;
 
-use crate::writing::lengths::message_len;
+use crate::writing::lengths::{data_len, message_len};
 use crate::writing::message::write_message;
 use arrayvec::ArrayVec;
-use msd_values::Msd;
+use msd_values::{Extra, Msd};
 use per_bits::BitBuf;
 
 /// The canonical spelling of a set has `bits` bits, which are more than 1120.
@@ -44,4 +44,20 @@ pub fn encode(msd: &Msd<'_>) -> Result<ArrayVec<u8, 140>, TooLong>
     let mut octets = ArrayVec::new();
     octets.try_extend_from_slice(to.octets()).unwrap();
     Ok(octets)
+}
+
+/// How many bits the canonical spelling of the set has.
+pub fn encoded_bits(msd: &Msd<'_>) -> u32
+    ensures bits { result ≡ length (canonical_bits ecall_message (tree msd.now)) }
+    // Without parts of variable length there are few.
+    ensures few { IsPlain msd.now → result ≤ 302 }
+{
+    message_len(msd)
+}
+
+/// How many bits the canonical spelling of additional data has.
+pub fn extra_bits(extra: &Extra<'_>) -> u32
+    ensures { result ≡ length (canonical_bits additional_data (extra_tree extra.now)) }
+{
+    data_len(extra)
 }

@@ -1,14 +1,16 @@
 -- The set of data that a vehicle makes of what it knows, as its octets: the values are those of EN 15722 and the causes
 -- those of EN 16072; which additional data is put into it, that a set has at most 140 octets, and the octets 0 behind
 -- it are this project's profile. Cited by `spell` and `make`.
-use Rattle.std.specs.Prelude.{ℕ, ◌-◌, nat_le, Bool, true, false, List, ◌++◌, length, replicate, Option, Some, None}
+use Rattle.std.specs.Prelude.{◌≡◌, ℕ, ◌-◌, nat_le, Bool, true, false, List, ◌++◌, length, replicate, Option, Some, None}
 use Rattle.std.specs.List.{find}
 use Rattle.std.specs.Option.{option_map}
 use Rattle.per_bits.specs.Bits.{all_bits, room_octets}
+use Rattle.per_types.specs.Types.{Tree}
 use Rattle.msd_values.specs.declared.kind.VehicleKind.TheVariants.{Root}
 use Rattle.msd_values.specs.declared.msd.Extra.{Extra}
 use Rattle.msd_values.specs.declared.msd.Msd.{Msd}
 use Rattle.msd_codec.specs.Canonical.{canonical_octets}
+use Rattle.msd_codec.specs.Sets.{AreCanonical}
 use Rattle.msd_codec.specs.Trees.{tree}
 use Rattle.msd_fit.specs.Candidates.{AdditionalData}
 use Rattle.msd_fit.specs.declared.cause.Cause.{Cause}
@@ -66,12 +68,23 @@ chosen facts cause number =
     find (λ extra. nat_le (length (octets_with facts cause number (Some extra))) room_octets) facts.extras.items
 
 -- the set that fits: with that candidate, or else without additional data
+abbrev pub fitting : OwnFacts → Cause → ℕ → Msd
+fitting facts cause number = set_with facts cause number (chosen facts cause number)
+
+-- its octets
 unfoldable pub fits : OwnFacts → Cause → ℕ → List ℕ
 fits facts cause number = octets_with facts cause number (chosen facts cause number)
 
 -- a set of data with octets 0 behind it, to 140
 abbrev pub filled : List ℕ → List ℕ
 filled octets = octets ++ replicate (room_octets - length octets) 0
+
+-- the octets are the canonical ones of a value, and octets 0 behind them
+pub record AreFilled (octets : List ℕ) (v : Tree) : Type 0 where
+  pub front : List ℕ
+  pub canonical : AreCanonical front v
+  pub zeros : ℕ
+  pub made : octets ≡ front ++ replicate zeros 0
 
 -- the set that is made: that of what the vehicle knows, filled, or the one that was made elsewhere
 unfoldable pub made : Facts → Cause → ℕ → List ℕ

@@ -1,19 +1,23 @@
 //! The set of data of at most 140 octets.
-ghost use Rattle.std.specs.Prelude.{◌≡◌, ◌+◌, ◌≤◌, nat_le, length};
+ghost use Rattle.std.specs.Prelude.{◌≡◌, ◌+◌, ◌≤◌, nat_le, None, length};
 ghost use Rattle.std.specs.List.{find};
 ghost use Rattle.std.specs.Option.{option_map};
 ghost use Rattle.per_bits.specs.Bits.{room_bits, room_octets};
+ghost use Rattle.msd_codec.specs.Trees.{tree};
+ghost use Rattle.msd_codec.specs.Sets.{AreCanonical};
+ghost use Rattle.msd_fit.specs.declared.facts.OwnFacts.{OwnFacts};
+ghost use Rattle.msd_fit.specs.declared.facts.Facts.TheVariants.{Own};
 ghost use Rattle.msd_fit.specs.Candidates.{AdditionalData, most_together};
-ghost use Rattle.msd_fit.specs.Fitting.{is_automatic, is_test, extra_of, set_with, fits, filled, made};
-ghost use Rattle.msd_fit.specs.inner.Lengths.{flag_len, option_len, marks_len, facts_len, extra_len};
+ghost use Rattle.msd_fit.specs.Fitting.{is_automatic, is_test, extra_of, set_with, fitting, fits, filled, made, AreFilled};
+ghost use Rattle.msd_fit.specs.inner.Lengths.{data_bits};
 
 use crate::candidate::Candidate;
 use crate::cause::Cause;
 use crate::facts::{Facts, OwnFacts};
 use crate::octets::{octs_of, put};
 use arrayvec::ArrayVec;
-use msd_codec::encode;
-use msd_values::{Delta, Extra, Marks, Msd, VehicleKind};
+use msd_codec::{encode, encoded_bits, extra_bits};
+use msd_values::{Extra, Msd, VehicleKind};
 use per_bits::Oid;
 
 /// How many octets a set of data has at most.
@@ -22,22 +26,13 @@ pub const MOST_OCTETS: usize = 140;
 // How many bits a set has at most.
 const MOST_BITS: u32 = 1120;
 
-// How many bits the least set has.
-const LEAST_SET: u32 = 244;
-
-// How many bits a way from a recent location has, and the number of passengers.
-const WAY: u32 = 20;
-
-const PASSENGERS: u32 = 8;
-
-// How many bits the two lengths in additional data have.
-const TWO_LENGTHS: u32 = 16;
-
 /// The set of data with these facts, this cause and this message number, and octets 0 behind it. Of a set that was
 /// made elsewhere it is that set.
 #[tactic(auto, unfolding(crate::specs::Fitting::made))]
 pub fn make(facts: &Facts, cause: Cause, number: u8) -> [u8; MOST_OCTETS]
     ensures set { result ≡ made facts.now cause number }
+    // Of own facts: the canonical octets of the set that fits, and octets 0 behind them.
+    ensures canonical { (own : OwnFacts) → facts.now ≡ Own own → AreFilled result (tree (fitting own cause number)) }
     ensures size { length result ≡ room_octets }
 {
     match facts {
@@ -51,30 +46,27 @@ pub fn make(facts: &Facts, cause: Cause, number: u8) -> [u8; MOST_OCTETS]
 #[tactic(auto, unfolding(crate::specs::Fitting::fits))]
 pub fn spell(facts: &OwnFacts, cause: Cause, number: u8) -> ArrayVec<u8, MOST_OCTETS>
     ensures set { result.items ≡ fits facts.now cause number }
+    ensures canonical { AreCanonical result.items (tree (fitting facts.now cause number)) }
     ensures few { length result.items ≤ room_octets }
 {
-    let room = MOST_BITS - facts_len(facts);
-    let chosen = first_within(facts.extras.as_slice(), room);
-    encode(&set_with(facts, cause, number, chosen)).unwrap()
+    let mut set = set_without_data(facts, cause, number);
+    let room = MOST_BITS - encoded_bits(&set);
+    set.extra = extra_with(first_within(facts.extras.as_slice(), room));
+    encode(&set).unwrap()
 }
 
 // The first candidate that takes at most so many bits.
 fn first_within(candidates: &[Candidate], room: u32) -> Option<&Candidate>
-    ensures { option_map (λ candidate. candidate.now) result ≡ find (λ extra. nat_le (extra_len extra) room) candidates.now }
+    ensures { option_map (λ candidate. candidate.now) result ≡ find (λ extra. nat_le (data_bits extra) room) candidates.now }
 {
     candidates
         .iter()
-        .find(|candidate| extra_len(candidate) <= room)
+        .find(|candidate| data_bits(candidate) <= room)
 }
 
-// The set of data with this additional data.
-fn set_with<'a>(
-    facts: &OwnFacts,
-    cause: Cause,
-    number: u8,
-    candidate: Option<&'a Candidate>,
-) -> Msd<'a>
-    ensures { result ≡ set_with facts.now cause number (option_map (λ extra. extra.now) candidate.entry) }
+// The set of data with these facts, without additional data.
+fn set_without_data<'a>(facts: &OwnFacts, cause: Cause, number: u8) -> Msd<'a>
+    ensures { result ≡ set_with facts.now cause number None }
 {
     Msd {
         message: number,
@@ -93,7 +85,7 @@ fn set_with<'a>(
         before2: facts.before2,
         passengers: facts.passengers,
         set_more: None,
-        extra: extra_with(candidate),
+        extra: None,
         message_more: None,
     }
 }
@@ -135,59 +127,11 @@ fn extra_of(candidate: &Candidate) -> Extra<'_>
     }
 }
 
-// How many bits the set has without additional data.
-fn facts_len(facts: &OwnFacts) -> u32
-    ensures value { result ≡ facts_len facts.now }
-    ensures few { result ≤ 299 }
-    ensures vin { length facts.now.vin ≡ 17 }
+// How many bits the candidate takes as additional data.
+fn data_bits(candidate: &Candidate) -> u32
+    ensures { result ≡ data_bits candidate.now }
 {
-    let _known = facts.vin.text();
-    let ways = way_len(facts.before1) + way_len(facts.before2);
-    LEAST_SET + marks_len(facts.fuel) + ways + passengers_len(facts.passengers)
-}
-
-fn way_len(way: Option<Delta>) -> u32
-    ensures value { result ≡ option_len 20 way }
-    ensures few { result ≤ 20 }
-{
-    match way {
-        Some(_) => WAY,
-        None => 0,
-    }
-}
-
-fn passengers_len(passengers: Option<u8>) -> u32
-    ensures value { result ≡ option_len 8 passengers }
-    ensures few { result ≤ 8 }
-{
-    match passengers {
-        Some(_) => PASSENGERS,
-        None => 0,
-    }
-}
-
-// A bit for each mark that is set.
-fn marks_len(fuel: Marks) -> u32
-    ensures value { result ≡ marks_len fuel }
-    ensures few { result ≤ 7 }
-{
-    let gas = flag_len(fuel.natural_gas) + flag_len(fuel.propane);
-    let burnt = flag_len(fuel.gasoline) + flag_len(fuel.diesel) + gas;
-    burnt + flag_len(fuel.electric) + flag_len(fuel.hydrogen) + flag_len(fuel.other)
-}
-
-fn flag_len(flag: bool) -> u32
-    ensures value { result ≡ flag_len flag }
-    ensures few { result ≤ 1 }
-{
-    u32::from(flag)
-}
-
-// How many bits additional data takes: two lengths, and the octets.
-fn extra_len(candidate: &Candidate) -> u32
-    ensures value { result ≡ extra_len candidate.now }
-{
-    TWO_LENGTHS + 8 * (candidate.oid().len() as u32 + candidate.content().len() as u32)
+    extra_bits(&extra_of(candidate))
 }
 
 // The octets, and octets 0 behind them.

@@ -1,6 +1,7 @@
 pub mod Additions
 pub mod Alphabet
 pub mod Civil
+pub mod Format
 pub mod Description
 pub mod inner
 pub mod Position

@@ -6,6 +6,7 @@ mod additions;
 mod date;
 mod description;
 mod extra;
+mod format;
 mod kind;
 mod lines;
 mod msd;
@@ -17,6 +18,7 @@ mod tests;
 mod vin;
 
 pub use description::describe;
+pub use format::FORMAT;
 pub use kind::{AddedKind, RootKind, VehicleKind};
 pub use msd::{Delta, Extra, Marks, Msd};
 pub use remarks::{Remarks, find_remarks};

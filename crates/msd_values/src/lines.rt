@@ -6,8 +6,10 @@ ghost use Rattle.msd_values.specs.Description.{line};
 ghost use Rattle.msd_values.specs.inner.Groups.{vehicle_lines, place_lines};
 ghost use Rattle.msd_values.specs.Texts.{or_none, truth_text, root_name, kind_text, mark_digit, marks_text, angle_text, heading_text, way_text};
 ghost use Rattle.msd_values.specs.Civil.{instant_text};
+ghost use Rattle.msd_values.specs.Format.{format_number};
 
 use crate::date::instant_text;
+use crate::format::FORMAT;
 use crate::kind::VehicleKind;
 use crate::msd::{Delta, Marks, Msd};
 use crate::page::{LINE, NAME, PAGE, PLACE_LINES, Page, VEHICLE_LINES, put, put_line, put_number};
@@ -109,13 +111,22 @@ fn put_marks(page: &mut Page, marks: &Marks)
     put_line(page, b"fuel ", &digits);
 }
 
+// Puts the line of the format.
+fn put_format(page: &mut Page)
+    requires { array_vec_len page.old + LINE ≤ PAGE }
+    ensures items { Appends page.old.items page.new.items (line (codes "format") (decimal format_number)) }
+    ensures len { array_vec_len page.new ≤ array_vec_len page.old + LINE }
+{
+    put_number(page, b"format ", FORMAT);
+}
+
 /// Puts the lines that say what the set is, and of which vehicle.
 pub fn put_vehicle_lines(page: &mut Page, msd: &Msd<'_>)
     requires { array_vec_len page.old + VEHICLE_LINES ≤ PAGE }
     ensures items { Appends page.old.items page.new.items (vehicle_lines msd.now) }
     ensures len { array_vec_len page.new ≤ array_vec_len page.old + VEHICLE_LINES }
 {
-    put_line(page, b"format ", b"2");
+    put_format(page);
     put_number(page, b"message ", msd.message);
     put_truth(page, b"automatic ", msd.automatic);
     put_truth(page, b"test ", msd.test);

@@ -8,14 +8,12 @@ ghost use Rattle.msd_codec.specs.Places.{LieBetween, ContentFollows, ExtraFills,
 ghost use Rattle.msd_codec.specs.inner.Reading.{MovesOn};
 ghost use Rattle.msd_codec.specs.inner.Reading.{presence_bit, optional_at};
 
+use crate::formats::FORMATS;
 use crate::reading::elements::{is_present, read_extended, read_more, read_present};
 use crate::reading::structure::read_structure;
 use msd_values::{Extra, Msd};
 use per_bits::{Cursor, Refusal};
 use per_types::{read_format, read_octets, read_oid};
-
-// The number of the one known format.
-const FORMATS: [u8; 1] = [2];
 
 /// The message, behind the number of its format.
 pub fn read_message<'a>(c: &mut Cursor<'a>) -> Result<Msd<'a>, Refusal>

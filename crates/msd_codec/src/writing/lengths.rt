@@ -1,12 +1,12 @@
 //! How many bits the canonical spelling of a set of data has. A value that changes nothing of its length is
 //! handed on for the contract, which names it. A number that is asked for and not used is asked for its range,
 //! which the proof needs.
-ghost use Rattle.std.specs.Prelude.{◌≡◌, ◌+◌, ◌*◌, ◌≤◌, true};
+ghost use Rattle.std.specs.Prelude.{◌≡◌, ◌+◌, ◌*◌, ◌≤◌, true, None};
 ghost use Rattle.std.specs.Option.{option_map};
 ghost use Rattle.per_types.specs.Types.{number};
 ghost use Rattle.per_types.specs.Spelling.{MoreElements};
 ghost use Rattle.msd_codec.specs.Module.{octet, timestamp, control_type, vehicle_identification, propulsion_storage, vehicle_location, location_delta, vehicle_type, msd_structure, msd_message, ecall_message, additional_data};
-ghost use Rattle.msd_codec.specs.Trees.{count_tree, control_tree, kind_tree, vin_tree, storage_tree, pair_tree, way_tree, structure_tree, message_tree, extra_tree, more_of, tree};
+ghost use Rattle.msd_codec.specs.Trees.{IsPlain, count_tree, control_tree, kind_tree, vin_tree, storage_tree, pair_tree, way_tree, structure_tree, message_tree, extra_tree, more_of, tree};
 ghost use Rattle.msd_codec.specs.inner.Writing.{HasLength, Canon, Optional, Flag};
 
 use msd_values::{Delta, Extra, Marks, Msd, VehicleKind, Vin};
@@ -14,7 +14,8 @@ use per_bits::Additions;
 
 /// The bits of the whole message.
 pub fn message_len(msd: &Msd<'_>) -> u32
-    ensures { HasLength (Canon ecall_message (tree msd.now)) result }
+    ensures count { HasLength (Canon ecall_message (tree msd.now)) result }
+    ensures few { IsPlain msd.now → result ≤ 302 }
 {
     8 + body_len(msd)
 }
@@ -23,6 +24,7 @@ pub fn message_len(msd: &Msd<'_>) -> u32
 fn body_len(msd: &Msd<'_>) -> u32
     ensures count { HasLength (Canon msd_message (message_tree msd.now)) result }
     ensures few { result ≤ 32 * 65535 }
+    ensures plain { IsPlain msd.now → result ≤ 294 }
 {
     2 + structure_len(msd) + extra_len(&msd.extra) + more_len(&msd.message_more)
 }
@@ -31,6 +33,7 @@ fn body_len(msd: &Msd<'_>) -> u32
 fn structure_len(msd: &Msd<'_>) -> u32
     ensures count { HasLength (Canon msd_structure (structure_tree msd.now)) result }
     ensures few { result ≤ 17 * 65535 }
+    ensures plain { msd.now.fuel_more ≡ None → msd.now.set_more ≡ None → result ≤ 292 }
 {
     let control = control_len(msd.automatic, msd.test, msd.trusted, msd.kind);
     let storage = storage_len(msd.fuel, &msd.fuel_more);
@@ -97,6 +100,7 @@ fn vin_len(vin: &Vin) -> u32
 fn storage_len(fuel: Marks, more: &Option<Additions<'_>>) -> u32
     ensures count { HasLength (Canon propulsion_storage (storage_tree fuel more.now)) result }
     ensures few { result ≤ 8 * 65535 + 15 }
+    ensures plain { more.now ≡ None → result ≤ 15 }
 {
     let gas = flag_len(fuel.natural_gas) + flag_len(fuel.propane);
     let burnt = flag_len(fuel.gasoline) + flag_len(fuel.diesel) + gas;
@@ -134,20 +138,29 @@ fn passengers_len(passengers: Option<u8>) -> u32
     }
 }
 
-// Two lengths, and their octets.
 fn extra_len(extra: &Option<Extra<'_>>) -> u32
     ensures count { HasLength (Optional additional_data (option_map extra_tree extra.now)) result }
     ensures few { result ≤ 2048 }
+    ensures none { extra.now ≡ None → result ≡ 0 }
 {
     match extra {
-        Some(extra) => 16 + 8 * extra.oid.octs().count() + 8 * extra.content.count(),
+        Some(extra) => data_len(extra),
         None => 0,
     }
+}
+
+/// Two lengths, and their octets.
+pub fn data_len(extra: &Extra<'_>) -> u32
+    ensures count { HasLength (Canon additional_data (extra_tree extra.now)) result }
+    ensures few { result ≤ 2048 }
+{
+    16 + 8 * extra.oid.octs().count() + 8 * extra.content.count()
 }
 
 fn more_len(more: &Option<Additions<'_>>) -> u32
     ensures count { HasLength (MoreElements true (more_of more.now)) result }
     ensures few { result ≤ 8 * 65535 }
+    ensures none { more.now ≡ None → result ≡ 0 }
 {
     match more {
         Some(additions) => additions.bits().len(),

@@ -1,15 +1,16 @@
 //! Writers of the whole message, and of what stands beside the structure.
-ghost use Rattle.std.specs.Prelude.{◌≡◌, [], ◌∷◌};
 ghost use Rattle.std.specs.Option.{option_map};
 ghost use Rattle.per_bits.specs.Bits.{octets_of};
 ghost use Rattle.per_types.specs.Types.{bytes, format, octet_string, relative_oid};
-ghost use Rattle.msd_codec.specs.Module.{additional_data, msd_message, ecall_message};
+ghost use Rattle.msd_values.specs.Format.{format_number};
+ghost use Rattle.msd_codec.specs.Module.{additional_data, known_formats, msd_message, ecall_message};
 ghost use Rattle.msd_codec.specs.Trees.{count_tree, extra_tree, message_tree, tree};
 ghost use Rattle.msd_codec.specs.inner.Writing.{Puts, Canon, Optional};
 
+use crate::formats::FORMATS;
 use crate::writing::elements::{write_extended, write_more, write_present};
 use crate::writing::structure::write_structure;
-use msd_values::{Extra, Msd};
+use msd_values::{Extra, FORMAT, Msd};
 use per_bits::{BitBuf, Full, Octs, Oid};
 use per_types::{write_format, write_octets, write_oid};
 
@@ -23,9 +24,9 @@ pub fn write_message(to: &mut BitBuf, msd: &Msd<'_>) -> Result<(), Full>
 
 // The number of the one known format.
 fn write_known_format(to: &mut BitBuf) -> Result<(), Full>
-    ensures { Puts (Canon (format (2 ∷ [])) (count_tree 2)) to.old result to.new }
+    ensures { Puts (Canon (format known_formats) (count_tree format_number)) to.old result to.new }
 {
-    write_format(to, 2, &[2])
+    write_format(to, FORMAT, &FORMATS)
 }
 
 // The structure, additional data and additions.

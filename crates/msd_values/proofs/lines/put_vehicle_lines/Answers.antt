@@ -11,7 +11,7 @@ returns-clause-items c =
     (joined
     (joined
     (joined
-    (joined c.put_line.ensures.items c.put_number.ensures.items)
+    (joined c.put_format.ensures.items c.put_number.ensures.items)
     c.put_truth.ensures.items)
     c.put_truth-2.ensures.items)
     c.put_truth-3.ensures.items)

@@ -3,6 +3,6 @@ use Rattle.msd_codec.specs.Module.{ecall_message}
 use Rattle.msd_codec.proofs.Lengths.{counted, plain_length, required_length, rest_none, format_length}
 use Rattle.msd_codec.proofs.writing.lengths.message_len.Goals as goal
 
-pub returns : goal.returns
+pub returns-clause-count : goal.returns-clause-count
 unfolding ecall_message
-returns c = counted (plain_length (required_length format_length (required_length c.body_len.ensures.count rest_none))) (omega arith)
+returns-clause-count c = counted (plain_length (required_length format_length (required_length c.body_len.ensures.count rest_none))) (omega arith)
