@@ -4,7 +4,7 @@ use Rattle.std.proofs.lemmas.Bool.{eqb-true}
 use Rattle.std.specs.Option.{is_some}
 use Rattle.link_frames.specs.declared.note.Note.{Note}
 use Rattle.link_frames.specs.Row.{Row}
-use Rattle.ivs_machine.specs.Vehicle.{Vehicle, Phase, Idle, Standby, Arming, Dialling, Pausing, Seeking, InCall, vehicle_call}
+use Rattle.ivs_machine.specs.Vehicle.{Vehicle, Phase, Idle, Standby, Arming, InSeries, InCall, vehicle_call}
 use Rattle.ivs_machine.specs.VehicleKept.{IsKept}
 use Rattle.ivs_machine.specs.VehicleRows as vehicle
 use Rattle.ivs_machine.proofs.Ticks.{due_is_least as vehicle_due_is_least}
@@ -54,9 +54,7 @@ hangup_in : (v : Vehicle) (p : Phase)
 hangup_in v Idle = omega arith
 hangup_in v Standby = omega arith
 hangup_in v (Arming left) = omega arith
-hangup_in v Dialling = omega arith
-hangup_in v Pausing = omega arith
-hangup_in v Seeking = omega arith
+hangup_in v (InSeries s) = omega arith
 hangup_in v (InCall stage) = omega arith
 
 pub hangup_gives : (w : World) → 1 ≤ passes_of (vehicle_did w (vehicle.vehicle_row w.vehicle vehicle.Hangup))

@@ -11,7 +11,7 @@ use Rattle.link_frames.specs.declared.note.Note.{Note}
 use Rattle.link_frames.specs.Legs.{owner}
 use Rattle.link_frames.specs.Owes.{Seat, Along, MayGive, OwesArrival, fresh_seat, seat_moved}
 use Rattle.link_frames.specs.Row.{Row}
-use Rattle.ivs_machine.specs.Vehicle.{Vehicle, Phase, Idle, Standby, Arming, Dialling, Pausing, Seeking, InCall, vehicle_call, is_dialling, is_dialling_in, is_reachable, is_standby}
+use Rattle.ivs_machine.specs.Vehicle.{Vehicle, Phase, Idle, Standby, Arming, InSeries, InCall, vehicle_call, is_dialling, is_dialling_in, is_reachable, is_standby}
 use Rattle.ivs_machine.specs.VehicleKept as vehicle_kept
 use Rattle.ivs_machine.specs.VehicleOwes.{ArrivalOwes, EventOwes, StaysIn, seat_in, seat_of, comes_up_in, comes_up as comes_up_of}
 use Rattle.ivs_machine.specs.VehicleRows.{Heard, Answered, Incoming, named, unnamed, vehicle_row}
@@ -112,9 +112,7 @@ out_stays_in c v (InCall stage) h = cc
 out_stays_in c v Idle h = tt
 out_stays_in c v Standby h = tt
 out_stays_in c v (Arming before) h = tt
-out_stays_in c v Dialling h = tt
-out_stays_in c v Pausing h = tt
-out_stays_in c v Seeking h = tt
+out_stays_in c v (InSeries s) h = tt
 
 -- the call comes up at the vehicle
 vehicle_up : (n : ℕ) (w : World) (t : List Entry) (row : Row Vehicle)
@@ -191,40 +189,32 @@ comes_up_goes n w t row session f out owes in_call arrives =
 -- The rows at which a call comes up.
 
 dialling_out : (v : Vehicle) (p : Phase) → is_dialling_in p ≡ true → seat_in v p ≡ None
-dialling_out v Dialling h = refl
+dialling_out v (InSeries s) h = refl
 dialling_out v Idle h = absurd (false≢true h)
 dialling_out v Standby h = absurd (false≢true h)
 dialling_out v (Arming before) h = absurd (false≢true h)
-dialling_out v Pausing h = absurd (false≢true h)
-dialling_out v Seeking h = absurd (false≢true h)
 dialling_out v (InCall stage) h = absurd (false≢true h)
 
 dialling_comes : (c : ℕ) (network : Bool) (p : Phase) → is_dialling_in p ≡ true → comes_up_in (Answered c) network p ≡ Some c
-dialling_comes c network Dialling h = refl
+dialling_comes c network (InSeries s) h = rw h refl
 dialling_comes c network Idle h = absurd (false≢true h)
 dialling_comes c network Standby h = absurd (false≢true h)
 dialling_comes c network (Arming before) h = absurd (false≢true h)
-dialling_comes c network Pausing h = absurd (false≢true h)
-dialling_comes c network Seeking h = absurd (false≢true h)
 dialling_comes c network (InCall stage) h = absurd (false≢true h)
 
 answered_in : (c : ℕ) (v : Vehicle) (p : Phase) → is_dialling_in p ≡ true →
     vehicle_call (unwrap_or (named (Answered c) v p) (unnamed (Answered c) v)).new ≡ Some c
-answered_in c v Dialling h = refl
+answered_in c v (InSeries s) h = rw h refl
 answered_in c v Idle h = absurd (false≢true h)
 answered_in c v Standby h = absurd (false≢true h)
 answered_in c v (Arming before) h = absurd (false≢true h)
-answered_in c v Pausing h = absurd (false≢true h)
-answered_in c v Seeking h = absurd (false≢true h)
 answered_in c v (InCall stage) h = absurd (false≢true h)
 
 reachable_out : (v : Vehicle) (p : Phase) → (is_standby p && v.network) ≡ true → seat_in v p ≡ None
 reachable_out v Standby h = refl
 reachable_out v Idle h = absurd (false≢true h)
-reachable_out v Dialling h = absurd (false≢true h)
+reachable_out v (InSeries s) h = absurd (false≢true h)
 reachable_out v (Arming before) h = absurd (false≢true h)
-reachable_out v Pausing h = absurd (false≢true h)
-reachable_out v Seeking h = absurd (false≢true h)
 reachable_out v (InCall stage) h = absurd (false≢true h)
 
 reachable_comes : (c : ℕ) (network : Bool) (p : Phase) → (is_standby p && network) ≡ true →
@@ -232,20 +222,16 @@ reachable_comes : (c : ℕ) (network : Bool) (p : Phase) → (is_standby p && ne
 reachable_comes c true Standby h = refl
 reachable_comes c false Standby h = absurd (false≢true h)
 reachable_comes c network Idle h = absurd (false≢true h)
-reachable_comes c network Dialling h = absurd (false≢true h)
+reachable_comes c network (InSeries s) h = absurd (false≢true h)
 reachable_comes c network (Arming before) h = absurd (false≢true h)
-reachable_comes c network Pausing h = absurd (false≢true h)
-reachable_comes c network Seeking h = absurd (false≢true h)
 reachable_comes c network (InCall stage) h = absurd (false≢true h)
 
 called_in : (c : ℕ) (v : Vehicle) (p : Phase) → (is_standby p && v.network) ≡ true →
     vehicle_call (unwrap_or (named (Incoming c) v p) (unnamed (Incoming c) v)).new ≡ Some c
 called_in c v Standby h = rw h refl
 called_in c v Idle h = absurd (false≢true h)
-called_in c v Dialling h = absurd (false≢true h)
+called_in c v (InSeries s) h = absurd (false≢true h)
 called_in c v (Arming before) h = absurd (false≢true h)
-called_in c v Pausing h = absurd (false≢true h)
-called_in c v Seeking h = absurd (false≢true h)
 called_in c v (InCall stage) h = absurd (false≢true h)
 
 -- what the row of such an event owes

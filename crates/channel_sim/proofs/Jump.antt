@@ -9,7 +9,10 @@ use Rattle.std.proofs.lemmas.Bool.Decides.{nat_tests}
 use Rattle.link_frames.specs.declared.note.Note.{Note}
 use Rattle.link_frames.specs.Ranks.{Deadline, first_of, soonest, least_left, behind, to_next}
 use Rattle.link_frames.specs.Row.{Row, silent}
-use Rattle.ivs_machine.specs.Vehicle.{Vehicle, vehicle_call, Phase, Idle, Standby, Arming, Dialling, Pausing, Seeking, InCall, LeftIdle, LeftStandby, Initiating, Awaiting, Sending, Confirming, Talking}
+use Rattle.redial.specs.declared.series.Phase as series
+use Rattle.redial.specs.declared.series.Phase.TheVariants as series_phase
+use Rattle.redial.specs.declared.series.Series.{Series}
+use Rattle.ivs_machine.specs.Vehicle.{Vehicle, vehicle_call, Phase, Idle, Standby, Arming, InSeries, InCall, LeftIdle, LeftStandby, Initiating, Awaiting, Sending, Confirming, Talking}
 use Rattle.ivs_machine.specs.VehicleRows as vehicle
 use Rattle.psap_machine.specs.Point as at_point
 use Rattle.psap_machine.specs.Point.{Point}
@@ -97,15 +100,21 @@ init_less n e h = omega arith
 send_less : (n e : ℕ) → n ≤ to_next 13 (e + 1) → to_next 13 (e + n + 1) ≡ to_next 13 (e + 1) - n
 send_less n e h = omega arith
 
+series_less : (n : ℕ) (v : Vehicle) (s : Series) (phase : series.Phase)
+    → let w : Vehicle = record v { phase = InSeries (record s { phase = phase }) } in
+    EachLeaves n (vehicle_lines w) → EachLess n (vehicle_lines w) (vehicle_lines (vehicle.aged n w))
+series_less n v s (series_phase.Dialling ticks) h = (omega arith, tt)
+series_less n v s (series_phase.Pausing ticks) h = (omega arith, (omega arith, tt))
+series_less n v s series_phase.Seeking h = (omega arith, tt)
+series_less n v s series_phase.Over h = tt
+
 vehicle_less : (n : ℕ) (v : Vehicle) (p : Phase) → EachLeaves n (vehicle_lines (record v { phase = p }))
     → EachLess n (vehicle_lines (record v { phase = p })) (vehicle_lines (vehicle.aged n (record v { phase = p })))
 vehicle_less n v Idle h = tt
 vehicle_less n v Standby h = (omega arith, tt)
 vehicle_less n v (Arming LeftIdle) h = (omega arith, tt)
 vehicle_less n v (Arming LeftStandby) h = (omega arith, tt)
-vehicle_less n v Dialling h = (omega arith, tt)
-vehicle_less n v Pausing h = (omega arith, (omega arith, tt))
-vehicle_less n v Seeking h = (omega arith, tt)
+vehicle_less n v (InSeries s) h = series_less n v s s.phase h
 vehicle_less n v (InCall Initiating) h =
     (omega arith, (omega arith, (omega arith, (init_less n v.in_phase h.1.1.1.0, tt))))
 vehicle_less n v (InCall Awaiting) h = (omega arith, (omega arith, (omega arith, tt)))
@@ -282,9 +291,7 @@ call_in n v Idle = refl
 call_in n v Standby = refl
 call_in n v (Arming LeftIdle) = refl
 call_in n v (Arming LeftStandby) = refl
-call_in n v Dialling = refl
-call_in n v Pausing = refl
-call_in n v Seeking = refl
+call_in n v (InSeries s) = refl
 call_in n v (InCall stage) = refl
 
 pub call_stays : (n : ℕ) (v : Vehicle) → vehicle_call (vehicle.aged n v) ≡ vehicle_call v

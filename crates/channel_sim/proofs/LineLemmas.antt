@@ -3,7 +3,7 @@ use Rattle.std.proofs.Common.{◌≡◌, ℕ, ◌≤◌, ◌&&◌, if◌then◌e
 use Rattle.std.specs.Option.{is_some}
 use Rattle.std.proofs.lemmas.Bool.{eq-eqb}
 use Rattle.link_frames.specs.declared.note.Note.TheVariants as note
-use Rattle.ivs_machine.specs.Vehicle.{Vehicle, Phase, Standby, Dialling, InCall, vehicle_call, call_in, is_dialling, is_dialling_in, is_reachable, is_standby}
+use Rattle.ivs_machine.specs.Vehicle.{Vehicle, Phase, Standby, InSeries, InCall, vehicle_call, call_in, is_dialling, is_dialling_in, is_reachable, is_standby}
 use Rattle.ivs_machine.specs.VehicleRows as vehicle
 use Rattle.trace_model.specs.declared.entry.Entry.{Entry}
 use Rattle.trace_model.specs.History.{told}
@@ -57,7 +57,7 @@ no_call e w None same none = ap (λ o. or_nothing (in_its_call o e) w) (sym same
 no_call e w (Some c) same none = cc
 
 out_in : (v : Vehicle) (p : Phase) → v.phase ≡ p → is_dialling_in p ≡ true → vehicle_call v ≡ None
-out_in v Dialling e h = ap (call_in v) e
+out_in v (InSeries s) e h = ap (call_in v) e
 out_in v _ e h = cc
 
 pub is_out_dialling : (v : Vehicle) → is_dialling v ≡ true → vehicle_call v ≡ None

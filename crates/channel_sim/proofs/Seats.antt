@@ -9,7 +9,7 @@ use Rattle.link_frames.specs.declared.note.Note.{Note}
 use Rattle.link_frames.specs.declared.note.Why.{Why}
 use Rattle.link_frames.specs.Legs.{through, owner}
 use Rattle.link_frames.specs.Owes.{Seat, seat_moved}
-use Rattle.ivs_machine.specs.Vehicle.{Vehicle, Phase, Idle, Standby, Arming, Dialling, Pausing, Seeking, InCall, call_in, vehicle_call}
+use Rattle.ivs_machine.specs.Vehicle.{Vehicle, Phase, Idle, Standby, Arming, InSeries, InCall, call_in, vehicle_call}
 use Rattle.ivs_machine.specs.VehicleOwes.{seat_in, seat_of, number_in, number_of, StaysIn}
 use Rattle.psap_machine.specs.Point as session
 use Rattle.psap_machine.specs.Point.{Point, Listening, Asking, Telling, Talking, Clearing, Over}
@@ -41,9 +41,7 @@ seat_as_in c v (InCall stage) h = rw (eq-eqb v.call c h) refl
 seat_as_in c v Idle h = refl
 seat_as_in c v Standby h = refl
 seat_as_in c v (Arming before) h = refl
-seat_as_in c v Dialling h = refl
-seat_as_in c v Pausing h = refl
-seat_as_in c v Seeking h = refl
+seat_as_in c v (InSeries s) h = refl
 
 pub seat_as : (c : ℕ) (v : Vehicle) → StaysIn c v v.phase → vehicle_seat c v ≡ seat_of v
 seat_as c v h = seat_as_in c v v.phase h
@@ -53,9 +51,7 @@ seat_apart_in c d v apart (InCall stage) h = rw (ne_eqb v.call d (λ e. eqb-fals
 seat_apart_in c d v apart Idle h = refl
 seat_apart_in c d v apart Standby h = refl
 seat_apart_in c d v apart (Arming before) h = refl
-seat_apart_in c d v apart Dialling h = refl
-seat_apart_in c d v apart Pausing h = refl
-seat_apart_in c d v apart Seeking h = refl
+seat_apart_in c d v apart (InSeries s) h = refl
 
 pub seat_apart : (c d : ℕ) (v : Vehicle) → (d == c) ≡ false → StaysIn c v v.phase → vehicle_seat d v ≡ None
 seat_apart c d v apart h = seat_apart_in c d v apart v.phase h
@@ -79,9 +75,7 @@ call_some_in v k (InCall stage) h = refl
 call_some_in v k Idle h = cc
 call_some_in v k Standby h = cc
 call_some_in v k (Arming before) h = cc
-call_some_in v k Dialling h = cc
-call_some_in v k Pausing h = cc
-call_some_in v k Seeking h = cc
+call_some_in v k (InSeries s) h = cc
 
 pub call_some : (v : Vehicle) (k : Seat) → seat_of v ≡ Some k → vehicle_call v ≡ Some (number_of v)
 call_some v k h = call_some_in v k v.phase h
@@ -91,9 +85,7 @@ stays_call_in c v (InCall stage) h = h
 stays_call_in c v Idle h = tt
 stays_call_in c v Standby h = tt
 stays_call_in c v (Arming before) h = tt
-stays_call_in c v Dialling h = tt
-stays_call_in c v Pausing h = tt
-stays_call_in c v Seeking h = tt
+stays_call_in c v (InSeries s) h = tt
 
 pub stays_call : (c : ℕ) (v : Vehicle) → StaysIn c v v.phase → IfSome (vehicle_call v) (λ d. d ≡ c)
 stays_call c v h = stays_call_in c v v.phase h
@@ -103,9 +95,7 @@ number_as_in c v (InCall stage) h = eqb-true v.call c h
 number_as_in c v Idle h = absurd (false≢true h)
 number_as_in c v Standby h = absurd (false≢true h)
 number_as_in c v (Arming before) h = absurd (false≢true h)
-number_as_in c v Dialling h = absurd (false≢true h)
-number_as_in c v Pausing h = absurd (false≢true h)
-number_as_in c v Seeking h = absurd (false≢true h)
+number_as_in c v (InSeries s) h = absurd (false≢true h)
 
 -- a vehicle that is in a call has its number
 pub number_as : (c : ℕ) (v : Vehicle) → is_number c (vehicle_call v) ≡ true → number_of v ≡ c

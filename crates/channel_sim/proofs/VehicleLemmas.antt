@@ -5,9 +5,10 @@ use Rattle.std.specs.List.{AllByRecursion}
 use Rattle.std.specs.Option.{is_some, option_eq}
 use Rattle.ivs_machine.specs.declared.vehicle.Ivs.{Ivs}
 use Rattle.ivs_machine.specs.IvsStands.{IvsStandsFor}
-use Rattle.ivs_machine.specs.Vehicle.{Vehicle, vehicle_call, Phase, Idle, Standby, Arming, Dialling, Pausing, Seeking, InCall, LeftIdle, LeftStandby}
-use Rattle.ivs_machine.specs.VehicleKept.{IsKept, IsKeptIn}
-use Rattle.ivs_machine.specs.VehicleRows.{aged, aged_in, due_of, deadlines}
+use Rattle.ivs_machine.specs.Vehicle.{Vehicle, vehicle_call}
+use Rattle.ivs_machine.specs.VehicleKept.{IsKept}
+use Rattle.ivs_machine.specs.VehicleRows.{aged, due_of, deadlines}
+use Rattle.ivs_machine.proofs.Ticks.{aged_none}
 use Rattle.channel_sim.specs.declared.channel.Channel as kept_channel
 use Rattle.channel_sim.specs.World.{Call, World, is_number}
 use Rattle.channel_sim.specs.inner.Acts.{OtherHasLeg, IsReady}
@@ -19,27 +20,8 @@ use Rattle.channel_sim.proofs.SeatLemmas.{soonest_later}
 pub vehicle_due_later : (v : Vehicle) → IfSome (due_of v) (λ due. 0 < due)
 vehicle_due_later v = soonest_later (deadlines (aged 1 v) (aged 1 v).phase)
 
-same_within : (n : ℕ) → n ≤ 432000 → min (n + 0) 432000 ≡ n
-same_within n h = omega arith
-
--- no tick later a vehicle is the same
-none_in : (v : Vehicle) (p : Phase) → IsKeptIn 0 v p → aged_in 0 v p ≡ v
-none_in v Idle h = refl
-none_in v Standby h = ap (λ z. record v { standby = z }) (same_within v.standby (let b : v.standby < 432000 + 0 = h in omega arith))
-none_in v (Arming LeftIdle) h = ap (λ z. record v { in_phase = z }) (add-zero v.in_phase)
-none_in v (Arming LeftStandby) h =
-    ap (λ z. record v { in_phase = z; standby = min (v.standby + 0) 432000 }) (add-zero v.in_phase)
-    ∙ ap (λ z. record v { standby = z }) (same_within v.standby h.1)
-none_in v Dialling h = ap (λ z. record v { in_phase = z; series = v.series + 0 }) (add-zero v.in_phase) ∙ ap (λ z. record v { series = z }) (add-zero v.series)
-none_in v Pausing h = ap (λ z. record v { in_phase = z; series = v.series + 0 }) (add-zero v.in_phase) ∙ ap (λ z. record v { series = z }) (add-zero v.series)
-none_in v Seeking h = ap (λ z. record v { series = z }) (add-zero v.series)
-none_in v (InCall stage) h =
-    ap (λ z. record v { in_call = z; in_phase = v.in_phase + 0; voice_for = v.voice_for + 0 }) (add-zero v.in_call)
-    ∙ ap (λ z. record v { in_phase = z; voice_for = v.voice_for + 0 }) (add-zero v.in_phase)
-    ∙ ap (λ z. record v { voice_for = z }) (add-zero v.voice_for)
-
 pub vehicle_none : (v : Vehicle) → IsKept v → aged 0 v ≡ v
-vehicle_none v h = none_in v v.phase h.phase
+vehicle_none v h = aged_none v h
 
 pub vehicle_lag_none : (n : ℕ) (kept : Ivs) (v : Vehicle) → n ≡ 0 → VehicleLags n kept v → IvsStandsFor kept v
 vehicle_lag_none n kept v e h =

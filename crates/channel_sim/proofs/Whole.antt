@@ -12,7 +12,7 @@ use Rattle.link_frames.specs.declared.note.Note.TheVariants as note
 use Rattle.link_frames.specs.Legs.{Kept}
 use Rattle.link_frames.specs.Owes.{Seat, InTime, set_for}
 use Rattle.msd_fit.specs.declared.facts.Facts.{Facts}
-use Rattle.ivs_machine.specs.Vehicle.{Vehicle, Phase, Idle, Standby, Arming, Dialling, Pausing, Seeking, InCall, call_in, first_vehicle, vehicle_call}
+use Rattle.ivs_machine.specs.Vehicle.{Vehicle, Phase, Idle, Standby, Arming, InSeries, InCall, call_in, first_vehicle, vehicle_call}
 use Rattle.ivs_machine.specs.VehicleOwes.{seat_in}
 use Rattle.psap_machine.specs.Point as session
 use Rattle.psap_machine.specs.Point.{Point}
@@ -230,9 +230,7 @@ vehicle_seated_in c v (InCall stage) = at (v.call == c)
 vehicle_seated_in c v Idle = refl
 vehicle_seated_in c v Standby = refl
 vehicle_seated_in c v (Arming before) = refl
-vehicle_seated_in c v Dialling = refl
-vehicle_seated_in c v Pausing = refl
-vehicle_seated_in c v Seeking = refl
+vehicle_seated_in c v (InSeries s) = refl
 
 pub vehicle_leg : (w : World) (t : List Entry) (c : ℕ) → Fit w t → (leg_at «end».Vehicle c t).up ≡ vehicle_is_in c w
 vehicle_leg w t c h =

@@ -1,16 +1,19 @@
 -- Unit ticks: n of them give what the lines give once n ticks have gone, where no line acts before.
-use Rattle.std.proofs.Common.{◌≡◌, ◌≢◌, ◌≤◌, ℕ, zero, suc, List, [], Some, None, refl, sym, ap, arith, rules, ◌∙◌, IfSome, append-nil}
+use Rattle.std.proofs.Common.{◌≡◌, ◌≢◌, ◌≤◌, ℕ, zero, suc, List, [], Some, None, refl, sym, ap, arith, rules, ◌∙◌, IfSome, append-nil, add-zero, min, ◌+◌}
 use Rattle.std.specs.Prelude.{Option}
 use Rattle.std.proofs.lemmas.Bool.Decides.{nat_tests}
+use Rattle.callback.specs.Rest.{longest_standby}
 use Rattle.link_frames.specs.declared.note.Note.{Note}
 use Rattle.link_frames.specs.Ranks.{behind}
 use Rattle.link_frames.proofs.RanksLemmas.{EachLeaves, due_leaves, none_acts, due_at_least}
 use Rattle.link_frames.specs.Row.{Row, silent}
-use Rattle.ivs_machine.specs.Vehicle.{Vehicle, Phase, Idle, Standby, Arming, Dialling, Pausing, Seeking, InCall, LeftIdle, LeftStandby, Initiating, Awaiting, Sending, Confirming, Talking}
-use Rattle.ivs_machine.specs.VehicleKept.{IsKept, IsKeptBy}
-use Rattle.ivs_machine.specs.VehicleRows.{deadlines, aged, acts, unit_row, units, due_of, IsLeastDue}
-use Rattle.ivs_machine.specs.declared.vehicle.Ivs.{Ivs}
-use Rattle.ivs_machine.specs.IvsStands.{IvsIs, ivs_aged}
+use Rattle.redial.specs.declared.series.Phase as series
+use Rattle.redial.specs.declared.series.Phase.TheVariants as series_phase
+use Rattle.redial.specs.declared.series.Series.{Series}
+use Rattle.redial.proofs.Ticks.{none_grown}
+use Rattle.ivs_machine.specs.Vehicle.{Vehicle, Phase, Idle, Standby, Arming, InSeries, InCall, LeftIdle, LeftStandby, Initiating, Awaiting, Sending, Confirming, Talking}
+use Rattle.ivs_machine.specs.VehicleKept.{IsKept, IsKeptIn}
+use Rattle.ivs_machine.specs.VehicleRows.{deadlines, aged, aged_in, acts, unit_row, units, due_of, IsLeastDue}
 
 -- what each line of a vehicle leaves
 abbrev pub Leaves : ℕ → Vehicle → Type 0
@@ -26,11 +29,23 @@ one_less v n h = search rules
 aged_again : (n : ℕ) (v : Vehicle) → aged n (aged 1 v) ≡ aged (suc n) v
 aged_again n v = search rules
 
-aged_kept : (n : ℕ) (v : Vehicle) → IsKept v → Leaves n (aged 1 v) → IsKeptBy 1 (aged (suc n) v)
-aged_kept n v h leaves = search rules
+-- no tick later a vehicle is the same
+none_in : (v : Vehicle) (p : Phase) → IsKeptIn v p → let w : Vehicle = record v { phase = p } in aged 0 w ≡ w
+none_in v Idle h = refl
+none_in v Standby h =
+    let same : min (v.standby + 0) longest_standby ≡ v.standby = omega arith in
+    ap (λ z. record v { phase = Standby; standby = z }) same
+none_in v (Arming LeftIdle) h = ap (λ z. record v { phase = Arming LeftIdle; in_phase = z }) (add-zero v.in_phase)
+none_in v (Arming LeftStandby) h =
+    let same : min (v.standby + 0) longest_standby ≡ v.standby = omega (arith, h.1) in
+    ap (λ z. record v { phase = Arming LeftStandby; in_phase = z; standby = min (v.standby + 0) longest_standby })
+    (add-zero v.in_phase)
+    ∙ ap (λ z. record v { phase = Arming LeftStandby; standby = z }) same
+none_in v (InSeries s) h = ap (λ (z : Series). record v { phase = InSeries z }) (none_grown s)
+none_in v (InCall stage) h = simp add-zero
 
-pub aged_is : (n : ℕ) (ivs : Ivs) (v : Vehicle) → IvsIs ivs v → IsKeptBy 1 (aged n v) → IvsIs (ivs_aged n ivs ivs.phase) (aged n v)
-aged_is n ivs v h kept = search rules
+pub aged_none : (v : Vehicle) → IsKept v → aged 0 v ≡ v
+aged_none v h = none_in v v.phase h.phase
 
 -- n ticks in which nothing acts
 quiet_ticks : (n : ℕ) (v : Vehicle) → Leaves n (aged 1 v) → (units n v).items ≡ []
@@ -48,11 +63,9 @@ ticks_act (suc n) v h =
     ∙ ap acts (aged_again (suc n) v)
 
 -- up to what is due n unit ticks are those of the sums grown by n
-pub ticks_pass : (n : ℕ) (v : Vehicle) → IsKept v → 1 ≤ n → IfSome (due_of v) (λ due. n ≤ due) → (units n v ≡ acts (aged n v)) × IsKeptBy 1 (aged n v)
-ticks_pass zero v kept least due = absurd (omega arith)
-ticks_pass (suc n) v kept least due =
-    let leaves : Leaves n (aged 1 v) = due_leaves n (deadlines (aged 1 v) (aged 1 v).phase) due in
-    (ticks_act n v leaves, aged_kept n v kept leaves)
+pub ticks_pass : (n : ℕ) (v : Vehicle) → 1 ≤ n → IfSome (due_of v) (λ due. n ≤ due) → units n v ≡ acts (aged n v)
+ticks_pass zero v least due = absurd (omega arith)
+ticks_pass (suc n) v least due = ticks_act n v (due_leaves n (deadlines (aged 1 v) (aged 1 v).phase) due)
 
 -- What is due is the least number of unit ticks that give an item.
 abbrev ActsWhenDue : Vehicle → Type 0
@@ -67,14 +80,23 @@ due_arming_idle v h due e = search (rules, nat_tests)
 due_arming_standby : (v : Vehicle) → ActsWhenDue (record v { phase = Arming LeftStandby })
 due_arming_standby v h due e = search (rules, nat_tests)
 
-due_dialling : (v : Vehicle) → ActsWhenDue (record v { phase = Dialling })
-due_dialling v h due e = search (rules, nat_tests)
+abbrev in_series : Vehicle → Series → series.Phase → Vehicle
+in_series v s phase = record v { phase = InSeries (record s { phase = phase }) }
 
-due_pausing : (v : Vehicle) → ActsWhenDue (record v { phase = Pausing })
-due_pausing v h due e = search (rules, nat_tests)
+due_dialling : (v : Vehicle) (s : Series) (ticks : ℕ) → ActsWhenDue (in_series v s (series_phase.Dialling ticks))
+due_dialling v s ticks h due e = search (rules, nat_tests)
 
-due_seeking : (v : Vehicle) → ActsWhenDue (record v { phase = Seeking })
-due_seeking v h due e = search (rules, nat_tests)
+due_pausing : (v : Vehicle) (s : Series) (ticks : ℕ) → ActsWhenDue (in_series v s (series_phase.Pausing ticks))
+due_pausing v s ticks h due e = search (rules, nat_tests)
+
+due_seeking : (v : Vehicle) (s : Series) → ActsWhenDue (in_series v s series_phase.Seeking)
+due_seeking v s h due e = search (rules, nat_tests)
+
+due_series : (v : Vehicle) (s : Series) (phase : series.Phase) → ActsWhenDue (in_series v s phase)
+due_series v s (series_phase.Dialling ticks) h due e = due_dialling v s ticks h due e
+due_series v s (series_phase.Pausing ticks) h due e = due_pausing v s ticks h due e
+due_series v s series_phase.Seeking h due e = due_seeking v s h due e
+due_series v s series_phase.Over h due e = cc
 
 due_initiating : (v : Vehicle) → ActsWhenDue (record v { phase = InCall Initiating })
 due_initiating v h due e = search (rules, nat_tests)
@@ -96,9 +118,7 @@ due_in v Idle h due e = cc
 due_in v Standby h due e = due_standby v h due e
 due_in v (Arming LeftIdle) h due e = due_arming_idle v h due e
 due_in v (Arming LeftStandby) h due e = due_arming_standby v h due e
-due_in v Dialling h due e = due_dialling v h due e
-due_in v Pausing h due e = due_pausing v h due e
-due_in v Seeking h due e = due_seeking v h due e
+due_in v (InSeries s) h due e = due_series v s s.phase h due e
 due_in v (InCall Initiating) h due e = due_initiating v h due e
 due_in v (InCall Awaiting) h due e = due_awaiting v h due e
 due_in v (InCall (Sending r)) h due e = due_sending v r h due e
@@ -111,7 +131,7 @@ least_in None v h e = λ n.
 least_in (Some due) v h e =
     let least : 1 ≤ due = due_at_least (deadlines (aged 1 v) (aged 1 v).phase) due e in
     let within : IfSome (due_of v) (λ d. due ≤ d) = rw e (omega arith) in
-    let same : units due v ≡ acts (aged due v) = (ticks_pass due v h least within).0 in
+    let same : units due v ≡ acts (aged due v) = ticks_pass due v least within in
     record {
       gives = λ none. due_in v v.phase h due e (ap (λ (row : Row Vehicle). row.items) (sym same) ∙ none);
       quiet = λ n below.

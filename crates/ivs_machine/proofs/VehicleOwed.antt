@@ -1,6 +1,6 @@
 -- Every row owes what it must: one search for each event, and one for each phase of a unit tick.
 use Rattle.std.specs.Prelude.{◌≡◌, ◌+◌, ℕ, Bool, List, Option, Some, None, min}
-use Rattle.std.proofs.Common.{rules, refl}
+use Rattle.std.proofs.Common.{rules, refl, zero, suc, true≢false}
 use Rattle.std.proofs.lemmas.Bool.Decides.{nat_tests}
 use Rattle.link_frames.specs.declared.frame.Answer.{Answer}
 use Rattle.link_frames.specs.declared.frame.Answer.TheVariants as answer
@@ -11,9 +11,12 @@ use Rattle.link_frames.specs.Legs.{made_by}
 use Rattle.link_frames.specs.Owes.{elapsed, set_for}
 use Rattle.link_frames.specs.Row.{Row, silent}
 use Rattle.msd_fit.specs.declared.cause.Cause.{Cause}
-use Rattle.ivs_machine.specs.Vehicle.{Vehicle, Phase, Idle, Standby, Arming, Dialling, Pausing, Seeking, InCall, Left, Stage, octets_for, Initiating, Awaiting, Sending, Confirming, Talking}
-use Rattle.ivs_machine.specs.VehicleRows.{Heard, Trigger, Cancel, Net, Answered, Failed, Incoming, Sleep, Fault, Hangup, Lost, Arrives, vehicle_row, unit_row, acts}
-use Rattle.ivs_machine.specs.VehicleKept.{IsKept, IsKeptBy}
+use Rattle.redial.specs.declared.series.Phase as series
+use Rattle.redial.specs.declared.series.Phase.TheVariants as series_phase
+use Rattle.redial.specs.declared.series.Series.{Series}
+use Rattle.ivs_machine.specs.Vehicle.{Vehicle, Phase, Idle, Standby, Arming, InSeries, InCall, Left, Stage, octets_for, Initiating, Awaiting, Sending, Confirming, Talking}
+use Rattle.ivs_machine.specs.VehicleRows.{Heard, Trigger, Cancel, Net, Answered, Failed, Incoming, Sleep, Fault, Hangup, Lost, Arrives, vehicle_row, unit_row, units}
+use Rattle.ivs_machine.specs.VehicleKept.{IsKept}
 use Rattle.ivs_machine.specs.VehicleOwes.{VehicleOwes, EventOwes, came, comes_up, seat_of}
 use Rattle.ivs_machine.proofs.Made.{newest_for, last_for, made_again}
 
@@ -76,9 +79,7 @@ nack_in : (r : ℕ) (v : Vehicle) (p : Phase) → NackOwes r (record v { phase =
 nack_in r v Idle h = nack_outside r (record v { phase = Idle }) refl h
 nack_in r v Standby h = nack_outside r (record v { phase = Standby }) refl h
 nack_in r v (Arming before) h = nack_outside r (record v { phase = Arming before }) refl h
-nack_in r v Dialling h = nack_outside r (record v { phase = Dialling }) refl h
-nack_in r v Pausing h = nack_outside r (record v { phase = Pausing }) refl h
-nack_in r v Seeking h = nack_outside r (record v { phase = Seeking }) refl h
+nack_in r v (InSeries s) h = nack_outside r (record v { phase = InSeries s }) refl h
 nack_in r v (InCall Initiating) h = nack_outside r (record v { phase = InCall Initiating }) refl h
 nack_in r v (InCall Awaiting) h = nack_outside r (record v { phase = InCall Awaiting }) refl h
 nack_in r v (InCall (Sending s)) h =
@@ -148,14 +149,23 @@ unit_standby v h = search rules
 unit_arming : (v : Vehicle) (before : Left) → UnitOwes (record v { phase = Arming before })
 unit_arming v before h = search rules
 
-unit_dialling : (v : Vehicle) → UnitOwes (record v { phase = Dialling })
-unit_dialling v h = search rules
+abbrev in_series : Vehicle → Series → series.Phase → Vehicle
+in_series v s phase = record v { phase = InSeries (record s { phase = phase }) }
 
-unit_pausing : (v : Vehicle) → UnitOwes (record v { phase = Pausing })
-unit_pausing v h = search rules
+unit_dialling : (v : Vehicle) (s : Series) (ticks : ℕ) → UnitOwes (in_series v s (series_phase.Dialling ticks))
+unit_dialling v s ticks h = search rules
 
-unit_seeking : (v : Vehicle) → UnitOwes (record v { phase = Seeking })
-unit_seeking v h = search rules
+unit_pausing : (v : Vehicle) (s : Series) (ticks : ℕ) → UnitOwes (in_series v s (series_phase.Pausing ticks))
+unit_pausing v s ticks h = search rules
+
+unit_seeking : (v : Vehicle) (s : Series) → UnitOwes (in_series v s series_phase.Seeking)
+unit_seeking v s h = search rules
+
+unit_series : (v : Vehicle) (s : Series) (phase : series.Phase) → UnitOwes (in_series v s phase)
+unit_series v s (series_phase.Dialling ticks) = unit_dialling v s ticks
+unit_series v s (series_phase.Pausing ticks) = unit_pausing v s ticks
+unit_series v s series_phase.Seeking = unit_seeking v s
+unit_series v s series_phase.Over = λ h. absurd (true≢false h.phase.goes_on)
 
 unit_initiating : (v : Vehicle) → UnitOwes (record v { phase = InCall Initiating })
 unit_initiating v h = search rules
@@ -186,14 +196,13 @@ unit_in : (v : Vehicle) (p : Phase) → UnitOwes (record v { phase = p })
 unit_in v Idle = unit_idle v
 unit_in v Standby = unit_standby v
 unit_in v (Arming before) = unit_arming v before
-unit_in v Dialling = unit_dialling v
-unit_in v Pausing = unit_pausing v
-unit_in v Seeking = unit_seeking v
+unit_in v (InSeries s) = unit_series v s s.phase
 unit_in v (InCall stage) = unit_in_call v stage
 
 pub owes_unit : (v : Vehicle) → IsKept v → VehicleOwes v None (elapsed (seat_of v)) (unit_row v)
 owes_unit v h = unit_in v v.phase h
 
--- once the sums have grown, a line that acts leaves a state that keeps what it must
-pub acts_kept : (v : Vehicle) → IsKeptBy 1 v → IsKept (acts v).new
-acts_kept v h = search rules
+-- n unit ticks leave a state that keeps what it must
+pub units_kept : (n : ℕ) (v : Vehicle) → IsKept v → IsKept (units n v).new
+units_kept zero v h = h
+units_kept (suc n) v h = units_kept n (unit_row v).new (owes_unit v h).kept

@@ -6,6 +6,8 @@ use Rattle.link_frames.specs.Legs.{Kept}
 use Rattle.msd_fit.specs.declared.cause.Cause.{Cause}
 use Rattle.msd_fit.specs.declared.cause.Cause.TheVariants as cause
 use Rattle.msd_fit.specs.declared.facts.Facts.{Facts}
+use Rattle.redial.specs.Series as series
+use Rattle.redial.specs.declared.series.Series.{Series}
 
 -- What the vehicle waits for in a call, with its request. The voice is open in Talking alone.
 pub data Stage : Type 0 where
@@ -20,13 +22,12 @@ pub data Left : Type 0 where
   LeftIdle : Left
   LeftStandby : Left
 
+-- What the vehicle is doing; a dial series knows by itself what it is doing, with its ticks.
 pub data Phase : Type 0 where
   Idle : Phase
   Standby : Phase
   Arming : Left → Phase
-  Dialling : Phase
-  Pausing : Phase
-  Seeking : Phase
+  InSeries : Series → Phase
   InCall : Stage → Phase
 
 pub record Vehicle : Type 0 where
@@ -36,12 +37,9 @@ pub record Vehicle : Type 0 where
   pub cause : Cause
   -- the sets made since the trigger
   pub sets : ℕ
-  -- the attempts of the dial series, and its ticks
-  pub attempts : ℕ
-  pub series : ℕ
   -- the ticks of the standby
   pub standby : ℕ
-  -- the ticks in Arming, Dialling, Pausing, or a stage of a call
+  -- the ticks in Arming, or a stage of a call
   pub in_phase : ℕ
   -- The call that the vehicle is in, or else was in last: its number, the sets made in it, each with its request, the
   -- requests counted, the last attempt to send a set, the ticks in the call, the ticks for which the voice has been
@@ -63,8 +61,6 @@ first_vehicle known =
       network = true;
       cause = cause.Auto;
       sets = 0;
-      attempts = 0;
-      series = 0;
       standby = 0;
       in_phase = 0;
       call = 0;
@@ -108,7 +104,7 @@ abbrev pub vehicle_call : Vehicle → Option ℕ
 vehicle_call v = call_in v v.phase
 
 abbrev pub is_dialling_in : Phase → Bool
-is_dialling_in Dialling = true
+is_dialling_in (InSeries s) = series.is_dialling s.phase
 is_dialling_in _ = false
 
 abbrev pub is_dialling : Vehicle → Bool

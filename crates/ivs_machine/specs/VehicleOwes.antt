@@ -1,7 +1,7 @@
 -- What each row of the in-vehicle system owes to the world: the vehicle as a seat in its call, and the rows of events,
 -- of the unit tick and of a call that comes up. Proved of every row in `proofs/VehicleOwed`; the world's safety stands
 -- on it. This project's profile.
-use Rattle.std.specs.Prelude.{ℕ, Bool, true, false, List, [], ◌∷◌, Option, Some, None, ◌≡◌, ◌≤◌, length}
+use Rattle.std.specs.Prelude.{ℕ, Bool, true, false, List, [], ◌∷◌, Option, Some, None, ◌≡◌, ◌≤◌, length, if◌then◌else◌}
 use Rattle.link_frames.specs.declared.frame.End.TheVariants as «end»
 use Rattle.link_frames.specs.declared.frame.Frame.{Frame}
 use Rattle.link_frames.specs.declared.note.Note.{Note}
@@ -9,7 +9,8 @@ use Rattle.link_frames.specs.declared.note.Note.TheVariants as note
 use Rattle.link_frames.specs.Legs.{through}
 use Rattle.link_frames.specs.Owes.{Seat, Owes, OwesArrival}
 use Rattle.link_frames.specs.Row.{Row}
-use Rattle.ivs_machine.specs.Vehicle.{Vehicle, Phase, Standby, Dialling, InCall, Stage, Talking}
+use Rattle.redial.specs.Series as series
+use Rattle.ivs_machine.specs.Vehicle.{Vehicle, Phase, Standby, InSeries, InCall, Stage, Talking}
 use Rattle.ivs_machine.specs.VehicleRows.{Heard, Answered, Incoming, Arrives}
 use Rattle.ivs_machine.specs.VehicleKept.{IsKept}
 
@@ -40,7 +41,7 @@ came _ = None
 
 -- the call that comes up at an event, if one does
 abbrev pub comes_up_in : Heard → (network : Bool) → Phase → Option ℕ
-comes_up_in (Answered c) network Dialling = Some c
+comes_up_in (Answered c) network (InSeries s) = if series.is_dialling s.phase then Some c else None
 comes_up_in (Incoming c) true Standby = Some c
 comes_up_in _ network _ = None
 

@@ -21,10 +21,15 @@ use Rattle.link_frames.specs.Row.{Row, nothing_row, silent}
 use Rattle.msd_fit.specs.Fitting.{made}
 use Rattle.msd_fit.specs.declared.cause.Cause.{Cause}
 use Rattle.msd_fit.specs.declared.cause.Cause.TheVariants as cause
-use Rattle.redial.specs.Series.{longest_attempt, pause, window, most_attempts}
+use Rattle.redial.specs.Series.{is_dialling, under_way}
+use Rattle.redial.specs.SeriesRows as series
+use Rattle.redial.specs.declared.series.Next.{Next}
+use Rattle.redial.specs.declared.series.Next.TheVariants as next
+use Rattle.redial.specs.declared.series.Series.{Series}
+use Rattle.redial.specs.declared.series.Turn.{Turn}
 use Rattle.ivs_machine.specs.declared.event.VehicleEvent.{VehicleEvent}
 use Rattle.ivs_machine.specs.declared.event.VehicleEvent.TheVariants as event
-use Rattle.ivs_machine.specs.Vehicle.{Vehicle, Phase, Idle, Standby, Arming, Dialling, Pausing, Seeking, InCall, Left, LeftIdle, LeftStandby, Stage, Initiating, Awaiting, Sending, Confirming, Talking, served, octets_for, is_settled}
+use Rattle.ivs_machine.specs.Vehicle.{Vehicle, Phase, Idle, Standby, Arming, InSeries, InCall, Left, LeftIdle, LeftStandby, Stage, Initiating, Awaiting, Sending, Confirming, Talking, served, octets_for, is_settled}
 
 -- What the vehicle hears: an event whose frame is a whole one.
 pub data Heard : Type 0 where
@@ -120,34 +125,48 @@ abbrev pub when : Bool → Row Vehicle → Option (Row Vehicle)
 when true row = Some row
 when false row = None
 
--- an attempt to dial, by its number in the series
-abbrev pub dials : ℕ → Vehicle → Row Vehicle
-dials n v = gives (note.Dial n ∷ []) (record v { phase = Dialling; attempts = n; in_phase = 0 })
-
-abbrev pub seeks : Vehicle → Row Vehicle
-seeks v = gives (note.Seeking ∷ []) (record v { phase = Seeking })
-
--- a dial series begins
-abbrev pub begins : Vehicle → Row Vehicle
-begins v = if v.network then dials 1 (record v { series = 0 }) else seeks (record v { attempts = 0; series = 0 })
-
 -- the standby begins
 abbrev pub rests : Vehicle → Row Vehicle
 rests v = gives (note.Standby ∷ []) (record v { phase = Standby; standby = 0 })
 
-abbrev pub gives_up : Vehicle → Row Vehicle
-gives_up v = behind (note.GaveUp ∷ []) (rests v)
+-- what follows in a dial series, which is then this one
+abbrev pub follows : Next → Series → Vehicle → Row Vehicle
+follows (next.Dial n) s v = gives (note.Dial n ∷ []) (record v { phase = InSeries s })
+follows next.Pause s v = gives [] (record v { phase = InSeries s })
+follows next.Seek s v = gives (note.Seeking ∷ []) (record v { phase = InSeries s })
+follows next.GaveUp s v = behind (note.GaveUp ∷ []) (rests v)
 
-abbrev pub pauses : Vehicle → Row Vehicle
-pauses v = gives [] (record v { phase = Pausing; in_phase = 0 })
+-- a dial series begins
+abbrev pub begins : Vehicle → Row Vehicle
+begins v = follows (series.begins v.network).next (series.begins v.network).new v
 
--- whether no further attempt follows
-abbrev pub is_last : (attempts series : ℕ) → Bool
-is_last attempts series = attempts == most_attempts || nat_le window series
+-- the item for the attempt that was under way, if one was: it failed
+abbrev pub failed_attempt : Option ℕ → List Note
+failed_attempt None = []
+failed_attempt (Some n) = note.Failed n ∷ []
+
+-- a move of this series, if it makes one
+abbrev pub moves : (old : Series) → Option Next → (new : Series) → Vehicle → Row Vehicle
+moves old None new v = gives [] (record v { phase = InSeries new })
+moves old (Some next) new v = behind (failed_attempt (under_way old)) (follows next new v)
 
 -- an attempt to dial failed
-abbrev pub fails : Vehicle → Row Vehicle
-fails v = behind (note.Failed v.attempts ∷ []) (if is_last v.attempts v.series then gives_up v else pauses v)
+abbrev pub fails : Series → Vehicle → Row Vehicle
+fails s v = moves s (Some (series.fails s).next) (series.fails s).new v
+
+-- a series is told of the network
+abbrev pub told : (up : Bool) → Series → Vehicle → Row Vehicle
+told up s v = moves s (series.told up s).next (series.told up s).new v
+
+-- the item for the timer of a series that a trace names, if it names one
+abbrev pub ended_items : Option Timer → List Note
+ended_items None = []
+ended_items (Some t) = ends_outside t ∷ []
+
+-- what a timer of this series leads to, if one is at its end
+abbrev pub turns : (old : Series) → Vehicle → Option Turn → (new : Series) → Row Vehicle
+turns old v None new = moves old None new v
+turns old v (Some turn) new = behind (ended_items turn.ended) (moves old (Some turn.next) new v)
 
 -- the vehicle is idle
 abbrev pub idles : Vehicle → Row Vehicle
@@ -254,15 +273,15 @@ named (Trigger cause.Test) v Standby = Some (triggers cause.Test v)
 named (Trigger cause.Manual) v Idle = Some (arms LeftIdle v)
 named (Trigger cause.Manual) v Standby = Some (arms LeftStandby v)
 named Cancel v (Arming before) = Some (behind (note.Cancelled ∷ []) (returns v before))
-named (Net false) v Dialling = when v.network (behind (note.Net false ∷ []) (fails (networked false v)))
+named (Net false) v (InSeries s) = when v.network (behind (note.Net false ∷ []) (told false s (networked false v)))
 named (Net false) v (InCall stage) =
     when v.network (behind (note.Net false ∷ down v why.Lost ∷ []) (begins (networked false v)))
 named (Net false) v _ = when v.network (gives (note.Net false ∷ []) (networked false v))
-named (Net true) v Seeking =
-    when (not v.network) (behind (note.Net true ∷ []) (dials (v.attempts + 1) (networked true v)))
+named (Net true) v (InSeries s) =
+    when (not v.network) (behind (note.Net true ∷ []) (told true s (networked true v)))
 named (Net true) v _ = when (not v.network) (gives (note.Net true ∷ []) (networked true v))
-named (Answered c) v Dialling = Some (answered c v)
-named Failed v Dialling = Some (fails v)
+named (Answered c) v (InSeries s) = when (is_dialling s.phase) (answered c v)
+named Failed v (InSeries s) = when (is_dialling s.phase) (fails s v)
 named (Incoming c) v Standby = when v.network (called c v)
 named Sleep v Standby = when (nat_le least_standby v.standby) (idles v)
 named Fault v (InCall Talking) = Some (gives (note.Fault «end».Vehicle v.call ∷ []) v)
@@ -301,9 +320,7 @@ aged_in n v Idle = v
 aged_in n v Standby = record v { standby = rested v.standby n }
 aged_in n v (Arming LeftIdle) = record v { in_phase = v.in_phase + n }
 aged_in n v (Arming LeftStandby) = record v { in_phase = v.in_phase + n; standby = rested v.standby n }
-aged_in n v Dialling = record v { in_phase = v.in_phase + n; series = v.series + n }
-aged_in n v Pausing = record v { in_phase = v.in_phase + n; series = v.series + n }
-aged_in n v Seeking = record v { series = v.series + n }
+aged_in n v (InSeries s) = record v { phase = InSeries (series.grown n s) }
 aged_in n v (InCall stage) =
     record v { in_call = v.in_call + n; in_phase = v.in_phase + n; voice_for = v.voice_for + n }
 
@@ -342,18 +359,18 @@ in_stage v (Sending r) =
 in_stage v (Confirming r) = by_sum v ∷ at longest_confirming v.in_phase (times_out timer.T6 v) ∷ []
 in_stage v Talking = []
 
--- the lines of each phase, by rank
+-- these lines with other rows
+abbrev pub with_rows : {A B : Type 0} → (A → B) → List (Deadline A) → List (Deadline B)
+with_rows row [] = []
+with_rows row (d ∷ ds) = record { left = d.left; row = row d.row } ∷ with_rows row ds
+
+-- the lines of each phase, by rank; of a dial series those that it has
 abbrev pub deadlines : Vehicle → Phase → List (Deadline (Row Vehicle))
 deadlines v Idle = []
 deadlines v Standby = at longest_standby v.standby (behind (ends_outside timer.T10 ∷ []) (idles v)) ∷ []
 deadlines v (Arming before) =
     at cancel_period v.in_phase (behind (ends_outside timer.T1 ∷ []) (triggers cause.Manual v)) ∷ []
-deadlines v Dialling = at longest_attempt v.in_phase (behind (ends_outside timer.TD ∷ []) (fails v)) ∷ []
-deadlines v Pausing =
-    at window v.series (behind (ends_outside timer.TW ∷ []) (gives_up v))
-    ∷ at pause v.in_phase (if v.network then dials (v.attempts + 1) v else seeks v)
-    ∷ []
-deadlines v Seeking = at window v.series (behind (ends_outside timer.TW ∷ []) (gives_up v)) ∷ []
+deadlines v (InSeries s) = with_rows (λ t. turns s v t.turn t.new) (series.deadlines s s.phase)
 deadlines v (InCall stage) =
     at longest_call v.in_call (behind (ends v timer.T2 ∷ []) (releases v)) ∷ in_stage v stage
 

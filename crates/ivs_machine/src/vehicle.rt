@@ -4,6 +4,7 @@ ghost use Rattle.std.specs.Prelude.{◌≡◌, ◌≤◌, IfSome};
 mod in_call;
 mod moves;
 mod outside;
+mod series;
 mod ticks;
 
 use crate::event::VehicleEvent;
@@ -11,6 +12,7 @@ use audio_switch::Switch;
 use callback::Rest;
 use link_frames::{Items, OCTETS, Request, Requests, Steps};
 use msd_fit::{Cause, Facts};
+use redial::Redial;
 use std::sync::ledger::Ledger;
 
 /// T1, in which a manual trigger may be cancelled: 5 seconds, in ticks of 100 ms.
@@ -66,9 +68,7 @@ enum Phase {
     Idle,
     Standby,
     Arming(Left),
-    Dialling,
-    Pausing,
-    Seeking,
+    InSeries,
     InCall(Stage),
 }
 
@@ -81,11 +81,10 @@ pub struct Ivs {
     cause: Cause,
     /// The sets made since the trigger; the number stays at 255.
     sets: u8,
-    /// The attempts of the dial series, and its ticks.
-    attempts: u8,
-    series: u32,
+    /// The dial series that is under way, or was last; before the first any.
+    redial: Redial,
     standby: Rest,
-    /// The ticks in Arming, Dialling, Pausing, or a stage of a call.
+    /// The ticks in Arming, or a stage of a call.
     in_phase: u32,
     /// The number of the call that the vehicle is in, or was in last.
     call: u32,
@@ -115,14 +114,14 @@ impl Ivs {
     pub fn new(facts: Facts) -> Ivs
         ensures { IvsStandsFor result (first_vehicle facts) }
     {
+        let (redial, _next) = Redial::begin(true);
         Ivs {
             facts,
             phase: Phase::Idle,
             network: true,
             cause: Cause::Auto,
             sets: 0,
-            attempts: 0,
-            series: 0,
+            redial,
             standby: Rest::enter(),
             in_phase: 0,
             call: 0,
@@ -196,8 +195,7 @@ impl Ivs {
         ensures moments { moments.new ≡ moments.old + 1 }
     {
         moments.tick();
-        self.age(n);
-        self.acts(items)
+        self.elapse(n, items)
     }
 
     /// The number of the call that the vehicle is in; `None` exactly where it is in none.
@@ -214,7 +212,10 @@ impl Ivs {
     pub fn dialling(&self) -> bool
         ensures { (v : Vehicle) → IvsStandsFor self.now v → result ≡ is_dialling v }
     {
-        matches!(self.phase, Phase::Dialling)
+        match self.phase {
+            Phase::InSeries => self.redial.dialling(),
+            _ => false,
+        }
     }
 
     /// Whether the point may call the vehicle: it is in standby, and the network is there.

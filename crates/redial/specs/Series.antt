@@ -1,6 +1,6 @@
 -- A dial series of the in-vehicle system: what it is doing, and what it keeps. After EN 16072 (redial); the ticks and
 -- the number of attempts are this project's profile. Cited by the contracts of `Redial`.
-use Rattle.std.specs.Prelude.{ℕ, Bool, true, false, ◌≡◌, ◌<◌, ◌≤◌, ◌+◌}
+use Rattle.std.specs.Prelude.{ℕ, Bool, true, false, Option, Some, None, ◌≡◌, ◌<◌, ◌≤◌, ◌+◌}
 use Rattle.redial.specs.declared.series.Phase.{Phase}
 use Rattle.redial.specs.declared.series.Phase.TheVariants.{Dialling, Pausing, Seeking, Over}
 use Rattle.redial.specs.declared.series.Series.{Series}
@@ -31,6 +31,16 @@ is_over (Dialling ticks) = false
 is_over (Pausing ticks) = false
 is_over Seeking = false
 is_over Over = true
+
+-- the attempt that is under way, by its number
+abbrev pub under_way_in : Series → Phase → Option ℕ
+under_way_in s (Dialling ticks) = Some s.attempts
+under_way_in s (Pausing ticks) = None
+under_way_in s Seeking = None
+under_way_in s Over = None
+
+abbrev pub under_way : Series → Option ℕ
+under_way s = under_way_in s s.phase
 
 -- What a series keeps in each phase: the vehicle dials with network, and seeks without; no timer is at its end.
 pub record DialsWithin (s : Series) (in_phase : ℕ) : Type 0 where

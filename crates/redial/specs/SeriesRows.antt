@@ -1,8 +1,9 @@
 -- What a dial series does at each event and at each unit tick: the moves, then one line for each row. After EN 16072
 -- (redial); the order of timers that end together is this project's profile. Cited by the contracts of `Redial`.
-use Rattle.std.specs.Prelude.{ℕ, zero, suc, Bool, true, false, List, [], ◌∷◌, Option, Some, None, ◌+◌, ◌-◌, ◌==◌, ◌||◌, nat_le, min, if◌then◌else◌}
+use Rattle.std.specs.Prelude.{ℕ, zero, suc, Bool, true, false, List, [], ◌∷◌, Option, Some, None, ◌+◌, ◌==◌, ◌||◌, nat_le, if◌then◌else◌}
 use Rattle.link_frames.specs.declared.note.Timer.{Timer}
 use Rattle.link_frames.specs.declared.note.Timer.TheVariants as timer
+use Rattle.link_frames.specs.Ranks.{Deadline, first_of, left, soonest}
 use Rattle.redial.specs.declared.series.Move.{Move}
 use Rattle.redial.specs.declared.series.Next.{Next}
 use Rattle.redial.specs.declared.series.Next.TheVariants as next
@@ -71,20 +72,23 @@ told up s = net_row up (record s { net = up }) s.phase
 
 -- The unit tick.
 
--- One line of its table: the ticks that are left, the timer that a trace names then, and the move.
-pub record Deadline : Type 0 where
-  pub left : ℕ
-  pub ended : Option Timer
-  pub move : Move
+-- no line acts
+abbrev pub quiet : Series → Ticked
+quiet s = record { turn = None; new = s }
 
--- the lines of a phase, first the one that acts where several have no ticks left
-abbrev pub deadlines : Series → Phase → List Deadline
-deadlines s (Dialling ticks) = record { left = longest_attempt - ticks; ended = Some timer.TD; move = fails s } ∷ []
-deadlines s (Pausing ticks) =
-    record { left = window - s.ticks; ended = Some timer.TW; move = gives_up s }
-    ∷ record { left = pause - ticks; ended = None; move = goes_on s }
-    ∷ []
-deadlines s Seeking = record { left = window - s.ticks; ended = Some timer.TW; move = gives_up s } ∷ []
+-- a line: after so many ticks a timer ends, which a trace names or not, and the series makes this move
+abbrev pub at : (limit elapsed : ℕ) → Option Timer → Move → Deadline Ticked
+at limit elapsed ended move =
+    record {
+      left = left limit elapsed;
+      row = record { turn = Some (record { ended = ended; next = move.next }); new = move.new };
+    }
+
+-- the lines of a phase, by rank
+abbrev pub deadlines : Series → Phase → List (Deadline Ticked)
+deadlines s (Dialling ticks) = at longest_attempt ticks (Some timer.TD) (fails s) ∷ []
+deadlines s (Pausing ticks) = at window s.ticks (Some timer.TW) (gives_up s) ∷ at pause ticks None (goes_on s) ∷ []
+deadlines s Seeking = at window s.ticks (Some timer.TW) (gives_up s) ∷ []
 deadlines s Over = []
 
 -- each sum that runs, n ticks later
@@ -97,16 +101,9 @@ grown_in n s Over = s
 abbrev pub grown : ℕ → Series → Series
 grown n s = grown_in n s s.phase
 
--- the first line that has no ticks left
-abbrev pub first_of : Series → List Deadline → Ticked
-first_of s [] = record { turn = None; new = s }
-first_of s (d ∷ ds) =
-    if d.left == 0
-    then record { turn = Some (record { ended = d.ended; next = d.move.next }); new = d.move.new }
-    else first_of s ds
-
+-- what the lines bring that have no tick left
 abbrev pub acts : Series → Ticked
-acts s = first_of s (deadlines s s.phase)
+acts s = first_of (quiet s) (deadlines s s.phase)
 
 -- one unit tick: the sums grow by one, and a line acts
 abbrev pub unit_tick : Series → Ticked
@@ -118,23 +115,14 @@ pub record Units : Type 0 where
   pub new : Series
 
 -- the units behind the first one
-abbrev pub behind : Option Turn → Units → Units
-behind None units = units
-behind (Some turn) units = record units { turns = turn ∷ units.turns }
+abbrev pub and_then : Option Turn → Units → Units
+and_then None units = units
+and_then (Some turn) units = record units { turns = turn ∷ units.turns }
 
 abbrev pub unit_ticks : ℕ → Series → Units
 unit_ticks zero s = record { turns = []; new = s }
-unit_ticks (suc n) s = behind (unit_tick s).turn (unit_ticks n (unit_tick s).new)
+unit_ticks (suc n) s = and_then (unit_tick s).turn (unit_ticks n (unit_tick s).new)
 
--- the lesser of a number of ticks and another, if there is one
-abbrev pub sooner : ℕ → Option ℕ → Option ℕ
-sooner a None = Some a
-sooner a (Some b) = Some (min a b)
-
-abbrev pub soonest : List Deadline → Option ℕ
-soonest [] = None
-soonest (d ∷ ds) = sooner d.left (soonest ds)
-
--- the least number of ticks after which a line has none left; None where the series is over
+-- after how many unit ticks a line acts; None where the series is over
 abbrev pub due_of : Series → Option ℕ
-due_of s = soonest (deadlines s s.phase)
+due_of s = let next : Series = grown 1 s in soonest (deadlines next next.phase)

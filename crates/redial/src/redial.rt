@@ -3,6 +3,7 @@
 ghost use Rattle.std.specs.Prelude.{◌≡◌, ◌≢◌, ◌<◌, ◌≤◌, ℕ, IsTrue, IfSome, Some, false, [], option_to_list};
 
 use crate::series::{Move, Next, Phase, Series, Turn};
+use link_frames::DialAttempt;
 use std::marker::Model;
 
 /// A dial series. Contracts see what it is doing, whether there is network, the number of its last attempt and its
@@ -26,7 +27,7 @@ impl Model for Redial {
 }
 
 impl Redial {
-    ghost use Rattle.redial.specs.Series.{IsKept, most_attempts, is_dialling, is_over};
+    ghost use Rattle.redial.specs.Series.{IsKept, most_attempts, is_dialling, is_over, under_way};
     ghost use Rattle.redial.specs.SeriesRows.{begins, fails, told, unit_ticks, due_of};
 
     /// A series that begins now, and its first move: with network the vehicle dials, else it waits for the network.
@@ -61,6 +62,16 @@ impl Redial {
         self.series.attempts
     }
 
+    /// The attempt that is under way; `None` where none is.
+    pub fn under_way(&self) -> Option<DialAttempt>
+        ensures { result ≡ under_way self.now }
+    {
+        match self.series.phase {
+            Phase::Dialling(_) => DialAttempt::new(self.series.attempts),
+            _ => None,
+        }
+    }
+
     /// The attempt that is under way failed.
     pub fn failed(&mut self) -> Next
         requires { IsTrue (is_dialling self.old.phase) }
@@ -75,7 +86,6 @@ impl Redial {
     /// The network came up or went down. `None` exactly where the series neither waits for a network that came up nor
     /// dials while it went down.
     pub fn net(&mut self, up: bool) -> Option<Next>
-        requires { is_over self.old.phase ≡ false }
         ensures next { result ≡ (told up self.old).next }
         ensures new { self.new ≡ (told up self.old).new }
     {

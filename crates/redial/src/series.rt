@@ -72,7 +72,7 @@ pub struct Ticked {
 }
 
 impl Series {
-    ghost use Rattle.redial.specs.Series.{most_attempts, is_over};
+    ghost use Rattle.redial.specs.Series.{most_attempts, is_over, IsKept};
     ghost use Rattle.redial.specs.SeriesRows.{dials, seeks, pauses, gives_up, fails, goes_on, begins, told, grown, acts, due_of};
     ghost use Rattle.redial.specs.inner.Kept.{MayDial, IsGrownIn};
 
@@ -176,7 +176,8 @@ impl Series {
 
     /// After how many ticks a timer brings something.
     pub fn due(self) -> u32
-        requires { is_over self.phase ≡ false }
+        requires kept { IsKept self }
+        requires over { is_over self.phase ≡ false }
         ensures { Some result ≡ due_of self }
     {
         match self.phase {

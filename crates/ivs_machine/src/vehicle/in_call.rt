@@ -1,12 +1,11 @@
 //! What the vehicle does at events and frames of its call. After EN 16062.
 ghost use Rattle.std.specs.Prelude.{◌≡◌, ◌≤◌};
-ghost use Rattle.link_frames.specs.declared.note.Note.TheVariants as note;
 
 use super::{Ivs, LEAST_OPENING, Phase, Stage};
 use link_frames::{Answer, End, FrameRef, Items, Note, Request, Why, fill};
 
 impl Ivs {
-    ghost use Rattle.std.specs.Prelude.{◌<◌, ◌||◌, if◌then◌else◌, IsTrue, ◌↔◌};
+    ghost use Rattle.std.specs.Prelude.{◌<◌, ◌||◌, IsTrue, ◌↔◌};
     ghost use Rattle.audio_switch.specs.Switch.{is_open, open_ticks};
     ghost use Rattle.link_frames.specs.Does.{Does};
     ghost use Rattle.link_frames.specs.Frame.{lent};
@@ -15,7 +14,6 @@ impl Ivs {
     ghost use Rattle.ivs_machine.specs.VehicleRows as rows;
     ghost use Rattle.ivs_machine.specs.VehicleRows.{vehicle_row};
     ghost use Rattle.ivs_machine.specs.IvsStands.{IvsIs, IvsStandsFor};
-    ghost use Rattle.ivs_machine.specs.inner.Moves.{begun};
 
     /// A fault of the audio or the modem: a muted voice opens.
     pub(super) fn fault(&mut self, items: &mut Items)
@@ -42,27 +40,17 @@ impl Ivs {
         match self.phase {
             Phase::InCall(_) => {
                 let down = self.goes_down(Why::Hangup);
-                let next = self.rests_or_begins();
-                fill(items, &[down, next])
+                if self.is_settled() {
+                    fill(items, &[down, self.rests()])
+                } else {
+                    self.begins(&[down], items)
+                }
             }
             _ => fill(items, &[Note::Nothing]),
         }
     }
 
-    /// A call that is settled is followed by the standby, and another one by a dial series.
-    fn rests_or_begins(&mut self) -> Note
-        ensures item { result ≡ (if self.old.marked || self.old.counts then note.Standby
-            else (if self.old.network then note.Dial 1 else note.Seeking)) }
-        ensures new { self.new ≡ (if self.old.marked || self.old.counts
-            then record self.old { phase = Phase.Standby; standby = 0 } else begun self.old) }
-    {
-        if self.is_settled() {
-            self.rests()
-        } else {
-            self.begins()
-        }
-    }
-
+    /// Whether the call served its end, so that it need not be dialled again.
     fn is_settled(&self) -> bool
         ensures { result ≡ (self.now.marked || self.now.counts) }
     {
@@ -76,7 +64,7 @@ impl Ivs {
         match self.phase {
             Phase::InCall(_) => {
                 let down = self.goes_down(Why::Lost);
-                fill(items, &[down, self.begins()])
+                self.begins(&[down], items)
             }
             _ => fill(items, &[Note::Nothing]),
         }

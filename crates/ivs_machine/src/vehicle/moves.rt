@@ -5,60 +5,17 @@ ghost use Rattle.link_frames.specs.declared.note.Note.TheVariants as note;
 
 use super::{Ivs, Phase, Stage};
 use callback::Rest;
-use link_frames::{DialAttempt, End, Frame, Items, Note, Request, Timer, Why, fill};
+use link_frames::{End, Frame, Items, Note, Request, Timer, Why, fill};
 use msd_fit::make;
-use redial::{MOST_ATTEMPTS, WINDOW};
 
 impl Ivs {
-    ghost use Rattle.std.specs.Prelude.{ℕ, true, [], ◌∷◌, ◌++◌, ◌<◌, ◌+◌, min, length, if◌then◌else◌, List};
+    ghost use Rattle.std.specs.Prelude.{true, [], ◌∷◌, ◌+◌, ℕ, min, if◌then◌else◌, List};
     ghost use Rattle.audio_switch.specs.Switch.{unmuted};
     ghost use Rattle.link_frames.specs.Requests.{RequestsStandFor};
     ghost use Rattle.link_frames.specs.declared.frame.Frame.TheVariants as frame;
     ghost use Rattle.link_frames.specs.declared.note.Timer.TheVariants as timer;
     ghost use Rattle.link_frames.specs.declared.note.Why.TheVariants as why;
     ghost use Rattle.msd_fit.specs.Fitting.{made};
-    ghost use Rattle.ivs_machine.specs.VehicleRows.{is_last};
-    ghost use Rattle.ivs_machine.specs.inner.Moves.{begun, fail_items, failed};
-
-    /// A dial series begins: the one item for it.
-    pub(super) fn begins(&mut self) -> Note
-        ensures item { result ≡ (if self.old.network then note.Dial 1 else note.Seeking) }
-        ensures new { self.new ≡ begun self.old }
-    {
-        self.series = 0;
-        if self.network {
-            self.phase = Phase::Dialling;
-            self.attempts = 1;
-            self.in_phase = 0;
-            Note::Dial(DialAttempt::first())
-        } else {
-            self.phase = Phase::Seeking;
-            self.attempts = 0;
-            Note::Seeking
-        }
-    }
-
-    /// The next attempt of the series.
-    pub(super) fn dials(&mut self) -> Note
-        ensures item { self.old.attempts < 10 → result ≡ note.Dial (self.old.attempts + 1) }
-        ensures new { self.new ≡ record self.old {
-          phase = Phase.Dialling;
-          attempts = min (self.old.attempts + 1) 255;
-          in_phase = 0;
-        } }
-    {
-        self.phase = Phase::Dialling;
-        self.attempts = self.attempts.saturating_add(1);
-        self.in_phase = 0;
-        Note::Dial(self.dialled())
-    }
-
-    /// The attempt of the series that was made last.
-    pub(super) fn dialled(&self) -> DialAttempt
-        ensures { 0 < self.now.attempts → self.now.attempts ≤ 10 → result ≡ self.now.attempts }
-    {
-        DialAttempt::new(self.attempts).unwrap_or(DialAttempt::first())
-    }
 
     /// The standby begins.
     pub(super) fn rests(&mut self) -> Note
@@ -68,39 +25,6 @@ impl Ivs {
         self.phase = Phase::Standby;
         self.standby = Rest::enter();
         Note::Standby
-    }
-
-    /// The window of the series is over.
-    pub(super) fn gives_up(&mut self, items: &mut Items)
-        ensures items { items.new.items ≡ note.Ended «end».Vehicle 0 timer.TW ∷ note.GaveUp ∷ note.Standby ∷ [] }
-        ensures new { self.new ≡ record self.old { phase = Phase.Standby; standby = 0 } }
-    {
-        fill(items, &[ended(Timer::TW), Note::GaveUp, self.rests()])
-    }
-
-    /// Whether no further attempt follows.
-    pub(super) fn is_last(&self) -> bool
-        ensures { result ≡ is_last self.now.attempts self.now.series }
-    {
-        self.attempts == MOST_ATTEMPTS || self.series >= WINDOW
-    }
-
-    /// An attempt to dial failed. Items are those before, and then what follows.
-    pub(super) fn fails(&mut self, before: &[Note], items: &mut Items)
-        requires { length before.now ≤ 4 }
-        ensures items { 0 < self.old.attempts → self.old.attempts ≤ 10 →
-            items.new.items ≡ before.now ++ fail_items self.old }
-        ensures failed { self.new ≡ failed self.old }
-    {
-        fill(items, before);
-        items.push(Note::Failed(self.dialled()));
-        if self.is_last() {
-            items.push(Note::GaveUp);
-            items.push(self.rests());
-        } else {
-            self.phase = Phase::Pausing;
-            self.in_phase = 0;
-        }
     }
 
     /// A stage of the call begins, with the voice as it is.

@@ -4,18 +4,18 @@ ghost use Rattle.link_frames.specs.declared.note.Note.TheVariants as note;
 
 use super::{Ivs, Left, MOST_MUTED, Phase, Stage};
 use audio_switch::Switch;
-use callback::LONGEST_STANDBY;
 use link_frames::{Frame, Items, Note, Requests, Why, fill};
 use msd_fit::Cause;
 
 impl Ivs {
-    ghost use Rattle.std.specs.Prelude.{true, false, [], ◌∷◌, if◌then◌else◌};
+    ghost use Rattle.std.specs.Prelude.{true, false, [], ◌∷◌, None};
     ghost use Rattle.link_frames.specs.Does.{Does};
     ghost use Rattle.link_frames.specs.Requests.{RequestsStandFor};
     ghost use Rattle.ivs_machine.specs.VehicleRows as rows;
     ghost use Rattle.ivs_machine.specs.VehicleRows.{vehicle_row};
     ghost use Rattle.ivs_machine.specs.IvsStands.{IvsIs, IvsStandsFor};
-    ghost use Rattle.ivs_machine.specs.inner.Moves.{begun};
+    ghost use Rattle.ivs_machine.specs.inner.Moves.{begun, move_items};
+    ghost use Rattle.redial.specs.SeriesRows.{begins};
 
     /// A trigger.
     pub(super) fn trigger(&mut self, cause: Cause, items: &mut Items)
@@ -64,12 +64,12 @@ impl Ivs {
 
     /// A dial series begins for this cause.
     fn begins_for(&mut self, cause: Cause, items: &mut Items)
-        ensures items { items.new.items ≡ (if self.old.network then note.Dial 1 else note.Seeking) ∷ [] }
+        ensures items { items.new.items ≡ move_items None (begins self.old.network).next }
         ensures begun { self.new ≡ begun (record self.old { cause = cause; sets = 0 }) }
     {
         self.cause = cause;
         self.sets = 0;
-        fill(items, &[self.begins()])
+        self.begins(&[], items)
     }
 
     /// The cancel period of a manual trigger begins.
@@ -92,12 +92,12 @@ impl Ivs {
                 fill(items, &[Note::Cancelled])
             }
             Phase::Arming(Left::Standby) => {
-                if self.standby.elapsed() == LONGEST_STANDBY {
-                    self.phase = Phase::Idle;
-                    fill(items, &[Note::Cancelled, Note::Idle])
-                } else {
+                if self.standby.due().is_some() {
                     self.phase = Phase::Standby;
                     fill(items, &[Note::Cancelled])
+                } else {
+                    self.phase = Phase::Idle;
+                    fill(items, &[Note::Cancelled, Note::Idle])
                 }
             }
             _ => fill(items, &[Note::Nothing]),
@@ -113,14 +113,12 @@ impl Ivs {
         }
         self.network = false;
         match self.phase {
-            Phase::Dialling => self.fails(&[Note::Net(false)], items),
+            Phase::InSeries => self.tells(false, items),
             Phase::InCall(_) => {
                 let down = self.goes_down(Why::Lost);
-                fill(items, &[Note::Net(false), down, self.begins()])
+                self.begins(&[Note::Net(false), down], items)
             }
-            Phase::Idle | Phase::Standby | Phase::Arming(_) | Phase::Pausing | Phase::Seeking => {
-                fill(items, &[Note::Net(false)])
-            }
+            Phase::Idle | Phase::Standby | Phase::Arming(_) => fill(items, &[Note::Net(false)]),
         }
     }
 
@@ -133,10 +131,7 @@ impl Ivs {
         }
         self.network = true;
         match self.phase {
-            Phase::Seeking => {
-                let dial = self.dials();
-                fill(items, &[Note::Net(true), dial])
-            }
+            Phase::InSeries => self.tells(true, items),
             _ => fill(items, &[Note::Net(true)]),
         }
     }
@@ -146,7 +141,7 @@ impl Ivs {
         ensures { Does IvsStandsFor IvsIs self.old self.new items.new.items (λ v. vehicle_row v (rows.Answered call)) }
     {
         match self.phase {
-            Phase::Dialling => {
+            Phase::InSeries if self.redial.dialling() => {
                 self.enters_call(call, Stage::Initiating, Switch::muted(MOST_MUTED), false);
                 fill(
                     items,
@@ -195,16 +190,6 @@ impl Ivs {
         self.served = 0;
         self.counted = Requests::none();
         self.counts = false;
-    }
-
-    /// An attempt to dial failed.
-    pub(super) fn failed(&mut self, items: &mut Items)
-        ensures { Does IvsStandsFor IvsIs self.old self.new items.new.items (λ v. vehicle_row v rows.Failed) }
-    {
-        match self.phase {
-            Phase::Dialling => self.fails(&[], items),
-            _ => fill(items, &[Note::Nothing]),
-        }
     }
 
     /// The vehicle leaves its standby, where that lasted long enough.

@@ -1,15 +1,14 @@
 //! What the vehicle does as ticks pass. After EN 16062 and EN 16072.
 ghost use Rattle.std.specs.Prelude.{◌≡◌};
+ghost use Rattle.redial.specs.SeriesRows as series;
 
 use super::moves::ended;
 use super::{
     CANCEL_PERIOD, INITIATES_EVERY, INITIATION, Ivs, LONGEST_AWAITING, LONGEST_CALL,
     LONGEST_CONFIRMING, LONGEST_SENDING, Left, MOST_MUTED, Phase, SENDS_EVERY, Stage,
 };
-use callback::LONGEST_STANDBY;
 use link_frames::{Frame, Items, Note, Request, Timer, Why, fill};
 use msd_fit::Cause;
-use redial::{LONGEST_ATTEMPT, PAUSE, WINDOW};
 
 impl Ivs {
     ghost use Rattle.std.specs.Prelude.{◌<◌, IsTrue};
@@ -17,28 +16,36 @@ impl Ivs {
     ghost use Rattle.link_frames.specs.Does.{Does};
     ghost use Rattle.link_frames.specs.Row.{silent};
     ghost use Rattle.ivs_machine.specs.Vehicle.{Vehicle};
-    ghost use Rattle.ivs_machine.specs.VehicleRows.{acts, due_of};
-    ghost use Rattle.ivs_machine.specs.IvsStands.{IvsIs, IvsIsDue, IvsStandsFor, ivs_aged};
+    ghost use Rattle.ivs_machine.specs.VehicleRows.{acts, aged, due_of};
+    ghost use Rattle.ivs_machine.specs.IvsStands.{IvsIs, IvsStandsFor};
     ghost use Rattle.ivs_machine.specs.inner.Moves.{stage_left};
+    ghost use Rattle.ivs_machine.specs.inner.Passing.{IvsMayPass, IvsIsDue, call_aged};
 
     /// The least ticks that a timer or a repeat of the phase has left.
+    #[tactic(auto, using(crate::proofs::SeriesPasses::due_in_series))]
     pub(super) fn ticks_left(&self) -> Option<u32>
         ensures { (v : Vehicle) → IvsStandsFor self.now v → result ≡ due_of v }
     {
         match self.phase {
             Phase::Idle => None,
-            Phase::Standby => Some(LONGEST_STANDBY.saturating_sub(self.standby.elapsed())),
+            Phase::Standby => self.standby.due(),
             Phase::Arming(_) => Some(CANCEL_PERIOD.saturating_sub(self.in_phase)),
-            Phase::Dialling => Some(LONGEST_ATTEMPT.saturating_sub(self.in_phase)),
-            Phase::Pausing => {
-                let window = WINDOW.saturating_sub(self.series);
-                Some(window.min(PAUSE.saturating_sub(self.in_phase)))
-            }
-            Phase::Seeking => Some(WINDOW.saturating_sub(self.series)),
+            Phase::InSeries => self.left_in_series(),
             Phase::InCall(stage) => {
                 let call = LONGEST_CALL.saturating_sub(self.in_call);
                 Some(call.min(self.left_in(stage)))
             }
+        }
+    }
+
+    /// The least ticks that a timer of the series has left; `None` where it is over.
+    fn left_in_series(&self) -> Option<u32>
+        ensures { result ≡ series.due_of self.now.redial }
+    {
+        if self.redial.over() {
+            None
+        } else {
+            Some(self.redial.due())
         }
     }
 
@@ -63,61 +70,88 @@ impl Ivs {
         }
     }
 
-    /// Each sum that runs, `n` ticks later; a voice is muted for at most its limit.
-    pub(super) fn age(&mut self, n: u32)
-        ensures { self.new ≡ ivs_aged n self.old self.old.phase }
+    /// Lets ticks pass, and does what the timers and repeats bring that have no ticks left then.
+    pub(super) fn elapse(&mut self, n: u32, items: &mut Items)
+        ensures { Does (IvsMayPass n) IvsIs self.old self.new items.new.items (λ v. acts (aged n v)) }
     {
         match self.phase {
-            Phase::Idle => {}
-            Phase::Standby => {
-                let _ended = self.standby.pass(n);
-            }
-            Phase::Arming(Left::Idle) => {
-                self.in_phase = self.in_phase.saturating_add(n);
-            }
-            Phase::Arming(Left::Standby) => {
-                self.in_phase = self.in_phase.saturating_add(n);
-                let _ended = self.standby.pass(n);
-            }
-            Phase::Dialling | Phase::Pausing => {
-                self.in_phase = self.in_phase.saturating_add(n);
-                self.series = self.series.saturating_add(n);
-            }
-            Phase::Seeking => {
-                self.series = self.series.saturating_add(n);
-            }
-            Phase::InCall(_) => {
-                self.in_call = self.in_call.saturating_add(n);
-                self.in_phase = self.in_phase.saturating_add(n);
-                let room = self.voice.room().unwrap_or(n);
-                self.voice.pass(n.min(room));
-            }
+            Phase::Idle => items.clear(),
+            Phase::Standby => self.standby_passes(n, items),
+            Phase::Arming(before) => self.arming_passes(before, n, items),
+            Phase::InSeries => self.series_passes(n, items),
+            Phase::InCall(stage) => self.call_passes(stage, n, items),
         }
     }
 
-    /// What the timers and repeats do that have no ticks left; mostly all have some.
-    pub(super) fn acts(&mut self, items: &mut Items)
+    /// Lets ticks of the standby pass, which may end.
+    fn standby_passes(&mut self, n: u32, items: &mut Items)
+        requires { self.old.phase ≡ Phase.Standby }
+        ensures { Does (IvsMayPass n) IvsIs self.old self.new items.new.items (λ v. acts (aged n v)) }
+    {
+        if self.standby.pass(n) {
+            self.phase = Phase::Idle;
+            fill(items, &[ended(Timer::T10), Note::Idle])
+        } else {
+            items.clear()
+        }
+    }
+
+    /// Lets ticks of the cancel period pass, and of a standby that was left for it.
+    fn arming_passes(&mut self, before: Left, n: u32, items: &mut Items)
+        requires { self.old.phase ≡ Phase.Arming before }
+        ensures { Does (IvsMayPass n) IvsIs self.old self.new items.new.items (λ v. acts (aged n v)) }
+    {
+        if let Left::Standby = before {
+            let _ended = self.standby.pass(n);
+        }
+        self.in_phase = self.in_phase.saturating_add(n);
+        if self.in_phase >= CANCEL_PERIOD {
+            self.cause = Cause::Manual;
+            self.sets = 0;
+            self.begins(&[ended(Timer::T1)], items)
+        } else {
+            items.clear()
+        }
+    }
+
+    /// Lets ticks of a call pass.
+    fn call_passes(&mut self, stage: Stage, n: u32, items: &mut Items)
+        requires { self.old.phase ≡ Phase.InCall stage }
+        ensures { Does (IvsMayPass n) IvsIs self.old self.new items.new.items (λ v. acts (aged n v)) }
+    {
+        self.age(n);
+        self.acts(stage, items)
+    }
+
+    /// Each sum of a call, `n` ticks later; a voice is muted for at most its limit.
+    fn age(&mut self, n: u32)
+        ensures { self.new ≡ call_aged n self.old }
+    {
+        self.in_call = self.in_call.saturating_add(n);
+        self.in_phase = self.in_phase.saturating_add(n);
+        let room = self.voice.room().unwrap_or(n);
+        self.voice.pass(n.min(room));
+    }
+
+    /// What the timers and repeats of a call do that have no ticks left; mostly all have some.
+    fn acts(&mut self, stage: Stage, items: &mut Items)
+        requires { self.old.phase ≡ Phase.InCall stage }
         ensures { Does IvsIsDue IvsIs self.old self.new items.new.items acts }
     {
         if self.is_quiet() {
             items.clear();
         } else {
-            self.acts_now(items);
+            self.acts_now(stage, items);
         }
     }
 
-    /// Whether no timer is at its end and nothing is repeated.
+    /// Whether the vehicle is in a call, no timer of which is at its end, and nothing is repeated.
     fn is_quiet(&self) -> bool
         ensures { IsTrue result → (v : Vehicle) → IvsIsDue self.now v → acts v ≡ silent v }
     {
         match self.phase {
-            Phase::Idle => true,
-            Phase::Standby => self.standby.elapsed() < LONGEST_STANDBY,
-            Phase::Arming(_) => self.in_phase < CANCEL_PERIOD,
-            Phase::Dialling => self.in_phase < LONGEST_ATTEMPT,
-            Phase::Pausing => self.series < WINDOW && self.in_phase < PAUSE,
-            Phase::Seeking => self.series < WINDOW,
             Phase::InCall(stage) => self.in_call < LONGEST_CALL && self.is_quiet_in(stage),
+            _ => false,
         }
     }
 
@@ -138,71 +172,9 @@ impl Ivs {
         is_within && self.voice.muted_for() < MOST_MUTED
     }
 
-    /// What the timers and repeats do that have no ticks left.
-    #[inline(never)]
-    fn acts_now(&mut self, items: &mut Items)
-        ensures { Does IvsIsDue IvsIs self.old self.new items.new.items acts }
-    {
-        match self.phase {
-            Phase::Idle => items.clear(),
-            Phase::Standby => {
-                if self.standby.elapsed() >= LONGEST_STANDBY {
-                    self.phase = Phase::Idle;
-                    fill(items, &[ended(Timer::T10), Note::Idle])
-                } else {
-                    items.clear()
-                }
-            }
-            Phase::Arming(_) => {
-                if self.in_phase >= CANCEL_PERIOD {
-                    self.cause = Cause::Manual;
-                    self.sets = 0;
-                    fill(items, &[ended(Timer::T1), self.begins()])
-                } else {
-                    items.clear()
-                }
-            }
-            Phase::Dialling => {
-                if self.in_phase >= LONGEST_ATTEMPT {
-                    self.fails(&[ended(Timer::TD)], items)
-                } else {
-                    items.clear()
-                }
-            }
-            Phase::Pausing => self.acts_pausing(items),
-            Phase::Seeking => {
-                if self.series >= WINDOW {
-                    self.gives_up(items)
-                } else {
-                    items.clear()
-                }
-            }
-            Phase::InCall(stage) => self.acts_in_call(stage, items),
-        }
-    }
-
-    /// The end of the series, or of the pause.
-    fn acts_pausing(&mut self, items: &mut Items)
-        requires { self.old.phase ≡ Phase.Pausing }
-        ensures { Does IvsIsDue IvsIs self.old self.new items.new.items acts }
-    {
-        if self.series >= WINDOW {
-            self.gives_up(items)
-        } else if self.in_phase >= PAUSE {
-            if self.network {
-                let dial = self.dials();
-                fill(items, &[dial])
-            } else {
-                self.phase = Phase::Seeking;
-                fill(items, &[Note::Seeking])
-            }
-        } else {
-            items.clear()
-        }
-    }
-
     /// The timers and repeats of a call, by rank.
-    fn acts_in_call(&mut self, stage: Stage, items: &mut Items)
+    #[inline(never)]
+    fn acts_now(&mut self, stage: Stage, items: &mut Items)
         requires { self.old.phase ≡ Phase.InCall stage }
         ensures { Does IvsIsDue IvsIs self.old self.new items.new.items acts }
     {

@@ -5,4 +5,4 @@ pub returns-clause-turns : goal.returns-clause-turns
 returns-clause-turns c = rw (← c.self.view_is) (turns_at_due c.due.result c.self.inside.series c.self.invariant c.due.ensures)
 
 pub returns-clause-quiet : goal.returns-clause-quiet
-returns-clause-quiet c = rw (← c.self.view_is) (λ n lt. before_due n c.due.result c.self.inside.series c.self.invariant c.due.ensures lt)
+returns-clause-quiet c = rw (← c.self.view_is) (λ n lt. before_due n c.due.result c.self.inside.series c.due.ensures lt)
