@@ -8,7 +8,7 @@ use Rattle.trace_model.specs.History.{told}
 use Rattle.channel_sim.specs.declared.channel.Channel as kept_channel
 use Rattle.channel_sim.specs.World.{Call, World, Step, did, and_then, with_legs, carries}
 use Rattle.channel_sim.specs.inner.Acts.{IsReady}
-use Rattle.channel_sim.specs.inner.Lag.{VehicleLags, CallsLag, StandsAt, Came}
+use Rattle.channel_sim.specs.Lag.{VehicleLags, CallsLag, StandsAt, CameAt}
 use Rattle.channel_sim.specs.Tidy.{AreAbove, CallInTime}
 use Rattle.channel_sim.proofs.CallsLemmas.{carried_numbers}
 use Rattle.channel_sim.proofs.TidyLemmas.{all_with_legs, with_legs_all, with_legs_above, with_legs_numbers, carried_in_time}
@@ -44,8 +44,8 @@ pub came_after : {S Fault : Type 0} (grew partly : S → S → List Entry → Ty
     → ((a b c : S) (s t : List Entry) → grew a b s → partly b c t → partly a c (s ++ t))
     → (a b c : S) (result : Result (Unit {0}) Fault) (ahead : ℕ) (floor : ℕ) (clock : ℕ → ℕ) (kept : kept_channel.Channel) (first : Step) (second : World → Step)
     → grew a b first.entries
-    → Came (grew b c) (partly b c) result ahead floor clock kept (second first.world)
-    → Came (grew a c) (partly a c) result ahead floor clock kept (and_then first second)
+    → CameAt (grew b c) (partly b c) result ahead floor clock kept (second first.world)
+    → CameAt (grew a c) (partly a c) result ahead floor clock kept (and_then first second)
 came_after grew partly twice then_partly a b c (Ok k) ahead floor clock kept first second grew_first came =
     (twice a b c first.entries (second first.world).entries grew_first came.0, came.1)
 came_after grew partly twice then_partly a b c (Err e) ahead floor clock kept first second grew_first came =

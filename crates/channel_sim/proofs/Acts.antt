@@ -27,7 +27,8 @@ use Rattle.trace_model.specs.declared.entry.Entry.{Entry}
 use Rattle.trace_model.specs.History.{told, sets_of}
 use Rattle.trace_model.specs.Safety.{is_leg, leg_at}
 use Rattle.channel_sim.specs.World.{Call, World, Step, Act, InCall, Session, quiet_step, and_then, vehicle_is_in, call_of, session_in, session_of, left_by, seated, carries, with_legs, did, vehicle_did, session_did, session_acts, does, does_each, consequence, consequences, settled}
-use Rattle.channel_sim.specs.Fit.{vehicle_seat, point_seat, seats_of, FramesFit, IsSessionOf, IsCall, AreInOrder}
+use Rattle.channel_sim.specs.Fit.{vehicle_seat, point_seat, seats_of, FramesFit, IsSessionOf, IsCall}
+use Rattle.channel_sim.specs.Tidy.{AreAbove, numbers_of}
 use Rattle.channel_sim.specs.inner.FitAt.{SeatBy, Came, Seats, Clocks, FitAt, FitsAt, Goes, Settles}
 use Rattle.channel_sim.proofs.Lists.{all_append}
 use Rattle.channel_sim.proofs.RowOwes.{event_kept, end_kept}
@@ -82,7 +83,7 @@ pub did_goes : (clock : Clocks) (now last : ℕ) (w : World) (t : List Entry) (i
     → vehicle_kept.IsKept v
     → AllByRecursion (IsCall last) calls
     → AllByRecursion (FramesFit t) calls
-    → AreInOrder 0 calls
+    → AreAbove 0 (numbers_of calls)
     → IfSome (vehicle_call v) (λ c. is_some (call_of c calls) ≡ true)
     → Goes clock now last (did w items v calls) t
 did_goes clock now last w t items v calls tick drawn fit kept each frames order listed =

@@ -5,12 +5,12 @@ use Rattle.std.proofs.lemmas.Bool.{eq-eqb}
 use Rattle.std.proofs.lemmas.List.{map-append}
 use Rattle.ivs_machine.specs.IvsStands.{IvsStandsFor}
 use Rattle.ivs_machine.specs.Vehicle.{Vehicle, vehicle_call}
-use Rattle.channel_sim.specs.declared.calls.Call as kept_call
+use Rattle.channel_sim.specs.declared.calls.call.Call as kept_call
 use Rattle.channel_sim.specs.declared.channel.Channel as kept_channel
 use Rattle.channel_sim.specs.World.{Call, World}
 use Rattle.channel_sim.specs.Lines.{with_call}
 use Rattle.channel_sim.specs.inner.Acts.{OtherHasLeg, IsReady}
-use Rattle.channel_sim.specs.inner.Lag.{CallLags, CallsLag, StandsNow}
+use Rattle.channel_sim.specs.Lag.{CallLags, CallsLag, StandsNow}
 use Rattle.channel_sim.specs.Tidy.{AreAbove, CallInTime, numbers_of}
 use Rattle.channel_sim.proofs.VehicleLemmas.{vehicle_stands_now, legs_others}
 

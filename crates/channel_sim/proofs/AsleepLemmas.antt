@@ -6,11 +6,11 @@ use Rattle.std.specs.List.{AllByRecursion, remove}
 use Rattle.psap_machine.specs.declared.session.Session.{Session}
 use Rattle.psap_machine.specs.Point.{Point}
 use Rattle.psap_machine.specs.PointRows as point
-use Rattle.channel_sim.specs.declared.calls.Call as kept_call
+use Rattle.channel_sim.specs.declared.calls.call.Call as kept_call
 use Rattle.channel_sim.specs.World.{Call}
 use Rattle.channel_sim.specs.inner.Asleep.{NothingDue, Sleeps, AreAsleep, DueLater, Waits, AreWaiting}
-use Rattle.channel_sim.specs.inner.Lag.{SessionLags, SeatLags, CallLags, CallsLag}
-use Rattle.channel_sim.specs.inner.Quiet.{SessionRests, CallRests, IsQuietCall}
+use Rattle.channel_sim.specs.Lag.{SessionLags, SeatLags, CallLags, CallsLag}
+use Rattle.channel_sim.specs.Quiet.{SessionRests, CallRests, IsQuietCall}
 use Rattle.channel_sim.proofs.Jump.{point_later}
 use Rattle.channel_sim.proofs.LagLemmas.{as_sum}
 

@@ -2,12 +2,12 @@
 use Rattle.std.proofs.Common.{◌≡◌, ℕ, zero, suc, ◌+◌, ◌<◌, ◌≤◌, Option, List, [], ◌∷◌, take, drop, refl, ap, sym, ◌∙◌, subst, arith}
 use Rattle.std.specs.List.{AllByRecursion}
 use Rattle.ivs_machine.specs.Vehicle.{vehicle_call}
-use Rattle.channel_sim.specs.declared.calls.Call as kept_call
+use Rattle.channel_sim.specs.declared.calls.call.Call as kept_call
 use Rattle.channel_sim.specs.declared.channel.Channel as kept_channel
 use Rattle.channel_sim.specs.World.{Call, World, Step, quiet_step, and_then, each, session_passes, sessions_pass}
 use Rattle.channel_sim.specs.inner.Asleep.{Waits}
-use Rattle.channel_sim.specs.inner.Lag.{CallLags, CallsLag, StandsAt, clock_of}
-use Rattle.channel_sim.specs.inner.Quiet.{CallRests, aged_call}
+use Rattle.channel_sim.specs.Lag.{CallLags, CallsLag, StandsAt, clock_of}
+use Rattle.channel_sim.specs.Quiet.{CallRests, aged_call}
 use Rattle.channel_sim.specs.Tidy.{AreAbove, HasLeg, CallInTime, numbers_of}
 use Rattle.channel_sim.proofs.AsleepLemmas.{call_waits}
 use Rattle.channel_sim.proofs.Jump.{onto, AreBelow, all_onto, below_more, has_leg, quiet_session, quiet_then}

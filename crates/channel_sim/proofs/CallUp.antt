@@ -24,7 +24,8 @@ use Rattle.trace_model.specs.Safety.{first_leg, leg_step, leg_at}
 use Rattle.trace_model.proofs.Folds.{AllOf, sends_none}
 use Rattle.channel_sim.specs.World.{Call, World, and_then, call_of, left_by, seated, vehicle_did, session_did}
 use Rattle.channel_sim.specs.Lines.{with_call}
-use Rattle.channel_sim.specs.Fit.{IsDrawn, point_seat, seats_of, FramesFit, IsCall, AreInOrder}
+use Rattle.channel_sim.specs.Fit.{IsDrawn, point_seat, seats_of, FramesFit, IsCall}
+use Rattle.channel_sim.specs.Tidy.{AreAbove, numbers_of}
 use Rattle.channel_sim.specs.inner.FitAt.{FitAt, FitsAt, Goes, all_at}
 use Rattle.channel_sim.proofs.Lists.{all_append, all_into}
 use Rattle.channel_sim.proofs.RowKept.{over}
@@ -64,7 +65,7 @@ record DrawnFits (n : ℕ) (w : World) (t : List Entry) : Type 0 where
   fit : FitAt (all_at n) (seats_of w.vehicle w.calls) n w.drawn t
   calls : AllByRecursion (IsCall w.drawn) w.calls
   frames : AllByRecursion (FramesFit t) w.calls
-  in_order : AreInOrder 0 w.calls
+  in_order : AreAbove 0 (numbers_of w.calls)
 
 drawn_fits : (n : ℕ) (w : World) (t : List Entry) → FitsAt (all_at n) n w.drawn w t → DrawnFits n (with_call w) t
 drawn_fits n w t f =

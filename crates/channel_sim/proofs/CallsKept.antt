@@ -11,15 +11,16 @@ use Rattle.trace_model.specs.declared.entry.Entry.{Entry}
 use Rattle.trace_model.specs.History.{sent_by}
 use Rattle.trace_model.proofs.Folds.{sent_append}
 use Rattle.channel_sim.specs.World.{Call, is_number, call_of, session_in, session_of, seated, carries, with_legs}
-use Rattle.channel_sim.specs.Fit.{FramesFit, IsSessionOf, IsCall, HasLeg, AreInOrder}
+use Rattle.channel_sim.specs.Fit.{FramesFit, IsSessionOf, IsCall}
+use Rattle.channel_sim.specs.Tidy.{AreAbove, numbers_of, HasLeg}
 
 -- calls in order
 
-lower : (a b : ℕ) → a ≤ b → (ks : List Call) → AreInOrder b ks → AreInOrder a ks
+lower : (a b : ℕ) → a ≤ b → (ks : List Call) → AreAbove b (numbers_of ks) → AreAbove a (numbers_of ks)
 lower a b h [] o = tt
 lower a b h (k ∷ ks) o = (omega (arith, h, o.0), o.1)
 
-none_below : (n c : ℕ) → c ≤ n → (ks : List Call) → AreInOrder n ks → session_of c ks ≡ None
+none_below : (n c : ℕ) → c ≤ n → (ks : List Call) → AreAbove n (numbers_of ks) → session_of c ks ≡ None
 none_below n c h [] o = refl
 none_below n c h (k ∷ ks) o =
     let apart : (k.number == c) ≡ false = ne_eqb k.number c (λ e. absurd (omega (arith, h, o.0, e))) in
@@ -48,7 +49,7 @@ carried_listed u c (k ∷ ks) h = at (k.number == c) (λ g. carried_listed u c k
     at true rest h = refl
     at false rest h = rest h
 
-pub carried_order : (u : List Entry) (n : ℕ) → (ks : List Call) → AreInOrder n ks → AreInOrder n (map (carries u) ks)
+pub carried_order : (u : List Entry) (n : ℕ) → (ks : List Call) → AreAbove n (numbers_of ks) → AreAbove n (numbers_of (map (carries u) ks))
 carried_order u n [] o = tt
 carried_order u n (k ∷ ks) o = (o.0, carried_order u k.number ks o.1)
 
@@ -128,12 +129,12 @@ seated_listed c d new (k ∷ ks) h = at (k.number == c) (λ g. seated_listed c d
     at true rest = same (k.number == d) h
     at false rest = later rest (k.number == d) h
 
-pub seated_order : (c n : ℕ) (new : Option Point) → (ks : List Call) → AreInOrder n ks → AreInOrder n (seated c new ks)
+pub seated_order : (c n : ℕ) (new : Option Point) → (ks : List Call) → AreAbove n (numbers_of ks) → AreAbove n (numbers_of (seated c new ks))
 seated_order c n new [] o = tt
 seated_order c n new (k ∷ ks) o = at (k.number == c) (seated_order c k.number new ks o.1)
   where
-    at : (b : Bool) → AreInOrder k.number (seated c new ks) →
-        AreInOrder n (if b then record k { session = new } ∷ ks else k ∷ seated c new ks)
+    at : (b : Bool) → AreAbove k.number (numbers_of (seated c new ks)) →
+        AreAbove n (numbers_of (if b then record k { session = new } ∷ ks else k ∷ seated c new ks))
     at true rest = o
     at false rest = (o.0, rest)
 
@@ -193,12 +194,12 @@ found_leg o c k (x ∷ ks) a h = at (x.number == c) refl (λ g. found_leg o c k 
         (subst (λ (z : ℕ). (is_number z o || is_some x.session) ≡ true) (eqb-true x.number c e) a.0)
     at false e rest g = rest g
 
-pub kept_order : (o : Option ℕ) (n : ℕ) → (ks : List Call) → AreInOrder n ks → AreInOrder n (with_legs o ks)
+pub kept_order : (o : Option ℕ) (n : ℕ) → (ks : List Call) → AreAbove n (numbers_of ks) → AreAbove n (numbers_of (with_legs o ks))
 kept_order o n [] a = tt
 kept_order o n (k ∷ ks) a = at (is_number k.number o || is_some k.session) (kept_order o k.number ks a.1)
   where
-    at : (b : Bool) → AreInOrder k.number (with_legs o ks) →
-        AreInOrder n (if b then k ∷ with_legs o ks else with_legs o ks)
+    at : (b : Bool) → AreAbove k.number (numbers_of (with_legs o ks)) →
+        AreAbove n (numbers_of (if b then k ∷ with_legs o ks else with_legs o ks))
     at true rest = (a.0, rest)
     at false rest = lower n k.number (omega (arith, a.0)) (with_legs o ks) rest
 
@@ -221,7 +222,7 @@ kept_listed c (k ∷ ks) h = at (k.number == c) refl (λ g. kept_listed c ks g) 
         rw (own, e) refl
     at false e rest h = stays (is_number k.number (Some c) || is_some k.session) e ∙ rest h
 
-pub kept_session : (o : Option ℕ) (c n : ℕ) → (ks : List Call) → AreInOrder n ks →
+pub kept_session : (o : Option ℕ) (c n : ℕ) → (ks : List Call) → AreAbove n (numbers_of ks) →
     session_of c (with_legs o ks) ≡ session_of c ks
 kept_session o c n [] a = refl
 kept_session o c n (k ∷ ks) a = at (is_number k.number o) k.session refl (kept_session o c k.number ks a.1)
@@ -269,7 +270,7 @@ more_listed new (k ∷ ks) = at (k.number == new.number) (more_listed new ks)
     at false h = h
 
 pub more_order : (below last : ℕ) (new : Call) → new.number ≡ last + 1 → below ≤ last → (ks : List Call) →
-    AllByRecursion (IsCall last) ks → AreInOrder below ks → AreInOrder below (ks ++ new ∷ [])
+    AllByRecursion (IsCall last) ks → AreAbove below (numbers_of ks) → AreAbove below (numbers_of (ks ++ new ∷ []))
 more_order below last new e h [] a o = (omega (arith, e, h), tt)
 more_order below last new e h (k ∷ ks) a o = (o.0, more_order k.number last new e a.0.number ks a.1 o.1)
 

@@ -14,10 +14,10 @@ use Rattle.psap_machine.specs.Point.{Point}
 use Rattle.trace_model.specs.declared.entry.Entry.{Entry}
 use Rattle.trace_model.specs.History.{Sent, told, sends, sent_by}
 use Rattle.trace_model.specs.Safety.{is_leg}
-use Rattle.channel_sim.specs.declared.calls.Call as kept_call
+use Rattle.channel_sim.specs.declared.calls.call.Call as kept_call
 use Rattle.channel_sim.specs.World.{Call, call_of, session_in, session_of, seated, carries}
 use Rattle.channel_sim.specs.inner.Acts.{pushed, seat_items, seat_after, CallDid, SessionDid, IsCaught}
-use Rattle.channel_sim.specs.inner.Lag.{SeatLags, CallLags, CallsLag}
+use Rattle.channel_sim.specs.Lag.{SeatLags, CallLags, CallsLag}
 use Rattle.channel_sim.specs.inner.Places.{place_of}
 use Rattle.channel_sim.specs.Tidy.{AreAbove, numbers_of}
 use Rattle.channel_sim.proofs.PlaceLemmas.{numbers, next_place-some, next_place-none, place_first, place_behind, above_nowhere}

@@ -2,9 +2,9 @@
 use Rattle.std.proofs.Common.{◌≡◌, ℕ, ◌+◌, ◌<◌, ◌≤◌, List, [], ◌∷◌, ◌++◌, length, get_or, take, drop, ap, sym, ◌∙◌, subst, arith, add-one, drop-cons, length-drop, append-nil}
 use Rattle.std.proofs.Math.ListN.{set}
 use Rattle.std.proofs.lemmas.List.{take_more_set, drop-set-lt, drop_all}
-use Rattle.channel_sim.specs.declared.calls.Call as kept
+use Rattle.channel_sim.specs.declared.calls.call.Call as kept
 use Rattle.channel_sim.specs.World.{Call}
-use Rattle.channel_sim.specs.inner.Lag.{CallLags, CallsLag}
+use Rattle.channel_sim.specs.Lag.{CallLags, CallsLag}
 use Rattle.channel_sim.proofs.ArrivalLemmas.{lag_append}
 use Rattle.channel_sim.proofs.ChangeLemmas.{lag_at}
 use Rattle.channel_sim.proofs.StepLemmas.{take_all}

@@ -5,11 +5,11 @@ use Rattle.std.proofs.lemmas.Bool.{eqb-false}
 use Rattle.psap_machine.specs.declared.session.Session.{Session}
 use Rattle.psap_machine.specs.Point.{Point}
 use Rattle.psap_machine.specs.SessionStands.{SessionStandsFor}
-use Rattle.channel_sim.specs.declared.calls.Call as kept_call
+use Rattle.channel_sim.specs.declared.calls.call.Call as kept_call
 use Rattle.channel_sim.specs.World.{Call, call_of, seated, left_by}
 use Rattle.channel_sim.specs.Lines.{sent_up, sent_down}
 use Rattle.channel_sim.specs.inner.Acts.{IsCaught}
-use Rattle.channel_sim.specs.inner.Lag.{CallLags, CallsLag}
+use Rattle.channel_sim.specs.Lag.{CallLags, CallsLag}
 use Rattle.channel_sim.specs.inner.Places.{place_of}
 use Rattle.channel_sim.specs.Tidy.{AreAbove, numbers_of}
 use Rattle.channel_sim.proofs.PlaceLemmas.{numbers, above_at, next_place-some, next_place-none, place_first, place_behind}

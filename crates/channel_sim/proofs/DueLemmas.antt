@@ -6,13 +6,17 @@ use lib.Dec.{eqb}
 use Rattle.std.specs.List.{AllByRecursion}
 use Rattle.std.proofs.lemmas.Bool.{eqb-true, eq-eqb, ne_eqb}
 use Rattle.trace_model.specs.History.{Sent}
-use Rattle.channel_sim.specs.declared.calls.Call as kept_call
-use Rattle.channel_sim.specs.World.{Call, Due, due_frames, due_in}
-use Rattle.channel_sim.specs.inner.Acts.{due_by, sent_way}
-use Rattle.channel_sim.specs.inner.Lag.{CallLags}
-use Rattle.channel_sim.specs.Tidy.{CallInTime, AreFrom, ticks_of}
-use Rattle.channel_sim.specs.inner.Quiet.{FramesRest}
+use Rattle.channel_sim.specs.declared.calls.call.Call as kept_call
+use Rattle.channel_sim.specs.declared.channel.Channel as kept_channel
+use Rattle.channel_sim.specs.World.{Call, Due, World, call_of, due_frames, due_in}
+use Rattle.channel_sim.specs.inner.Acts.{due_by}
+use Rattle.channel_sim.specs.Handing.{flow_way, sent_way}
+use Rattle.channel_sim.specs.Lag.{CallLags, CallsLag, StandsAt}
+use Rattle.channel_sim.specs.Tidy.{CallInTime, AreFrom, numbers_of, ticks_of}
+use Rattle.channel_sim.specs.Quiet.{FramesRest}
+use Rattle.channel_sim.specs.inner.Places.{place_of}
 use Rattle.channel_sim.specs.inner.Sends.{IsFirstFrom}
+use Rattle.channel_sim.proofs.PlaceLemmas.{next_place-some, place_first, place_behind}
 
 pub frames_append : (c delay now : ℕ) (xs ys : List Sent) → due_frames c delay now (xs ++ ys) ≡ due_frames c delay now xs ++ due_frames c delay now ys
 frames_append c delay now [] ys = refl
@@ -215,3 +219,52 @@ way_rises false now k h = h.down.rise
 pub all_at : (sent : Call → List Sent) (flow now : ℕ) (ks : List Call) (due : List Due) (tick : ℕ) → (flow ≡ 0 → ⊥) → tick + flow ≡ now → ((d : ℕ) → due ≡ due_in sent (suc d) (tick + suc d) ks) → due ≡ due_in sent flow now ks
 all_at sent zero now ks due tick some e h = absurd (some refl)
 all_at sent (suc d) now ks due tick some e h = h d ∙ ap (λ n. due_in sent (suc d) n ks) e
+
+-- the delay of a flow, as it is kept
+pub flow_kept : (up : Bool) (ahead floor : ℕ) (clock : ℕ → ℕ) (kept : kept_channel.Channel) (w : World) → StandsAt ahead floor clock kept w → (if up then kept.up_flow else kept.down_flow) ≡ flow_way up w
+flow_kept true ahead floor clock kept w s = sym s.up_flow
+flow_kept false ahead floor clock kept w s = sym s.down_flow
+
+-- the call at its place, as it is kept
+pub call_at : (floor : ℕ) (clock : ℕ → ℕ) (c : ℕ) (xs : List kept_call.Call) (ks : List Call) (i : ℕ) (d : kept_call.Call) → CallsLag floor clock xs ks → place_of c (numbers_of ks) ≡ Some i → (k : Call) × (call_of c ks ≡ Some k) × CallLags floor (clock k.number) (get_or xs i d) k
+call_at floor clock c [] [] i d h place = cc
+call_at floor clock c [] (k ∷ ks) i d h place = absurd h
+call_at floor clock c (x ∷ xs) [] i d h place = absurd h
+call_at floor clock c (x ∷ xs) (k ∷ ks) i d h place = at (λ j. call_at floor clock c xs ks j d h.1) (k.number == c) refl
+  where
+    at : ((j : ℕ) → place_of c (numbers_of ks) ≡ Some j → (q : Call) × (call_of c ks ≡ Some q) × CallLags floor (clock q.number) (get_or xs j d) q) → (b : Bool) → (k.number == c) ≡ b → (q : Call) × (call_of c (k ∷ ks) ≡ Some q) × CallLags floor (clock q.number) (get_or (x ∷ xs) i d) q
+    at further true same =
+        let first = place_first c k.number (numbers_of ks) same in
+        let z : 0 ≡ i = cc in
+        (k, ap (λ b. if b then Some k else call_of c ks) same, subst (λ j. CallLags floor (clock k.number) (get_or (x ∷ xs) j d) k) z h.0)
+    at further false other =
+        let next = next_place-some (place_of c (numbers_of ks)) i (sym (place_behind c k.number (numbers_of ks) other) ∙ place) in
+        let rest = further next.0 next.1 in
+        (rest.0, ap (λ b. if b then Some k else call_of c ks) other ∙ rest.1, subst (λ j. CallLags floor (clock rest.0.number) (get_or (x ∷ xs) j d) rest.0) (sym next.2) rest.2)
+
+-- what all calls have, one has
+pub found_has : (P : Call → Type 0) (c : ℕ) (ks : List Call) (k : Call) → call_of c ks ≡ Some k → AllByRecursion P ks → P k
+found_has P c [] k e h = cc
+found_has P c (x ∷ ks) k e h = at (λ f. found_has P c ks k f h.1) (x.number == c) e
+  where
+    at : (call_of c ks ≡ Some k → P k) → (b : Bool) → (if b then Some x else call_of c ks) ≡ Some k → P k
+    at further true e = let same : x ≡ k = cc in subst P same h.0
+    at further false e = further e
+
+-- of no call nothing is due
+pub none_in_none : (sent : Call → List Sent) (flow now : ℕ) → due_in sent flow now [] ≡ []
+none_in_none sent zero now = refl
+none_in_none sent (suc d) now = refl
+
+-- before so many ticks have gone nothing is due in a call
+pub call_none : (sent : Call → List Sent) (delay now : ℕ) (k : Call) → now < delay → due_in sent delay now (k ∷ []) ≡ []
+call_none sent delay now k early = none_early sent delay now (k ∷ []) early
+
+-- the frames of one call alone
+pub one_at : (up : Bool) (flow now n tick : ℕ) (ss : List Sent) (k : Call) → (flow ≡ 0 → ⊥) → tick + flow ≡ now → n ≡ k.number → ss ≡ sent_way up k → due_frames n flow (tick + flow) ss ≡ due_in (sent_way up) flow now (k ∷ [])
+one_at up zero now n tick ss k some e number sent = absurd (some refl)
+one_at up (suc d) now n tick ss k some e number sent =
+    ap (λ m. due_frames m (suc d) (tick + suc d) ss) number
+    ∙ ap (λ t. due_frames k.number (suc d) t ss) e
+    ∙ ap (due_frames k.number (suc d) now) sent
+    ∙ sym (append-nil (due_frames k.number (suc d) now (sent_way up k)))

@@ -9,7 +9,7 @@ use Rattle.trace_model.specs.History.{Sent}
 use Rattle.channel_sim.specs.declared.channel.Channel as kept_channel
 use Rattle.channel_sim.specs.World.{World, Step, Session, InCall, Hears, Due, call_of, quiet_step, one_handed, performs, settled, point_is_in, vehicle_is_in, hands_up, hands_down}
 use Rattle.channel_sim.specs.Lines.{HandsUp, HandsDown, hands_one, or_nothing, sent_up, sent_down}
-use Rattle.channel_sim.specs.inner.Lag.{VehicleLags, CallsLag, StandsAt, StandsNow, Came, CameNow}
+use Rattle.channel_sim.specs.Lag.{VehicleLags, CallsLag, StandsAt, StandsNow, CameAt, CameNow}
 use Rattle.channel_sim.proofs.LineLemmas.{one_deed, in_call_performs}
 use Rattle.channel_sim.proofs.SessionLemmas.{no_session_step}
 
@@ -18,7 +18,7 @@ pub record Alike (s t : Step) : Type 0 where
   pub entries : s.entries ≡ t.entries
   pub world : s.world ≡ t.world
 
-pub came_alike : {Fault : Type 0} (Grew Partly : List Entry → Type 0) (result : Result (Unit {0}) Fault) (ahead floor : ℕ) (clock : ℕ → ℕ) (kept : kept_channel.Channel) (s t : Step) → Alike s t → Came Grew Partly result ahead floor clock kept t → Came Grew Partly result ahead floor clock kept s
+pub came_alike : {Fault : Type 0} (Grew Partly : List Entry → Type 0) (result : Result (Unit {0}) Fault) (ahead floor : ℕ) (clock : ℕ → ℕ) (kept : kept_channel.Channel) (s t : Step) → Alike s t → CameAt Grew Partly result ahead floor clock kept t → CameAt Grew Partly result ahead floor clock kept s
 came_alike Grew Partly (Ok u) ahead floor clock kept s t h came = (subst Grew (sym h.entries) came.0, subst (StandsAt ahead floor clock kept) (sym h.world) came.1)
 came_alike Grew Partly (Err e) ahead floor clock kept s t h came = subst Partly (sym h.entries) came
 

@@ -19,7 +19,7 @@ use Rattle.psap_machine.specs.Point.{Point}
 use Rattle.psap_machine.specs.PointRows as point
 use Rattle.channel_sim.specs.World.{Call, World, Step, quiet_step, and_then, left_by, unit, units, carries, with_legs, did, vehicle_did, session_did, settled, vehicle_passes, session_passes, session_acts, sessions_pass, each, call_of, session_in, session_of, seated, Due, due_frames, due_in, hands_up, hands_down, flows_up, flows_down}
 use Rattle.channel_sim.specs.Tidy.{AreAbove, ticks_of, HasLeg, IsTidy, InTime, CallInTime, numbers_of}
-use Rattle.channel_sim.specs.inner.Quiet.{SessionRests, CallRests, FramesRest, QuietFor, aged_call, aged_world}
+use Rattle.channel_sim.specs.Quiet.{SessionRests, CallRests, FramesRest, QuietFor, aged_call, aged_world}
 
 -- Lines by the ticks that they have left.
 
@@ -473,8 +473,8 @@ quiet_unit w tidy quiet =
     let legs : AllByRecursion (HasLeg (vehicle_call passed.vehicle)) w.calls =
     subst (λ (o : Option ℕ). AllByRecursion (HasLeg o) w.calls) (sym (call_stays 1 w.vehicle)) tidy.legs in
     let ends : and_then (vehicle_passes later) sessions_pass ≡ quiet_step end =
-    quiet_then (vehicle_passes later) sessions_pass passed end (quiet_vehicle later quiet.vehicle tidy.legs)
-    (quiet_sessions passed tidy.numbers legs quiet.sessions) in
+    quiet_then (vehicle_passes later) sessions_pass passed end (quiet_vehicle later quiet.ends.0 tidy.legs)
+    (quiet_sessions passed tidy.numbers legs quiet.ends.1) in
     let up : AllByRecursion (λ k. FramesRest 1 w.up_flow w.tick k.up) end.calls =
     all_mapped (λ k. FramesRest 1 w.up_flow w.tick k.up) (aged_call 1) w.calls quiet.up in
     let down : AllByRecursion (λ k. FramesRest 1 w.down_flow w.tick k.down) end.calls =
@@ -596,8 +596,10 @@ frames_later m n (suc d) tick (s ∷ ss) h =
 pub quiet_fewer : (m n : ℕ) (w : World) → m ≤ n → QuietFor n w → QuietFor m w
 quiet_fewer m n w le h =
     record {
-      vehicle = due_above m n (vehicle.due_of w.vehicle) le h.vehicle;
-      sessions = all_later (CallRests n) (CallRests m) (λ k. rests_fewer m n k.session le) w.calls h.sessions;
+      ends = (
+        due_above m n (vehicle.due_of w.vehicle) le h.ends.0,
+        all_later (CallRests n) (CallRests m) (λ k. rests_fewer m n k.session le) w.calls h.ends.1,
+      );
       up =
           all_later (λ k. FramesRest n w.up_flow w.tick k.up) (λ k. FramesRest m w.up_flow w.tick k.up)
           (λ k. frames_fewer m n w.up_flow w.tick k.up le) w.calls h.up;
@@ -609,10 +611,11 @@ quiet_fewer m n w le h =
 pub quiet_later : (m n : ℕ) (w : World) → QuietFor (m + n) w → QuietFor n (aged_world m w)
 quiet_later m n w h =
     record {
-      vehicle = vehicle_later m n w.vehicle h.vehicle;
-      sessions =
-          all_mapped (CallRests n) (aged_call m) w.calls
-          (all_later (CallRests (m + n)) (λ k. CallRests n (aged_call m k)) (λ k. rests_later m n k.session) w.calls h.sessions);
+      ends = (
+        vehicle_later m n w.vehicle h.ends.0,
+        all_mapped (CallRests n) (aged_call m) w.calls
+            (all_later (CallRests (m + n)) (λ k. CallRests n (aged_call m k)) (λ k. rests_later m n k.session) w.calls h.ends.1),
+      );
       up =
           all_mapped (λ k. FramesRest n w.up_flow (w.tick + m) k.up) (aged_call m) w.calls
           (all_later (λ k. FramesRest (m + n) w.up_flow w.tick k.up) (λ k. FramesRest n w.up_flow (w.tick + m) k.up)

@@ -11,10 +11,10 @@ use Rattle.psap_machine.specs.declared.session.Session.{Session}
 use Rattle.psap_machine.specs.Point.{Point}
 use Rattle.psap_machine.specs.PointRows as point
 use Rattle.psap_machine.specs.SessionStands.{SessionStandsFor}
-use Rattle.channel_sim.specs.declared.calls.Call as kept_call
+use Rattle.channel_sim.specs.declared.calls.call.Call as kept_call
 use Rattle.channel_sim.specs.World.{Call, left_by}
 use Rattle.channel_sim.specs.inner.Acts.{CallDid, seat_items, seat_after}
-use Rattle.channel_sim.specs.inner.Lag.{SessionLags, SeatLags, CallLags, VehicleLags}
+use Rattle.channel_sim.specs.Lag.{SessionLags, SeatLags, CallLags, VehicleLags}
 use Rattle.channel_sim.proofs.SeatLemmas.{stands_now}
 use Rattle.channel_sim.proofs.Jump.{point_acts, point_quiet, point_again, point_later, point_live, vehicle_acts, vehicle_quiet, vehicle_again, vehicle_later}
 

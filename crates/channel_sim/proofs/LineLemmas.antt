@@ -7,19 +7,19 @@ use Rattle.ivs_machine.specs.Vehicle.{Vehicle, Phase, Standby, InSeries, InCall,
 use Rattle.ivs_machine.specs.VehicleRows as vehicle
 use Rattle.trace_model.specs.declared.entry.Entry.{Entry}
 use Rattle.trace_model.specs.History.{told}
-use Rattle.channel_sim.specs.declared.calls.Call as kept_call
+use Rattle.channel_sim.specs.declared.calls.call.Call as kept_call
 use Rattle.channel_sim.specs.declared.channel.Channel as kept_channel
 use Rattle.channel_sim.specs.World.{Call, World, Step, Hears, InCall, is_number, quiet_step, performs, settled, vehicle_did}
 use Rattle.channel_sim.specs.Lines.{Deed, Does, deed, in_its_call, or_nothing, nothing_step}
 use Rattle.channel_sim.specs.inner.Acts.{IsCaught}
-use Rattle.channel_sim.specs.inner.Lag.{CallsLag, StandsAt, StandsNow, Came, CameNow}
+use Rattle.channel_sim.specs.Lag.{CallsLag, StandsAt, StandsNow, CameAt, CameNow}
 use Rattle.channel_sim.proofs.StepLemmas.{quiet_behind}
 
 pub one_deed : (d : Deed) (w : World) → or_nothing (d ∷ []) w ≡ deed d w
 one_deed d w = quiet_behind (deed d w)
 
 -- the tick stood
-pub came_now : {Fault : Type 0} (Grew Partly : List Entry → Type 0) (result : Result (Unit {0}) Fault) (tick : ℕ) (new : kept_channel.Channel) (s : Step) → new.tick ≡ tick → Came Grew Partly result tick tick (λ c. tick) new s → CameNow Grew Partly result new s
+pub came_now : {Fault : Type 0} (Grew Partly : List Entry → Type 0) (result : Result (Unit {0}) Fault) (tick : ℕ) (new : kept_channel.Channel) (s : Step) → new.tick ≡ tick → CameAt Grew Partly result tick tick (λ c. tick) new s → CameNow Grew Partly result new s
 came_now Grew Partly (Ok u) tick new s same h = (h.0, subst (λ t. StandsAt t t (λ c. t) new s.world) (sym same) h.1)
 came_now Grew Partly (Err e) tick new s same h = h
 

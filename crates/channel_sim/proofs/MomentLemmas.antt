@@ -10,11 +10,11 @@ use Rattle.ivs_machine.specs.VehicleRows as vehicle
 use Rattle.psap_machine.specs.declared.session.Session.{Session}
 use Rattle.psap_machine.specs.Point.{Point}
 use Rattle.psap_machine.specs.PointRows as point
-use Rattle.channel_sim.specs.declared.calls.Call as kept_call
+use Rattle.channel_sim.specs.declared.calls.call.Call as kept_call
 use Rattle.channel_sim.specs.declared.channel.Channel as kept_channel
 use Rattle.channel_sim.specs.World.{Call, World, Step, quiet_step, and_then, vehicle_passes, sessions_pass, unit, units}
-use Rattle.channel_sim.specs.inner.Lag.{SessionLags, SeatLags, VehicleLags, CallsLag, StandsAt}
-use Rattle.channel_sim.specs.inner.Quiet.{SessionRests, CallRests, EndsRest, FramesRest, QuietFor, aged_call, aged_world}
+use Rattle.channel_sim.specs.Lag.{SessionLags, SeatLags, VehicleLags, CallsLag, StandsAt}
+use Rattle.channel_sim.specs.Quiet.{SessionRests, CallRests, EndsRest, FramesRest, QuietFor, aged_call, aged_world}
 use Rattle.channel_sim.specs.Tidy.{CallInTime, HasLeg, IsTidy}
 use Rattle.channel_sim.proofs.SeatLemmas.{due_later}
 use Rattle.channel_sim.proofs.VehicleLemmas.{vehicle_due_later}
@@ -98,8 +98,8 @@ jumped floor n tick kept w s quiet next =
       down_flow = s.down_flow;
       passed = omega arith;
       from = s.from;
-      vehicle = subst (λ m. VehicleLags m kept.vehicle (vehicle.aged n w.vehicle)) sum (lags_on (kept.tick - kept.passed) n kept.vehicle w.vehicle s.vehicle quiet.vehicle);
-      calls = calls_on floor kept.tick n kept.calls w.calls s.calls quiet.sessions;
+      vehicle = subst (λ m. VehicleLags m kept.vehicle (vehicle.aged n w.vehicle)) sum (lags_on (kept.tick - kept.passed) n kept.vehicle w.vehicle s.vehicle quiet.ends.0);
+      calls = calls_on floor kept.tick n kept.calls w.calls s.calls quiet.ends.1;
       tidy =
           record {
             numbers = tidy.numbers;
@@ -131,8 +131,8 @@ quiet_end floor n tick kept w s quiet e =
         down_flow = s.down_flow;
         passed = omega arith;
         from = s.from;
-        vehicle = subst (λ m. VehicleLags m kept.vehicle (vehicle.aged n w.vehicle)) sum (lags_on (kept.tick - kept.passed) n kept.vehicle w.vehicle s.vehicle quiet.vehicle);
-        calls = subst (λ t. CallsLag floor (λ c. t) kept.calls (map (aged_call n) w.calls)) e (calls_on floor kept.tick n kept.calls w.calls s.calls quiet.sessions);
+        vehicle = subst (λ m. VehicleLags m kept.vehicle (vehicle.aged n w.vehicle)) sum (lags_on (kept.tick - kept.passed) n kept.vehicle w.vehicle s.vehicle quiet.ends.0);
+        calls = subst (λ t. CallsLag floor (λ c. t) kept.calls (map (aged_call n) w.calls)) e (calls_on floor kept.tick n kept.calls w.calls s.calls quiet.ends.1);
         tidy = aged_tidy n w s.tidy;
       },
     )
@@ -170,8 +170,7 @@ all_frames sent flow tick (k ∷ ks) = (frames_rest flow tick (sent k), all_fram
 quiet_none : (floor t : ℕ) (kept : kept_channel.Channel) (w : World) → StandsAt t floor (λ c. t) kept w → QuietFor 0 w
 quiet_none floor t kept w s =
     record {
-      vehicle = vehicle_due_later w.vehicle;
-      sessions = calls_rest floor t kept.calls w.calls s.calls;
+      ends = (vehicle_due_later w.vehicle, calls_rest floor t kept.calls w.calls s.calls);
       up = all_frames (λ k. k.up) w.up_flow w.tick w.calls;
       down = all_frames (λ k. k.down) w.down_flow w.tick w.calls;
     }

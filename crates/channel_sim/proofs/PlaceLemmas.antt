@@ -1,9 +1,14 @@
 -- The place of a call among calls whose numbers rise.
-use Rattle.std.proofs.Common.{◌≡◌, ℕ, zero, suc, ◌<◌, ◌≤◌, ◌==◌, if◌then◌else◌, true, false, Option, Some, None, List, [], ◌∷◌, length, get_or, take, drop, map, refl, ap, sym, ◌∙◌, arith}
+use Rattle.std.proofs.Common.{◌≡◌, ℕ, zero, suc, ◌<◌, ◌≤◌, ◌==◌, if◌then◌else◌, true, false, Option, Some, None, List, [], ◌∷◌, length, get_or, take, drop, map, IfSome, Result, Ok, Err, refl, ap, sym, ◌∙◌, arith}
 use Rattle.std.specs.List.{AllByRecursion}
+use Rattle.std.specs.List.Sorted.{IsBinarySearchResult, IsNonDecreasingBy, IsSearchInRange}
+use Rattle.std.specs.Ordering.{nat_cmp, ordering_index}
+use Rattle.std.specs.declared.cmp.Ordering.TheVariants.{Less, Equal, Greater}
+use Rattle.std.specs.Result.{result_ok}
+use Rattle.std.proofs.lemmas.Cmp.{ranked}
 use Rattle.std.proofs.lemmas.Bool.{eq-eqb}
 use Rattle.std.proofs.lemmas.Bool.Decides.{nat_tests}
-use Rattle.channel_sim.specs.declared.calls.Call.{Call}
+use Rattle.channel_sim.specs.declared.calls.call.Call.{Call}
 use Rattle.channel_sim.specs.inner.Places.{next_place, place_of}
 use Rattle.channel_sim.specs.Tidy.{AreAbove}
 
@@ -91,3 +96,36 @@ place_first c n ns same = ap (λ b. if b then Some 0 else next_place (place_of c
 
 pub place_behind : (c n : ℕ) (ns : List ℕ) → (n == c) ≡ false → place_of c (n ∷ ns) ≡ next_place (place_of c ns)
 place_behind c n ns other = ap (λ b. if b then Some 0 else next_place (place_of c ns)) other
+
+-- a number that rises compares higher
+compares : (c : ℕ) (n : ℕ) (xs : List Call) → AreAbove n (numbers xs) → IsNonDecreasingBy (λ (x : Call). ordering_index (nat_cmp x.number c)) xs
+compares c n [] h i j d le inside = absurd (omega arith)
+compares c n (x ∷ xs) h zero zero d le inside = omega arith
+compares c n (x ∷ xs) h zero (suc j) d le inside =
+    let higher : x.number < (get_or xs j d).number = above_at x.number xs j d h.1 (omega arith) in grind (arith, nat_tests)
+compares c n (x ∷ xs) h (suc i) zero d le inside = absurd (omega arith)
+compares c n (x ∷ xs) h (suc i) (suc j) d le inside = compares c x.number xs h.1 i j d (omega arith) (omega arith)
+
+low_all : (c i : ℕ) (xs : List Call) → ((j : ℕ) (d : Call) → 0 ≤ j → j < i → nat_cmp (get_or xs j d).number c ≡ Less) → AllByRecursion (λ x. x < c) (take i (numbers xs))
+low_all c zero [] h = tt
+low_all c (suc i) [] h = tt
+low_all c zero (x ∷ xs) h = tt
+low_all c (suc i) (x ∷ xs) h = (ranked x.number c Less (sym (h 0 x (omega arith) (omega arith))), low_all c i xs (λ j d low up. h (suc j) d (omega arith) (omega arith)))
+
+high_all : (c i : ℕ) (xs : List Call) → ((j : ℕ) (d : Call) → i ≤ j → j < length xs → nat_cmp (get_or xs j d).number c ≡ Greater) → AllByRecursion (λ x. c < x) (drop i (numbers xs))
+high_all c zero [] h = tt
+high_all c (suc i) [] h = tt
+high_all c zero (x ∷ xs) h = (ranked x.number c Greater (sym (h 0 x (omega arith) (omega arith))), high_all c zero xs (λ j d low up. h (suc j) d (omega arith) (omega arith)))
+high_all c (suc i) (x ∷ xs) h = high_all c i xs (λ j d low up. h (suc j) d (omega arith) (omega arith))
+
+-- what a search by number finds
+pub searched_place : (c : ℕ) (xs : List Call) (r : Result ℕ ℕ) → AreAbove 0 (numbers xs) → IsSearchInRange r (length xs) → IsBinarySearchResult (λ (x : Call). nat_cmp x.number c) xs r → result_ok r ≡ place_of c (numbers xs)
+searched_place c [] (Ok i) above inside here = absurd (omega arith)
+searched_place c (x ∷ xs) (Ok i) above inside here = sym (found_place 0 c (x ∷ xs) i x above inside (ranked (get_or (x ∷ xs) i x).number c Equal (sym (here x))))
+searched_place c xs (Err i) above inside parts =
+    let both = parts (compares c 0 xs above) in
+    sym (none_place c i (numbers xs) (low_all c i xs both.0) (high_all c i xs both.1))
+
+pub searched_within : (n : ℕ) (r : Result ℕ ℕ) → IsSearchInRange r n → IfSome (result_ok r) (λ i. i < n)
+searched_within n (Ok i) inside = inside
+searched_within n (Err i) inside = tt

@@ -21,7 +21,7 @@ use Rattle.trace_model.specs.History.{Sent, told}
 use Rattle.channel_sim.specs.World.{Call, World, Step, first_world, quiet_step, unit, units}
 use Rattle.channel_sim.specs.Lines.{passes_within, trace, trace_from, world_after}
 use Rattle.channel_sim.specs.Tidy.{IsTidy, AreFrom, ticks_of}
-use Rattle.channel_sim.specs.inner.Quiet.{CallRests, FramesRest, QuietFor, aged_world}
+use Rattle.channel_sim.specs.Quiet.{CallRests, FramesRest, QuietFor, aged_world}
 use Rattle.channel_sim.proofs.Jump.{followed, jump, units_add, units_behind}
 use Rattle.channel_sim.proofs.Played.{realistic_trace}
 
@@ -101,8 +101,7 @@ quiet_world : (n : ℕ) (w : World) → IfSome (vehicle.due_of w.vehicle) (λ du
     → QuietFor n w
 quiet_world n w later rest up down =
     record {
-      vehicle = later;
-      sessions = rest;
+      ends = (later, rest);
       up = all_arrived (λ k. k.up) n w.up_flow w.tick w.calls up;
       down = all_arrived (λ k. k.down) n w.down_flow w.tick w.calls down;
     }
@@ -133,13 +132,13 @@ released_tidy : (octets : List ℕ) → IsTidy (released octets)
 released_tidy octets = record { numbers = tt; below = tt; legs = tt; frames = tt }
 
 released_quiet : (n : ℕ) (octets : List ℕ) → n < 432000 → QuietFor n (released octets)
-released_quiet n octets h = record { vehicle = h; sessions = tt; up = tt; down = tt }
+released_quiet n octets h = record { ends = (h, tt); up = tt; down = tt }
 
 idle_tidy : (octets : List ℕ) → IsTidy (idle octets)
 idle_tidy octets = record { numbers = tt; below = tt; legs = tt; frames = tt }
 
 idle_quiet : (n : ℕ) (octets : List ℕ) → QuietFor n (idle octets)
-idle_quiet n octets = record { vehicle = tt; sessions = tt; up = tt; down = tt }
+idle_quiet n octets = record { ends = (tt, tt); up = tt; down = tt }
 
 -- No tick later a vehicle is the same.
 

@@ -11,10 +11,10 @@ use Rattle.psap_machine.specs.declared.session.Session.{Session}
 use Rattle.psap_machine.specs.Point.{Point, Phase, Listening, Asking, Telling, Talking, Clearing, Over}
 use Rattle.psap_machine.specs.PointRows.{aged, aged_in, due_of, deadlines, point_row, Ended}
 use Rattle.psap_machine.specs.SessionStands.{SessionStandsFor}
-use Rattle.channel_sim.specs.declared.calls.Call as kept_call
+use Rattle.channel_sim.specs.declared.calls.call.Call as kept_call
 use Rattle.channel_sim.specs.World.{Call, left_by, unless_over}
 use Rattle.channel_sim.specs.inner.Acts.{seat_items, seat_after, CallDid}
-use Rattle.channel_sim.specs.inner.Lag.{SessionLags, SeatLags, CallLags}
+use Rattle.channel_sim.specs.Lag.{SessionLags, SeatLags, CallLags}
 use Rattle.channel_sim.proofs.Jump.{point_none}
 
 pub soonest_later : {A : Type 0} (ds : List (Deadline A)) → IfSome (soonest ds) (λ due. 0 < due)

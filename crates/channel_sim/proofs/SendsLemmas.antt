@@ -5,7 +5,8 @@ use Rattle.std.specs.Option.{option_map}
 use Rattle.link_frames.specs.declared.frame.Frame.{Frame}
 use Rattle.channel_sim.specs.declared.kept.KeptFrame.{KeptFrame}
 use Rattle.channel_sim.specs.declared.sends.KeptSent.{KeptSent}
-use Rattle.channel_sim.specs.inner.Sends.{full, sent_of}
+use Rattle.channel_sim.specs.inner.Sends.{sent_of}
+use Rattle.channel_sim.specs.Handing.{full}
 
 -- one frame more, in all that is kept
 pub pushed_view : (fs : List KeptSent) (t : ℕ) (f : KeptFrame) (w : Frame) → full f ≡ w → map sent_of (fs ++ record { tick = t; frame = f } ∷ []) ≡ map sent_of fs ++ record { tick = t; frame = w } ∷ []

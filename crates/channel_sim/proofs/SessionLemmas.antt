@@ -10,7 +10,7 @@ use Rattle.psap_machine.specs.Point.{Point}
 use Rattle.channel_sim.specs.declared.channel.Channel as kept_channel
 use Rattle.channel_sim.specs.World.{Call, World, quiet_step, did, seated, call_of, session_in, session_of, session_acts, settled}
 use Rattle.channel_sim.specs.inner.Acts.{OtherHasLeg, IsReady, SessionDid, seat_items, seat_after}
-use Rattle.channel_sim.specs.inner.Lag.{VehicleLags, CallsLag, StandsAt}
+use Rattle.channel_sim.specs.Lag.{VehicleLags, CallsLag, StandsAt}
 use Rattle.channel_sim.specs.Tidy.{HasLeg, CallInTime, numbers_of, AreAbove}
 
 pub seated_numbers : (c : ℕ) (new : Option Point) (ks : List Call) → numbers_of (seated c new ks) ≡ numbers_of ks

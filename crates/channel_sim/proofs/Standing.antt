@@ -2,16 +2,16 @@
 use Rattle.std.proofs.Common.{◌≡◌, ℕ, ◌-◌, ◌≤◌, ◌==◌, if◌then◌else◌, Bool, true, false, get_or, Option, Some, None, List, [], ◌∷◌, refl, sym, ◌∙◌, subst, arith}
 use Rattle.psap_machine.specs.declared.session.Session.{Session}
 use Rattle.psap_machine.specs.Point.{Point}
-use Rattle.channel_sim.specs.declared.calls.Call as kept_call
+use Rattle.channel_sim.specs.declared.calls.call.Call as kept_call
 use Rattle.channel_sim.specs.declared.channel.Channel as kept_channel
-use Rattle.channel_sim.specs.declared.turn.Turn.TheVariants as turn
+use Rattle.channel_sim.specs.declared.happening.Happening.TheVariants as happening
 use Rattle.channel_sim.specs.World.{Call, World, quiet_step, call_of, session_in, session_of}
-use Rattle.channel_sim.specs.inner.Turns.{does_turn}
+use Rattle.channel_sim.specs.inner.Happenings.{happens}
 use Rattle.channel_sim.specs.inner.Places.{place_of}
 use Rattle.channel_sim.specs.Tidy.{numbers_of}
 use Rattle.channel_sim.proofs.PlaceLemmas.{next_place-some, place_first, place_behind}
 use Rattle.channel_sim.specs.WorldStands.{FoundStandsFor, CallsStandFor, ChannelStandsFor}
-use Rattle.channel_sim.specs.inner.Lag.{SeatLags, CallsLag, StandsNow}
+use Rattle.channel_sim.specs.Lag.{SeatLags, CallsLag, StandsNow}
 use Rattle.channel_sim.proofs.SeatLemmas.{lag_none, stands_now}
 use Rattle.channel_sim.proofs.VehicleLemmas.{vehicle_lag_none, vehicle_stands_now}
 
@@ -92,7 +92,7 @@ stands_then kept w s =
     }
 
 -- a flow is set
-pub flow_stands : (b : Bool) (d : ℕ) (kept moved : kept_channel.Channel) (w : World) → StandsNow kept w → moved ≡ (if b then record kept { up_flow = d } else record kept { down_flow = d }) → ((does_turn (turn.Flow b d) w).entries ≡ []) × StandsNow moved (does_turn (turn.Flow b d) w).world
+pub flow_stands : (b : Bool) (d : ℕ) (kept moved : kept_channel.Channel) (w : World) → StandsNow kept w → moved ≡ (if b then record kept { up_flow = d } else record kept { down_flow = d }) → ((happens (happening.Flow b d) w).entries ≡ []) × StandsNow moved (happens (happening.Flow b d) w).world
 flow_stands true d kept moved w s same =
     subst (λ x. ((quiet_step w).entries ≡ []) × StandsNow x (record w { up_flow = d })) (sym same) (
       refl,

@@ -23,7 +23,8 @@ use Rattle.trace_model.specs.History.{Sent, told, sets_step, sets_of}
 use Rattle.trace_model.specs.Safety.{is_leg, is_own, own}
 use Rattle.trace_model.proofs.Folds.{through_append}
 use Rattle.channel_sim.specs.World.{Call, World, Step, InCall, Session, Due, quiet_step, and_then, call_of, session_in, session_of, point_is_in, vehicle_is_in, left_by, seated, vehicle_did, session_did, session_acts, does, performs, one_handed, hands_up, hands_down, each, due_frames, due_in, flows_up, flows_down, vehicle_passes, session_passes, sessions_pass, unit}
-use Rattle.channel_sim.specs.Fit.{Rises, vehicle_seat, point_seat, seats_of, FramesFit, CarriesMade, ConfirmsShown, CallLinks, IsSessionOf, AreInOrder}
+use Rattle.channel_sim.specs.Fit.{Rises, vehicle_seat, point_seat, seats_of, FramesFit, CarriesMade, ConfirmsShown, CallLinks, IsSessionOf}
+use Rattle.channel_sim.specs.Tidy.{AreAbove, numbers_of}
 use Rattle.channel_sim.specs.inner.FitAt.{Came, Clocks, FitsAt, Goes, Settles, all_at}
 use Rattle.channel_sim.proofs.Lists.{all_append, all_into}
 use Rattle.channel_sim.proofs.LinksRow.{sets_stay}
@@ -231,13 +232,13 @@ Apart (c ∷ cs) = (is_left c cs ≡ false) × Apart cs
 abbrev numbers : List Call → List ℕ
 numbers calls = map (λ k. k.number) calls
 
-all_above : (n c : ℕ) → c ≤ n → (ks : List Call) → AreInOrder n ks → is_left c (numbers ks) ≡ false
+all_above : (n c : ℕ) → c ≤ n → (ks : List Call) → AreAbove n (numbers_of ks) → is_left c (numbers ks) ≡ false
 all_above n c h [] o = refl
 all_above n c h (k ∷ ks) o =
     rw (ne_eqb k.number c (λ e. absurd (omega (arith, h, o.0, e))))
     (all_above k.number c (omega (arith, h, o.0)) ks o.1)
 
-apart : (n : ℕ) → (ks : List Call) → AreInOrder n ks → Apart (numbers ks)
+apart : (n : ℕ) → (ks : List Call) → AreAbove n (numbers_of ks) → Apart (numbers ks)
 apart n [] o = tt
 apart n (k ∷ ks) o = (all_above k.number k.number (omega arith) ks o.1, apart k.number ks o.1)
 

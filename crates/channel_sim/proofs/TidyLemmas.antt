@@ -11,10 +11,10 @@ use Rattle.link_frames.specs.declared.note.Note.TheVariants as note
 use Rattle.trace_model.specs.declared.entry.Entry.{Entry}
 use Rattle.trace_model.specs.History.{Sent, told, sends, sent_by}
 use Rattle.trace_model.specs.Safety.{is_leg}
-use Rattle.channel_sim.specs.declared.calls.Call as kept_call
+use Rattle.channel_sim.specs.declared.calls.call.Call as kept_call
 use Rattle.channel_sim.specs.World.{Call, is_number, with_legs, carries}
 use Rattle.channel_sim.specs.inner.Acts.{OtherHasLeg}
-use Rattle.channel_sim.specs.inner.Lag.{CallsLag}
+use Rattle.channel_sim.specs.Lag.{CallsLag}
 use Rattle.channel_sim.specs.inner.Places.{place_of}
 use Rattle.channel_sim.specs.Tidy.{AreAbove, AreFrom, ticks_of, HasLeg, InTime, CallInTime, numbers_of}
 use Rattle.channel_sim.proofs.CallsLemmas.{seat_there}

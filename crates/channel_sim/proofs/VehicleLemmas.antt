@@ -12,7 +12,7 @@ use Rattle.ivs_machine.proofs.Ticks.{aged_none}
 use Rattle.channel_sim.specs.declared.channel.Channel as kept_channel
 use Rattle.channel_sim.specs.World.{Call, World, is_number}
 use Rattle.channel_sim.specs.inner.Acts.{OtherHasLeg, IsReady}
-use Rattle.channel_sim.specs.inner.Lag.{VehicleLags, StandsAt}
+use Rattle.channel_sim.specs.Lag.{VehicleLags, StandsAt}
 use Rattle.channel_sim.specs.Tidy.{HasLeg}
 use Rattle.channel_sim.proofs.Jump.{call_stays}
 use Rattle.channel_sim.proofs.SeatLemmas.{soonest_later}

@@ -6,8 +6,8 @@ use Rattle.ivs_machine.specs.Vehicle.{Vehicle}
 use Rattle.ivs_machine.specs.VehicleRows as vehicle
 use Rattle.channel_sim.specs.declared.channel.Channel as kept_channel
 use Rattle.channel_sim.specs.World.{Call, World}
-use Rattle.channel_sim.specs.inner.Lag.{StandsAt}
-use Rattle.channel_sim.specs.inner.Quiet.{CallRests, FramesRest, IsQuietCall, QuietFor, EndsRest, UpRests, DownRests}
+use Rattle.channel_sim.specs.Lag.{StandsAt}
+use Rattle.channel_sim.specs.Quiet.{CallRests, FramesRest, IsQuietCall, QuietFor, EndsRest, UpRests, DownRests}
 use Rattle.channel_sim.specs.Tidy.{CallInTime}
 use Rattle.channel_sim.proofs.Jump.{vehicle_later}
 
@@ -57,5 +57,4 @@ pub quiet_until : (n t first acts up down : ℕ) (w : World) → first ≤ acts 
     → t + n < first
     → QuietFor n w
 quiet_until n t first acts up down w a b c rests no_up no_down low =
-    let ends = rests (omega arith) in
-    record { vehicle = ends.0; sessions = ends.1; up = no_up (omega arith); down = no_down (omega arith) }
+    record { ends = rests (omega arith); up = no_up (omega arith); down = no_down (omega arith) }

@@ -21,6 +21,7 @@ use Rattle.psap_machine.specs.PointOwes as session
 use Rattle.trace_model.specs.declared.entry.Entry.{Entry}
 use Rattle.trace_model.specs.History.{Sent, sent_by, sets_of}
 use Rattle.trace_model.specs.Safety.{Leg, leg_at, WasShown, Safe, Finished}
+use Rattle.channel_sim.specs.Tidy.{AreAbove, HasLeg, numbers_of}
 use Rattle.channel_sim.specs.World.{World, Call, is_number, call_of, session_of, left_by}
 
 -- Call numbers and ticks.
@@ -133,15 +134,6 @@ pub record IsCall (drawn : ℕ) (k : Call) : Type 0 where
   pub number : k.number ≤ drawn
   pub session : IfSome k.session (IsSessionOf k.number)
 
--- a call is there only while one of its legs is up
-abbrev pub HasLeg : (in_call : Option ℕ) → Call → Type 0
-HasLeg in_call k = (is_number k.number in_call || is_some k.session) ≡ true
-
--- calls stand by number, each above the one before
-abbrev pub AreInOrder : (below : ℕ) → List Call → Type 0
-AreInOrder below [] = Unit {0}
-AreInOrder below (k ∷ ks) = (below < k.number) × AreInOrder k.number ks
-
 -- The entries fit the world, in eight parts: numbers and ticks; legs and voices; frames in flight; one set for each
 -- request; shown behind sent; acknowledged behind shown; the bounds by phase; and safe and finished.
 pub record Fit (w : World) (entries : List Entry) : Type 0 where
@@ -162,7 +154,7 @@ pub record Fit (w : World) (entries : List Entry) : Type 0 where
   -- shown once, and the request of a phase was obeyed, or shown.
   pub vehicle : vehicle.IsKept w.vehicle
   pub calls : AllByRecursion (IsCall w.drawn) w.calls
-  pub in_order : AreInOrder 0 w.calls
+  pub in_order : AreAbove 0 (numbers_of w.calls)
   -- a muted voice has ticks left to its limit
   pub in_time : (e : End) (c : ℕ) → IfSome (seats_of w.vehicle w.calls e c) (InTime e)
   pub safe : Safe entries w.tick

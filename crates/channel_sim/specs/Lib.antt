@@ -1,6 +1,10 @@
 pub mod Fit
+pub mod Handing
 pub mod inner
+pub mod Lag
 pub mod Lines
+pub mod Passes
+pub mod Quiet
 pub mod SimFault
 pub mod Tidy
 pub mod World

@@ -1,6 +1,6 @@
 -- What every world of the definitions keeps: the calls stand by number, each has a leg up, and the frames of each stand
--- in the order of their ticks. Cited by the relation of a `World` to the world, and by the private functions of
--- `World`.
+-- in the order of their ticks. Cited by the relation of a `World` to the world, by when a trace fits a world, and by
+-- the private functions of `World`.
 use Rattle.std.specs.Prelude.{◌≡◌, ℕ, ◌≤◌, ◌<◌, true, List, [], ◌∷◌, ◌||◌, map, Option}
 use Rattle.std.specs.Option.{is_some}
 use Rattle.std.specs.List.{AllByRecursion}
@@ -25,7 +25,8 @@ ticks_of sends = map (λ s. s.tick) sends
 abbrev pub numbers_of : List Call → List ℕ
 numbers_of calls = map (λ k. k.number) calls
 
-abbrev pub HasLeg : Option ℕ → Call → Type 0
+-- a call is there only while one of its legs is up
+abbrev pub HasLeg : (in_call : Option ℕ) → Call → Type 0
 HasLeg in_call k = (is_number k.number in_call || is_some k.session) ≡ true
 
 -- these frames were sent in this order, and none after now

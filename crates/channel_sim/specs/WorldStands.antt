@@ -9,7 +9,7 @@ use Rattle.ivs_machine.specs.IvsStands.{IvsStandsFor}
 use Rattle.psap_machine.specs.declared.session.Session.{Session}
 use Rattle.psap_machine.specs.Point.{Point}
 use Rattle.psap_machine.specs.SessionStands.{SessionStandsFor}
-use Rattle.channel_sim.specs.declared.calls.Call as kept_call
+use Rattle.channel_sim.specs.declared.calls.call.Call as kept_call
 use Rattle.channel_sim.specs.declared.channel.Channel as kept_channel
 use Rattle.channel_sim.specs.declared.world.World as kept_world
 use Rattle.channel_sim.specs.World.{Call, World, Step, left_by}

@@ -1,9 +1,7 @@
 pub mod Acts
 pub mod Asleep
 pub mod FitAt
-pub mod Lag
+pub mod Happenings
 pub mod Passes
 pub mod Places
-pub mod Quiet
 pub mod Sends
-pub mod Turns

@@ -1,4 +1,4 @@
-//! What is kept of the world, and what one turn does in it.
+//! What is kept of the world, and what one happening does in it.
 
 mod acts;
 mod deeds;
@@ -7,8 +7,8 @@ mod moments;
 
 use crate::calls::Calls;
 use crate::fault::SimFault;
+use crate::happening::Happening;
 use crate::room::Room;
-use crate::turn::Turn;
 use ivs_machine::Ivs;
 use link_frames::Steps;
 use msd_fit::Facts;
@@ -33,10 +33,10 @@ pub(crate) struct Channel {
 impl Channel {
     ghost use Rattle.std.specs.Prelude.{◌≡◌, ◌+◌, ◌^◌, ◌<◌, ◌≤◌, ℕ, OnOk, OnErr, IfOk, IfErr, if◌then◌else◌};
     ghost use Rattle.channel_sim.specs.World as model;
-    ghost use Rattle.channel_sim.specs.SimFault.{SimFaultCause};
+    ghost use Rattle.channel_sim.specs.SimFault.{CountsFaults};
     ghost use Rattle.channel_sim.specs.WorldStands.{ChannelStandsFor};
-    ghost use Rattle.channel_sim.specs.inner.Lag.{CameNow, StandsNow};
-    ghost use Rattle.channel_sim.specs.inner.Turns.{DrawsCall, does_turn, turn_passes};
+    ghost use Rattle.channel_sim.specs.Lag.{CameNow, StandsNow};
+    ghost use Rattle.channel_sim.specs.inner.Happenings.{DrawsCall, happens, happening_passes};
 
     /// The world before anything happened, with a vehicle that knows these facts. It takes no memory.
     pub(crate) fn new(alloc: Global, facts: Facts) -> Channel
@@ -55,45 +55,45 @@ impl Channel {
         }
     }
 
-    /// What one turn does.
+    /// What one happening does.
     pub(crate) fn plays<H: Listener, L: Ledger>(
         &mut self,
         alloc: Global,
-        turn: &Turn<'_>,
+        happening: &Happening<'_>,
         room: &mut Room,
         to: &mut H,
         moments: &mut Steps<L>,
     ) -> Result<(), SimFault>
-        requires calls { DrawsCall turn.now → self.old.drawn < 4294967295 }
-        requires ticks { (n : ℕ) → turn.now ≡ Turn.Elapse n → self.old.tick + n < 2 ^ 64 }
+        requires calls { DrawsCall happening.now → self.old.drawn < 4294967295 }
+        requires ticks { (n : ℕ) → happening.now ≡ Happening.Elapse n → self.old.tick + n < 2 ^ 64 }
         ensures step { (w : model.World) → StandsNow self.old w →
-            CameNow (H.grew to.old to.new) (H.partly to.old to.new) result self.new (does_turn turn.now w) }
-        ensures stood { OnOk result (H.faults to.new ≡ H.faults to.old) }
-        ensures cause { IfErr result (λ e. SimFaultCause e (H.faults to.old) (H.faults to.new)) }
-        ensures counted { H.faults to.old ≤ H.faults to.new }
+            CameNow (H.grew to.old to.new) (H.partly to.old to.new) result self.new (happens happening.now w) }
+        ensures faults { CountsFaults result (H.faults to.old) (H.faults to.new) }
         ensures passes { (w : model.World) → StandsNow self.old w →
-            OnOk result (moments.new ≤ moments.old + turn_passes turn.now w) }
+            OnOk result (moments.new ≤ moments.old + happening_passes happening.now w) }
     {
         let given = &mut room.given;
-        match turn {
-            Turn::Vehicle(event) => self.vehicle_line(alloc, event, given, to, moments),
-            Turn::Point(call, event) => self.point_line(alloc, *call, event, given, to, moments),
-            Turn::DropVehicle => self.drop_vehicle(alloc, given, to, moments),
-            Turn::DropBoth(call) => self.drop_both(alloc, *call, given, to, moments),
-            Turn::Answer => self.answer(alloc, given, to),
-            Turn::Callback => self.callback(alloc, given, to),
-            Turn::Deliver { up, call, place } => {
+        match happening {
+            Happening::Vehicle(event) => self.vehicle_performs(alloc, event, given, to, moments),
+            Happening::Point(call, event) => self.point_line(
+                alloc, *call, event, given, to, moments,
+            ),
+            Happening::DropVehicle => self.drop_vehicle(alloc, given, to, moments),
+            Happening::DropBoth(call) => self.drop_both(alloc, *call, given, to, moments),
+            Happening::Answer => self.answer(alloc, given, to),
+            Happening::Callback => self.callback(alloc, given, to),
+            Happening::Deliver { up, call, place } => {
                 if *up {
                     self.deliver_up(alloc, *call, *place, given, to, moments)
                 } else {
                     self.deliver_down(alloc, *call, *place, given, to, moments)
                 }
             }
-            Turn::Flow { up, delay } => {
+            Happening::Flow { up, delay } => {
                 self.set_flow(*up, *delay);
                 Ok(())
             }
-            Turn::Elapse(n) => self.elapses(alloc, *n, room, to, moments),
+            Happening::Elapse(n) => self.elapses(alloc, *n, room, to, moments),
         }
     }
 

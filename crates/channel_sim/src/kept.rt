@@ -2,7 +2,7 @@
 
 ghost use Rattle.std.specs.Prelude.{◌≡◌, IfOk};
 ghost use Rattle.link_frames.specs.Frame.{lent};
-ghost use Rattle.channel_sim.specs.inner.Sends.{full};
+ghost use Rattle.channel_sim.specs.Handing.{full};
 
 use link_frames::{Answer, Frame, FrameRef, OCTETS, Request};
 use std::alloc::{AllocError, Global};

@@ -5,16 +5,19 @@ mod calls;
 mod channel;
 mod consequence;
 mod fault;
+mod happening;
 mod kept;
 mod laws;
+mod phases;
+mod quiet;
 mod room;
 mod sends;
 mod telling;
 #[cfg(test)]
 mod tests;
-mod turn;
 mod world;
 
+pub use calls::Due;
 pub use fault::SimFault;
 pub use laws::{fitting_worlds, traces_are_safe};
 pub use world::World;

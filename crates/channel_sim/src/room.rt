@@ -20,6 +20,22 @@ pub(crate) struct Near {
     pub(crate) down: usize,
 }
 
+impl Near {
+    /// The place for the frames sent up, or down.
+    pub(crate) fn at(&self, up: bool) -> usize {
+        if up { self.up } else { self.down }
+    }
+
+    /// The place for the frames sent up, or down, is this one.
+    pub(crate) fn set(&mut self, up: bool, place: usize) {
+        if up {
+            self.up = place;
+        } else {
+            self.down = place;
+        }
+    }
+}
+
 /// The room of a world: for what ends give, for the numbers of calls, and for frames that are due.
 #[derive(Drop)]
 pub(crate) struct Room {

@@ -1,9 +1,10 @@
 //! The frames sent in one direction of a call.
 
-ghost use Rattle.std.specs.Prelude.{◌≡◌, ◌≤◌, ◌<◌, ◌+◌, ◌++◌, ◌∷◌, [], true, false, OnOk, length, map, slice_get, take, drop};
+ghost use Rattle.std.specs.Prelude.{◌≡◌, ◌≤◌, ◌<◌, ◌+◌, ◌++◌, ◌∷◌, [], true, false, OnOk, length, map, slice_get, take, drop, ltb};
 ghost use Rattle.std.specs.List.{AllByRecursion};
 ghost use Rattle.std.specs.Option.{option_map};
-ghost use Rattle.channel_sim.specs.inner.Sends.{full, IsFirstFrom};
+ghost use Rattle.channel_sim.specs.inner.Sends.{IsFirstFrom};
+ghost use Rattle.channel_sim.specs.Handing.{full};
 ghost use Rattle.channel_sim.specs.Tidy.{ticks_of, AreFrom};
 
 use crate::kept::{KeptFrame, kept_frame};
@@ -135,34 +136,6 @@ fn begin_at(frames: &[KeptSent], tick: u64, near: usize) -> usize
     0
 }
 
-/// The places between which the first of those sent at a tick or later is, or the one behind all.
-#[derive(Drop)]
-struct Part {
-    low: usize,
-    high: usize,
-}
-
-/// The part of these in which the first is that was sent at this tick or later, by steps that double.
-fn part_from(frames: &[KeptSent], tick: u64, near: usize) -> Part
-    ensures order { result.low ≤ result.high }
-    ensures within { result.high ≤ length frames.now }
-    ensures front { AreFrom 0 (map (λ s. s.tick) frames.now) →
-        AllByRecursion (λ t. t < tick) (take result.low (map (λ s. s.tick) frames.now)) }
-    ensures behind { AreFrom 0 (map (λ s. s.tick) frames.now) →
-        AllByRecursion (λ t. tick ≤ t) (drop result.high (map (λ s. s.tick) frames.now)) }
-{
-    let mut low = begin_at(frames, tick, near);
-    let mut step = 0;
-    while is_earlier(frames, low + step, tick) {
-        low += step + 1;
-        step += step + 1;
-    }
-    Part {
-        low,
-        high: frames.len().min(low + step),
-    }
-}
-
 /// The place of the first of these that was sent at this tick or later, by halves. Out of line, since it is nearly always
 /// at `near` or behind all.
 #[inline(never)]
@@ -170,18 +143,13 @@ fn search_place(frames: &[KeptSent], tick: u64, near: usize) -> usize
     ensures within { result ≤ length frames.now }
     ensures first { AreFrom 0 (map (λ s. s.tick) frames.now) → IsFirstFrom tick result (map (λ s. s.tick) frames.now) }
 {
-    let part = part_from(frames, tick, near);
-    let mut low = part.low;
-    let mut high = part.high;
-    while low < high {
-        let middle = low + (high - low) / 2;
-        if frames[middle].tick < tick {
-            low = middle + 1;
-        } else {
-            high = middle;
-        }
-    }
-    low
+    let begin = begin_at(frames, tick, near);
+    begin
+        + frames[begin..].partition_point(
+            |sent: &KeptSent| -> bool
+                ensures { result ≡ ltb sent.now.tick tick }
+            { sent.tick < tick },
+        )
 }
 
 /// The place of the first of these that was sent at this tick or later.

@@ -1,7 +1,7 @@
 //! Telling a listener what an end did.
 
 ghost use Rattle.std.specs.Prelude.{◌≡◌, ◌≤◌, OnOk, OnErr, IfErr};
-ghost use Rattle.channel_sim.specs.SimFault.{SimFaultCause};
+ghost use Rattle.channel_sim.specs.SimFault.{CountsFaults};
 ghost use Rattle.trace_model.specs.History.{told};
 
 use crate::fault::SimFault;
@@ -18,9 +18,7 @@ pub(crate) fn tell<H: Listener>(
 ) -> Result<(), SimFault>
     ensures ok { OnOk result (H.grew to.old to.new (told tick items.now)) }
     ensures err { OnErr result (H.partly to.old to.new (told tick items.now)) }
-    ensures stood { OnOk result (H.faults to.new ≡ H.faults to.old) }
-    ensures cause { IfErr result (λ e. SimFaultCause e (H.faults to.old) (H.faults to.new)) }
-    ensures counted { H.faults to.old ≤ H.faults to.new }
+    ensures faults { CountsFaults result (H.faults to.old) (H.faults to.new) }
 {
     for note in items {
         to.hear(alloc, &Entry { tick, note: *note })?;

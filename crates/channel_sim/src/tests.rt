@@ -10,6 +10,7 @@ use std::sync::ledger::Ledger;
 use trace_model::{Delay, Event, Kept, Listener, Positive};
 
 mod deaf;
+mod parts;
 mod rows;
 
 const SET: [u8; OCTETS] = [7; OCTETS];

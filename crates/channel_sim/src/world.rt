@@ -3,8 +3,8 @@
 use crate::calls::find;
 use crate::channel::Channel;
 use crate::fault::SimFault;
+use crate::happening::happening_of;
 use crate::room::Room;
-use crate::turn::turn_of;
 use ivs_machine::Ivs;
 use link_frames::Steps;
 use msd_fit::Facts;
@@ -16,8 +16,8 @@ use trace_model::{Event, Listener};
 /// A vehicle, the calls with a leg up, and all that was ever sent in them.
 #[derive(Drop)]
 pub struct World {
-    channel: Channel,
-    room: Room,
+    pub(crate) channel: Channel,
+    pub(crate) room: Room,
 }
 
 impl World {
@@ -138,9 +138,9 @@ impl World {
         ensures passes { (w : model.World) → WorldStandsFor self.old w →
             OnOk result (moments.new ≤ moments.old + lines.passes_within w event.now) }
     {
-        let turn = turn_of(event);
+        let happening = happening_of(event);
         self.channel
-            .plays(alloc, &turn, &mut self.room, to, moments)?;
+            .plays(alloc, &happening, &mut self.room, to, moments)?;
         Ok(())
     }
 }

@@ -16,14 +16,13 @@ use Rattle.psap_machine.specs.Point.{Point}
 use Rattle.psap_machine.specs.SessionStands.{SessionStandsFor}
 use Rattle.psap_machine.specs.PointRows as point
 use Rattle.trace_model.specs.History.{Sent}
-use Rattle.channel_sim.specs.declared.calls.Call as kept_call
-use Rattle.channel_sim.specs.declared.calls.Due as kept_due
+use Rattle.channel_sim.specs.declared.calls.call.Call as kept_call
 use Rattle.channel_sim.specs.declared.consequence.Consequence.{Consequence}
 use Rattle.channel_sim.specs.declared.consequence.Consequence.TheVariants as consequence
 use Rattle.channel_sim.specs.declared.channel.Channel as kept_channel
-use Rattle.channel_sim.specs.World.{Act, Due, Session, InCall, Call, World, Step, flows_down, flows_up, is_number, left_by, seated, session_of}
-use Rattle.channel_sim.specs.inner.Lag.{VehicleLags, CallLags, CallsLag}
-use Rattle.channel_sim.specs.inner.Sends.{full}
+use Rattle.channel_sim.specs.World.{Act, Due, Session, InCall, Call, World, Step, due_in, each, is_number, left_by, seated, session_of}
+use Rattle.channel_sim.specs.Handing.{flow_way, hands_way, sent_way}
+use Rattle.channel_sim.specs.Lag.{VehicleLags, CallLags, CallsLag}
 use Rattle.channel_sim.specs.Tidy.{AreAbove, HasLeg, CallInTime, numbers_of}
 
 -- the call, in which this end sent one frame more
@@ -98,25 +97,11 @@ pub record IsArrival (session : kept_session.Session) (given : List Note) (row :
   pub live : left_by row.new ≡ Some row.new
   pub items : given ≡ row.items
 
--- these clocks differ for this call at most
-abbrev pub AreSameBut : ℕ → (ℕ → ℕ) → (ℕ → ℕ) → Type 0
-AreSameBut c before after = (d : ℕ) → (d ≡ c → ⊥) → before d ≡ after d
-
--- a frame that is due, as it is kept
-abbrev pub due_of : kept_due.Due → Due
-due_of d = record { call = d.call; frame = full d.frame }
-
 -- the frame of a call, if there is one
 abbrev pub due_by : ℕ → Option Frame → List Due
 due_by c None = []
 due_by c (Some f) = record { call = c; frame = f } ∷ []
 
--- the frames of a call sent up, or down
-abbrev pub sent_way : (up : Bool) → Call → List Sent
-sent_way true k = k.up
-sent_way false k = k.down
-
--- what a flow hands over, up or down
+-- what a flow hands over, up or down: `flows_up`, or `flows_down`
 abbrev pub flows_by : (up : Bool) → World → Step
-flows_by true w = flows_up w
-flows_by false w = flows_down w
+flows_by up w = each (hands_way up) (due_in (sent_way up) (flow_way up w) w.tick w.calls) w

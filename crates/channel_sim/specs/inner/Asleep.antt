@@ -6,7 +6,7 @@ use Rattle.psap_machine.specs.declared.session.Session.{Session}
 use Rattle.psap_machine.specs.Point.{Point}
 use Rattle.psap_machine.specs.PointRows.{due_of}
 use Rattle.psap_machine.specs.SessionStands.{SessionStandsFor}
-use Rattle.channel_sim.specs.declared.calls.Call.{Call}
+use Rattle.channel_sim.specs.declared.calls.call.Call.{Call}
 
 -- whatever state this session stands for, nothing is due in it
 abbrev pub NothingDue : Option Session → Type 0

@@ -16,7 +16,8 @@ use Rattle.trace_model.specs.declared.entry.Entry.{Entry}
 use Rattle.trace_model.specs.History.{sets_of}
 use Rattle.trace_model.specs.Safety.{is_leg, Leg, first_leg, leg_at, AtEach, IsShownFirst, AgreedFrom, MustOpen, IsBounded}
 use Rattle.channel_sim.specs.World.{World, Step, call_of}
-use Rattle.channel_sim.specs.Fit.{IsDrawn, Rises, seats_of, FramesFit, CarriesMade, ConfirmsShown, CallLinks, ComesBehind, OrderedFrom, IsCall, HasLeg, AreInOrder}
+use Rattle.channel_sim.specs.Fit.{IsDrawn, Rises, seats_of, FramesFit, CarriesMade, ConfirmsShown, CallLinks, ComesBehind, OrderedFrom, IsCall}
+use Rattle.channel_sim.specs.Tidy.{AreAbove, numbers_of, HasLeg}
 
 -- An end is in a call as the entries say, where `K` says how the tick at which a stretch of its voice began and the
 -- length of that stretch go together.
@@ -99,7 +100,7 @@ pub record FitsAt (clock : Clocks) (now last : ℕ) (w : World) (t : List Entry)
   pub calls : AllByRecursion (IsCall last) w.calls
   pub frames : AllByRecursion (FramesFit t) w.calls
   pub legs : AllByRecursion (HasLeg (vehicle_call w.vehicle)) w.calls
-  pub in_order : AreInOrder 0 w.calls
+  pub in_order : AreAbove 0 (numbers_of w.calls)
   pub listed : IfSome (vehicle_call w.vehicle) (λ c. is_some (call_of c w.calls) ≡ true)
 
 -- a step goes to a world that fits

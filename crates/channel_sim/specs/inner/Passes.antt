@@ -1,12 +1,7 @@
--- How often ends are passed in a part of a step. Cited by the private functions of `World` and on its calls alone.
-use Rattle.std.specs.Prelude.{ℕ, ◌+◌, Option, length, if◌then◌else◌}
+-- How often the session of a call is passed. Cited by the private functions on the calls of a `World` alone.
+use Rattle.std.specs.Prelude.{ℕ, Option, if◌then◌else◌}
 use Rattle.std.specs.Option.{is_some}
 use Rattle.psap_machine.specs.Point.{Point}
-use Rattle.channel_sim.specs.World.{Step}
-
--- once for each entry, and for each frame handed over
-abbrev pub passes_of : Step → ℕ
-passes_of s = length s.entries + s.handed
 
 -- once, where there is a session
 abbrev pub once_if : Option Point → ℕ

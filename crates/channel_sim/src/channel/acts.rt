@@ -21,11 +21,11 @@ impl Channel {
     ghost use Rattle.psap_machine.specs.PointRows as point;
     ghost use Rattle.trace_model.specs.History.{told};
     ghost use Rattle.channel_sim.specs.World as model;
-    ghost use Rattle.channel_sim.specs.SimFault.{SimFaultCause};
+    ghost use Rattle.channel_sim.specs.SimFault.{CountsFaults};
     ghost use Rattle.channel_sim.specs.inner.Acts.{IsCaught, IsReady, OtherHasLeg};
-    ghost use Rattle.channel_sim.specs.inner.Lag.{Came, CallsLag, StandsAt, VehicleLags};
+    ghost use Rattle.channel_sim.specs.Lag.{CameAt, CallsLag, StandsAt, VehicleLags};
     ghost use Rattle.channel_sim.specs.Tidy.{AreAbove, numbers_of};
-    ghost use Rattle.channel_sim.specs.inner.Passes.{passes_of};
+    ghost use Rattle.channel_sim.specs.Passes.{passes_of};
 
     /// A call is gone once both its legs are down.
     fn drop_call(&mut self, number: u32)
@@ -65,12 +65,10 @@ impl Channel {
     ) -> Result<(), SimFault>
         ensures step { (ahead : ℕ) (floor : ℕ) (clock : ℕ → ℕ) (w : model.World) (v : Vehicle) (ks : List model.Call) →
             IsReady ahead floor clock self.old w v ks call →
-            Came (H.grew to.old to.new) (H.partly to.old to.new) result ahead floor clock self.new
+            CameAt (H.grew to.old to.new) (H.partly to.old to.new) result ahead floor clock self.new
             (model.did w items.now v ks) }
         ensures tick { self.new.tick ≡ self.old.tick }
-        ensures stood { OnOk result (H.faults to.new ≡ H.faults to.old) }
-        ensures cause { IfErr result (λ e. SimFaultCause e (H.faults to.old) (H.faults to.new)) }
-        ensures counted { H.faults to.old ≤ H.faults to.new }
+        ensures faults { CountsFaults result (H.faults to.old) (H.faults to.new) }
         ensures passed { self.new.passed ≡ self.old.passed }
     {
         tell(alloc, self.tick, items, to)?;
@@ -92,12 +90,10 @@ impl Channel {
     ) -> Result<(), SimFault>
         ensures step { (ahead : ℕ) (floor : ℕ) (clock : ℕ → ℕ) (w : model.World) (v : Vehicle) (ks : List model.Call) →
             IsReady ahead floor clock self.old w v ks call → ahead ≡ self.old.tick →
-            Came (H.grew to.old to.new) (H.partly to.old to.new) result ahead floor clock self.new
+            CameAt (H.grew to.old to.new) (H.partly to.old to.new) result ahead floor clock self.new
             (model.settled (model.did w items.now v ks)) }
         ensures tick { self.new.tick ≡ self.old.tick }
-        ensures stood { OnOk result (H.faults to.new ≡ H.faults to.old) }
-        ensures cause { IfErr result (λ e. SimFaultCause e (H.faults to.old) (H.faults to.new)) }
-        ensures counted { H.faults to.old ≤ H.faults to.new }
+        ensures faults { CountsFaults result (H.faults to.old) (H.faults to.new) }
         ensures passes { (ahead : ℕ) (floor : ℕ) (clock : ℕ → ℕ) (w : model.World) (v : Vehicle)
             (ks : List model.Call) →
             IsReady ahead floor clock self.old w v ks call → ahead ≡ self.old.tick → self.old.tick < floor + 2 ^ 32 →
@@ -121,12 +117,10 @@ impl Channel {
         ensures step { (ahead : ℕ) (floor : ℕ) (clock : ℕ → ℕ) (w : model.World) →
             StandsAt ahead floor clock self.old w →
             ahead ≡ self.old.passed →
-            Came (H.grew to.old to.new) (H.partly to.old to.new) result ahead floor clock self.new
+            CameAt (H.grew to.old to.new) (H.partly to.old to.new) result ahead floor clock self.new
             (model.vehicle_did w (vehicle.vehicle_row w.vehicle (vehicle.heard event.now))) }
         ensures tick { self.new.tick ≡ self.old.tick }
-        ensures stood { OnOk result (H.faults to.new ≡ H.faults to.old) }
-        ensures cause { IfErr result (λ e. SimFaultCause e (H.faults to.old) (H.faults to.new)) }
-        ensures counted { H.faults to.old ≤ H.faults to.new }
+        ensures faults { CountsFaults result (H.faults to.old) (H.faults to.new) }
         ensures passed { self.new.passed ≡ self.old.passed }
     {
         let call = self.vehicle.call();
@@ -146,12 +140,10 @@ impl Channel {
         ensures step { (ahead : ℕ) (floor : ℕ) (clock : ℕ → ℕ) (w : model.World) →
             StandsAt ahead floor clock self.old w →
             ahead ≡ self.old.passed → ahead ≡ self.old.tick →
-            Came (H.grew to.old to.new) (H.partly to.old to.new) result ahead floor clock self.new
+            CameAt (H.grew to.old to.new) (H.partly to.old to.new) result ahead floor clock self.new
             (model.performs (model.Hears (vehicle.heard event.now)) w) }
         ensures tick { self.new.tick ≡ self.old.tick }
-        ensures stood { OnOk result (H.faults to.new ≡ H.faults to.old) }
-        ensures cause { IfErr result (λ e. SimFaultCause e (H.faults to.old) (H.faults to.new)) }
-        ensures counted { H.faults to.old ≤ H.faults to.new }
+        ensures faults { CountsFaults result (H.faults to.old) (H.faults to.new) }
         ensures still { self.old.passed ≡ self.old.tick → (self.new.passed ≡ self.new.tick)
             × (moments.new ≡ moments.old) }
     {
@@ -171,12 +163,10 @@ impl Channel {
     ) -> Result<(), SimFault>
         ensures step { (ahead : ℕ) (floor : ℕ) (clock : ℕ → ℕ) (w : model.World) →
             StandsAt ahead floor clock self.old w →
-            Came (H.grew to.old to.new) (H.partly to.old to.new) result ahead floor clock self.new
+            CameAt (H.grew to.old to.new) (H.partly to.old to.new) result ahead floor clock self.new
             (model.does (model.Session number (point.Ended Why.Release)) w) }
         ensures tick { self.new.tick ≡ self.old.tick }
-        ensures stood { OnOk result (H.faults to.new ≡ H.faults to.old) }
-        ensures cause { IfErr result (λ e. SimFaultCause e (H.faults to.old) (H.faults to.new)) }
-        ensures counted { H.faults to.old ≤ H.faults to.new }
+        ensures faults { CountsFaults result (H.faults to.old) (H.faults to.new) }
         ensures passed { self.new.passed ≡ self.old.passed }
     {
         let event = PointEvent::Ended(Why::Release);
@@ -200,12 +190,10 @@ impl Channel {
         ensures step { (ahead : ℕ) (floor : ℕ) (clock : ℕ → ℕ) (w : model.World) →
             StandsAt ahead floor clock self.old w →
             ahead ≡ self.old.tick → IsCaught clock number self.old.calls →
-            Came (H.grew to.old to.new) (H.partly to.old to.new) result ahead floor clock self.new
+            CameAt (H.grew to.old to.new) (H.partly to.old to.new) result ahead floor clock self.new
             (model.performs (model.Session number (point.heard event.now)) w) }
         ensures tick { self.new.tick ≡ self.old.tick }
-        ensures stood { OnOk result (H.faults to.new ≡ H.faults to.old) }
-        ensures cause { IfErr result (λ e. SimFaultCause e (H.faults to.old) (H.faults to.new)) }
-        ensures counted { H.faults to.old ≤ H.faults to.new }
+        ensures faults { CountsFaults result (H.faults to.old) (H.faults to.new) }
         ensures passes { (ahead : ℕ) (floor : ℕ) (clock : ℕ → ℕ) (w : model.World) →
             StandsAt ahead floor clock self.old w →
             ahead ≡ self.old.tick → IsCaught clock number self.old.calls → self.old.tick < floor + 2 ^ 32 →
@@ -234,12 +222,10 @@ impl Channel {
         ensures step { (ahead : ℕ) (floor : ℕ) (clock : ℕ → ℕ) (w : model.World) →
             StandsAt ahead floor clock self.old w →
             ahead ≡ self.old.tick →
-            Came (H.grew to.old to.new) (H.partly to.old to.new) result ahead floor clock self.new
+            CameAt (H.grew to.old to.new) (H.partly to.old to.new) result ahead floor clock self.new
             (model.does_each (model.consequence note.now) w) }
         ensures tick { self.new.tick ≡ self.old.tick }
-        ensures stood { OnOk result (H.faults to.new ≡ H.faults to.old) }
-        ensures cause { IfErr result (λ e. SimFaultCause e (H.faults to.old) (H.faults to.new)) }
-        ensures counted { H.faults to.old ≤ H.faults to.new }
+        ensures faults { CountsFaults result (H.faults to.old) (H.faults to.new) }
         ensures passes { (ahead : ℕ) (floor : ℕ) (clock : ℕ → ℕ) (w : model.World) →
             StandsAt ahead floor clock self.old w →
             ahead ≡ self.old.tick → self.old.tick < floor + 2 ^ 32 → OnOk result
@@ -272,12 +258,10 @@ impl Channel {
         ensures step { (ahead : ℕ) (floor : ℕ) (clock : ℕ → ℕ) (w : model.World) →
             StandsAt ahead floor clock self.old w →
             ahead ≡ self.old.tick →
-            Came (H.grew to.old to.new) (H.partly to.old to.new) result ahead floor clock self.new
+            CameAt (H.grew to.old to.new) (H.partly to.old to.new) result ahead floor clock self.new
             (model.does_each (model.consequences (told w.tick items.now)) w) }
         ensures tick { self.new.tick ≡ self.old.tick }
-        ensures stood { OnOk result (H.faults to.new ≡ H.faults to.old) }
-        ensures cause { IfErr result (λ e. SimFaultCause e (H.faults to.old) (H.faults to.new)) }
-        ensures counted { H.faults to.old ≤ H.faults to.new }
+        ensures faults { CountsFaults result (H.faults to.old) (H.faults to.new) }
         ensures passes { (ahead : ℕ) (floor : ℕ) (clock : ℕ → ℕ) (w : model.World) →
             StandsAt ahead floor clock self.old w →
             ahead ≡ self.old.tick → self.old.tick < floor + 2 ^ 32 → OnOk result

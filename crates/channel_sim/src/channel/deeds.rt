@@ -23,42 +23,20 @@ impl Channel {
     ghost use Rattle.trace_model.specs.History.{told};
     ghost use Rattle.channel_sim.specs.Lines as lines;
     ghost use Rattle.channel_sim.specs.World as model;
-    ghost use Rattle.channel_sim.specs.SimFault.{SimFaultCause};
+    ghost use Rattle.channel_sim.specs.SimFault.{CountsFaults};
     ghost use Rattle.link_frames.specs.Row.{Row};
     ghost use Rattle.psap_machine.specs.Point.{Point};
     ghost use Rattle.channel_sim.specs.inner.Acts.{IsArrival};
-    ghost use Rattle.channel_sim.specs.inner.Lag.{CameNow, StandsNow};
-    ghost use Rattle.channel_sim.specs.inner.Sends.{full};
+    ghost use Rattle.channel_sim.specs.Lag.{CameNow, StandsNow};
+    ghost use Rattle.channel_sim.specs.Handing.{full};
 
     /// Tells that a line applies to nothing.
     fn tell_nothing<H: Listener>(&self, alloc: Global, to: &mut H) -> Result<(), SimFault>
         ensures ok { OnOk result (H.grew to.old to.new (told self.now.tick (note.Nothing ∷ []))) }
         ensures err { OnErr result (H.partly to.old to.new (told self.now.tick (note.Nothing ∷ []))) }
-        ensures stood { OnOk result (H.faults to.new ≡ H.faults to.old) }
-        ensures cause { IfErr result (λ e. SimFaultCause e (H.faults to.old) (H.faults to.new)) }
-        ensures counted { H.faults to.old ≤ H.faults to.new }
+        ensures faults { CountsFaults result (H.faults to.old) (H.faults to.new) }
     {
         tell(alloc, self.tick, &[Note::Nothing], to)
-    }
-
-    /// A line of the vehicle.
-    pub(super) fn vehicle_line<H: Listener, L: Ledger>(
-        &mut self,
-        alloc: Global,
-        event: &VehicleEvent<'_>,
-        given: &mut Given,
-        to: &mut H,
-        moments: &mut Steps<L>,
-    ) -> Result<(), SimFault>
-        ensures step { (w : model.World) → StandsNow self.old w →
-            CameNow (H.grew to.old to.new) (H.partly to.old to.new) result self.new
-            (lines.or_nothing (lines.Does (model.Hears (vehicle.heard event.now)) ∷ []) w) }
-        ensures stood { OnOk result (H.faults to.new ≡ H.faults to.old) }
-        ensures cause { IfErr result (λ e. SimFaultCause e (H.faults to.old) (H.faults to.new)) }
-        ensures counted { H.faults to.old ≤ H.faults to.new }
-        ensures still { self.old.passed ≡ self.old.tick → moments.new ≡ moments.old }
-    {
-        self.vehicle_performs(alloc, event, given, to, moments)
     }
 
     /// A line of the session of a call.
@@ -74,9 +52,7 @@ impl Channel {
         ensures step { (w : model.World) → StandsNow self.old w →
             CameNow (H.grew to.old to.new) (H.partly to.old to.new) result self.new
             (lines.or_nothing (lines.at_point number (point.heard event.now) w) w) }
-        ensures stood { OnOk result (H.faults to.new ≡ H.faults to.old) }
-        ensures cause { IfErr result (λ e. SimFaultCause e (H.faults to.old) (H.faults to.new)) }
-        ensures counted { H.faults to.old ≤ H.faults to.new }
+        ensures faults { CountsFaults result (H.faults to.old) (H.faults to.new) }
         ensures still { self.old.passed ≡ self.old.tick → moments.new ≡ moments.old }
     {
         if hear_session(&mut self.calls, number, event, &mut given.own) {
@@ -98,9 +74,7 @@ impl Channel {
         ensures step { (w : model.World) → StandsNow self.old w →
             CameNow (H.grew to.old to.new) (H.partly to.old to.new) result self.new
             (lines.or_nothing (lines.in_its_call (vehicle_call w.vehicle) vehicle.Lost) w) }
-        ensures stood { OnOk result (H.faults to.new ≡ H.faults to.old) }
-        ensures cause { IfErr result (λ e. SimFaultCause e (H.faults to.old) (H.faults to.new)) }
-        ensures counted { H.faults to.old ≤ H.faults to.new }
+        ensures faults { CountsFaults result (H.faults to.old) (H.faults to.new) }
         ensures still { self.old.passed ≡ self.old.tick → moments.new ≡ moments.old }
     {
         if self.vehicle.call().is_some() {
@@ -123,9 +97,7 @@ impl Channel {
             CameNow (H.grew to.old to.new) (H.partly to.old to.new) result self.new
             (lines.or_nothing (lines.when (model.vehicle_is_in number w) (lines.Does (model.InCall number vehicle.Lost))
             ++ lines.at_point number (point.Ended Why.Lost) w) w) }
-        ensures stood { OnOk result (H.faults to.new ≡ H.faults to.old) }
-        ensures cause { IfErr result (λ e. SimFaultCause e (H.faults to.old) (H.faults to.new)) }
-        ensures counted { H.faults to.old ≤ H.faults to.new }
+        ensures faults { CountsFaults result (H.faults to.old) (H.faults to.new) }
         ensures still { self.old.passed ≡ self.old.tick → moments.new ≡ moments.old }
     {
         let at_point = has_session(self.calls.all(), number);
@@ -157,9 +129,7 @@ impl Channel {
             CameNow (H.grew to.old to.new) (H.partly to.old to.new) result self.new
             (model.each lines.deed (lines.Does (model.InCall number vehicle.Lost) ∷
             lines.when at_point (lines.Does (model.Session number (point.Ended Why.Lost)))) w) }
-        ensures stood { OnOk result (H.faults to.new ≡ H.faults to.old) }
-        ensures cause { IfErr result (λ e. SimFaultCause e (H.faults to.old) (H.faults to.new)) }
-        ensures counted { H.faults to.old ≤ H.faults to.new }
+        ensures faults { CountsFaults result (H.faults to.old) (H.faults to.new) }
         ensures still { self.old.passed ≡ self.old.tick → moments.new ≡ moments.old }
     {
         self.vehicle_performs(alloc, &VehicleEvent::Lost, given, to, moments)?;
@@ -191,9 +161,7 @@ impl Channel {
             vehicle_call w.vehicle ≡ None → vehicle.heard event.now ≡ e (w.drawn + 1) →
             IsArrival session given.old.other.items (arrival (w.drawn + 1)) →
             CameNow (H.grew to.old to.new) (H.partly to.old to.new) result self.new (lines.comes_up e arrival w) }
-        ensures stood { OnOk result (H.faults to.new ≡ H.faults to.old) }
-        ensures cause { IfErr result (λ e. SimFaultCause e (H.faults to.old) (H.faults to.new)) }
-        ensures counted { H.faults to.old ≤ H.faults to.new }
+        ensures faults { CountsFaults result (H.faults to.old) (H.faults to.new) }
     {
         self.drawn += 1;
         let number = self.drawn;
@@ -215,9 +183,7 @@ impl Channel {
         ensures step { (w : model.World) → StandsNow self.old w →
             CameNow (H.grew to.old to.new) (H.partly to.old to.new) result self.new
             (lines.or_nothing (lines.when (is_dialling w.vehicle) lines.Answers) w) }
-        ensures stood { OnOk result (H.faults to.new ≡ H.faults to.old) }
-        ensures cause { IfErr result (λ e. SimFaultCause e (H.faults to.old) (H.faults to.new)) }
-        ensures counted { H.faults to.old ≤ H.faults to.new }
+        ensures faults { CountsFaults result (H.faults to.old) (H.faults to.new) }
     {
         if !self.vehicle.dialling() {
             return self.tell_nothing(alloc, to);
@@ -238,9 +204,7 @@ impl Channel {
         ensures step { (w : model.World) → StandsNow self.old w →
             CameNow (H.grew to.old to.new) (H.partly to.old to.new) result self.new
             (lines.or_nothing (lines.when (is_reachable w.vehicle) lines.CallsBack) w) }
-        ensures stood { OnOk result (H.faults to.new ≡ H.faults to.old) }
-        ensures cause { IfErr result (λ e. SimFaultCause e (H.faults to.old) (H.faults to.new)) }
-        ensures counted { H.faults to.old ≤ H.faults to.new }
+        ensures faults { CountsFaults result (H.faults to.old) (H.faults to.new) }
     {
         if !self.vehicle.reachable() {
             return self.tell_nothing(alloc, to);
@@ -289,9 +253,7 @@ impl Channel {
             (lines.or_nothing (if model.point_is_in number w then
             lines.hands_one lines.HandsUp number (slice_get (lines.sent_up (model.call_of number w.calls)) place)
             else []) w) }
-        ensures stood { OnOk result (H.faults to.new ≡ H.faults to.old) }
-        ensures cause { IfErr result (λ e. SimFaultCause e (H.faults to.old) (H.faults to.new)) }
-        ensures counted { H.faults to.old ≤ H.faults to.new }
+        ensures faults { CountsFaults result (H.faults to.old) (H.faults to.new) }
         ensures still { self.old.passed ≡ self.old.tick → moments.new ≡ moments.old }
     {
         match self.frame_up(number, place) {
@@ -319,9 +281,7 @@ impl Channel {
             (lines.or_nothing (if model.vehicle_is_in number w then
             lines.hands_one lines.HandsDown number (slice_get (lines.sent_down (model.call_of number w.calls)) place)
             else []) w) }
-        ensures stood { OnOk result (H.faults to.new ≡ H.faults to.old) }
-        ensures cause { IfErr result (λ e. SimFaultCause e (H.faults to.old) (H.faults to.new)) }
-        ensures counted { H.faults to.old ≤ H.faults to.new }
+        ensures faults { CountsFaults result (H.faults to.old) (H.faults to.new) }
         ensures still { self.old.passed ≡ self.old.tick → moments.new ≡ moments.old }
     {
         match self.frame_down(number, place) {

@@ -1,7 +1,7 @@
 //! What the flows hand over at a tick.
 
 use super::Channel;
-use crate::calls::{Due, all_due, catch_session_up};
+use crate::calls::{Due, all_due, call_due, catch_session_up, find};
 use crate::fault::SimFault;
 use crate::kept::KeptFrame;
 use crate::room::{Given, Room};
@@ -13,35 +13,45 @@ use std::sync::ledger::Ledger;
 use trace_model::Listener;
 
 impl Channel {
-    ghost use Rattle.std.specs.Prelude.{true, false, ◌≡◌, ◌+◌, ◌<◌, ◌≤◌, ℕ, List, [], ◌∷◌, Some, None, map, OnOk, OnErr, IfOk, IfErr, ◌^◌};
+    ghost use Rattle.std.specs.Prelude.{true, false, ◌≡◌, ◌+◌, ◌++◌, ◌<◌, ◌≤◌, ℕ, List, [], ◌∷◌, Some, None, map, OnOk, OnErr, IfOk, IfErr, ◌^◌, if◌then◌else◌};
     ghost use Rattle.channel_sim.specs.World as model;
-    ghost use Rattle.channel_sim.specs.SimFault.{SimFaultCause};
-    ghost use Rattle.channel_sim.specs.inner.Acts.{due_of, flows_by};
-    ghost use Rattle.channel_sim.specs.inner.Lag.{Came, StandsAt};
-    ghost use Rattle.channel_sim.specs.inner.Passes.{passes_of};
-    ghost use Rattle.channel_sim.specs.inner.Sends.{full};
+    ghost use Rattle.channel_sim.specs.SimFault.{CountsFaults};
+    ghost use Rattle.channel_sim.specs.inner.Acts.{flows_by};
+    ghost use Rattle.channel_sim.specs.Handing.{due_in_call, due_of, flow_way, full, hands_way, sent_way};
+    ghost use Rattle.channel_sim.specs.Lag.{CameAt, StandsAt};
+    ghost use Rattle.channel_sim.specs.Passes.{passes_of};
 
-    /// The frames that the flow up hands over at this tick, in place of what stood there.
-    fn due_up(&self, due: &mut Vec<Due>, near: &mut usize) -> Result<(), AllocError>
-        ensures { (ahead floor : ℕ) (w : model.World) → StandsAt ahead floor (λ c. ahead) self.now w → OnOk result
-            (map due_of due.new.items ≡ model.due_in (λ k. k.up) w.up_flow w.tick w.calls) }
+    /// After how many ticks the flow up, or down, hands a frame over; 0 is off.
+    pub(crate) fn flow(&self, up: bool) -> u32
+        ensures { result ≡ (if up then self.now.up_flow else self.now.down_flow) }
     {
-        all_due(self.calls.all(), true, self.up_flow, self.tick, due, near)
+        if up { self.up_flow } else { self.down_flow }
     }
 
-    /// The frames that the flow down hands over at this tick, in place of what stood there.
-    fn due_down(&self, due: &mut Vec<Due>, near: &mut usize) -> Result<(), AllocError>
+    /// The frames that the flow up, or down, hands over at this tick, in place of what stood there.
+    fn list_due(&self, up: bool, due: &mut Vec<Due>, near: &mut usize) -> Result<(), AllocError>
         ensures { (ahead floor : ℕ) (w : model.World) → StandsAt ahead floor (λ c. ahead) self.now w → OnOk result
-            (map due_of due.new.items ≡ model.due_in (λ k. k.down) w.down_flow w.tick w.calls) }
+            (map due_of due.new.items ≡ model.due_in (sent_way up) (flow_way up w) w.tick w.calls) }
     {
-        all_due(
-            self.calls.all(),
-            false,
-            self.down_flow,
-            self.tick,
-            due,
-            near,
-        )
+        all_due(self.calls.all(), up, self.flow(up), self.tick, due, near)
+    }
+
+    /// Adds the frames of a call that its flow up, or down, hands over at this tick.
+    pub(crate) fn call_due(
+        &self,
+        number: u32,
+        up: bool,
+        due: &mut Vec<Due>,
+        near: &mut usize,
+    ) -> Result<(), AllocError>
+        ensures { (ahead floor : ℕ) (clock : ℕ → ℕ) (w : model.World) → StandsAt ahead floor clock self.now w →
+            OnOk result (map due_of due.new.items ≡ map due_of due.old.items ++ due_in_call up number w) }
+    {
+        let calls = self.calls.all();
+        match find(calls, number) {
+            Some(i) => call_due(due, &calls[i], up, self.flow(up), self.tick, near),
+            None => Ok(()),
+        }
     }
 
     /// Hands a frame to the point's session of a call, if it is there.
@@ -56,12 +66,10 @@ impl Channel {
     ) -> Result<(), SimFault>
         ensures step { (ahead floor : ℕ) (w : model.World) → StandsAt ahead floor (λ c. ahead) self.old w →
             ahead ≡ self.old.tick →
-            Came (H.grew to.old to.new) (H.partly to.old to.new) result ahead floor (λ c. ahead) self.new
+            CameAt (H.grew to.old to.new) (H.partly to.old to.new) result ahead floor (λ c. ahead) self.new
             (model.hands_up (record { call = number; frame = full frame.now }) w) }
         ensures tick { self.new.tick ≡ self.old.tick }
-        ensures stood { OnOk result (H.faults to.new ≡ H.faults to.old) }
-        ensures cause { IfErr result (λ e. SimFaultCause e (H.faults to.old) (H.faults to.new)) }
-        ensures counted { H.faults to.old ≤ H.faults to.new }
+        ensures faults { CountsFaults result (H.faults to.old) (H.faults to.new) }
         ensures passes { (ahead floor : ℕ) (w : model.World) → StandsAt ahead floor (λ c. ahead) self.old w →
             ahead ≡ self.old.tick →
             self.old.tick < floor + 2 ^ 32 → OnOk result (moments.new ≤ moments.old +
@@ -84,12 +92,10 @@ impl Channel {
     ) -> Result<(), SimFault>
         ensures step { (ahead floor : ℕ) (w : model.World) → StandsAt ahead floor (λ c. ahead) self.old w →
             ahead ≡ self.old.tick →
-            Came (H.grew to.old to.new) (H.partly to.old to.new) result ahead floor (λ c. ahead) self.new
+            CameAt (H.grew to.old to.new) (H.partly to.old to.new) result ahead floor (λ c. ahead) self.new
             (model.hands_down (record { call = number; frame = full frame.now }) w) }
         ensures tick { self.new.tick ≡ self.old.tick }
-        ensures stood { OnOk result (H.faults to.new ≡ H.faults to.old) }
-        ensures cause { IfErr result (λ e. SimFaultCause e (H.faults to.old) (H.faults to.new)) }
-        ensures counted { H.faults to.old ≤ H.faults to.new }
+        ensures faults { CountsFaults result (H.faults to.old) (H.faults to.new) }
         ensures passes { (ahead floor : ℕ) (w : model.World) → StandsAt ahead floor (λ c. ahead) self.old w →
             ahead ≡ self.old.tick →
             self.old.tick < floor + 2 ^ 32 → OnOk result (moments.new ≤ moments.old +
@@ -103,10 +109,39 @@ impl Channel {
         self.vehicle_performs(alloc, &event, given, to, moments)
     }
 
-    /// Hands over these frames, which were sent up.
-    fn each_up<H: Listener, L: Ledger>(
+    /// Hands a frame that is due to the point's session of its call, or to the vehicle, if that end is in this call.
+    pub(crate) fn hand<H: Listener, L: Ledger>(
         &mut self,
         alloc: Global,
+        up: bool,
+        due: &Due,
+        given: &mut Given,
+        to: &mut H,
+        moments: &mut Steps<L>,
+    ) -> Result<(), SimFault>
+        ensures step { (ahead floor : ℕ) (w : model.World) → StandsAt ahead floor (λ c. ahead) self.old w →
+            ahead ≡ self.old.tick →
+            CameAt (H.grew to.old to.new) (H.partly to.old to.new) result ahead floor (λ c. ahead) self.new
+            (hands_way up (due_of due.now) w) }
+        ensures tick { self.new.tick ≡ self.old.tick }
+        ensures faults { CountsFaults result (H.faults to.old) (H.faults to.new) }
+        ensures passes { (ahead floor : ℕ) (w : model.World) → StandsAt ahead floor (λ c. ahead) self.old w →
+            ahead ≡ self.old.tick →
+            self.old.tick < floor + 2 ^ 32 → OnOk result (moments.new ≤ moments.old +
+            passes_of (hands_way up (due_of due.now) w)) }
+    {
+        if up {
+            self.hand_up(alloc, due.call, &due.frame, given, to, moments)
+        } else {
+            self.hand_down(alloc, due.call, &due.frame, given, to, moments)
+        }
+    }
+
+    /// Hands over these frames, which were sent up, or down.
+    fn hand_each<H: Listener, L: Ledger>(
+        &mut self,
+        alloc: Global,
+        up: bool,
         due: &[Due],
         given: &mut Given,
         to: &mut H,
@@ -114,97 +149,19 @@ impl Channel {
     ) -> Result<(), SimFault>
         ensures step { (ahead floor : ℕ) (w : model.World) → StandsAt ahead floor (λ c. ahead) self.old w →
             ahead ≡ self.old.tick →
-            Came (H.grew to.old to.new) (H.partly to.old to.new) result ahead floor (λ c. ahead) self.new
-            (model.each model.hands_up (map due_of due.now) w) }
+            CameAt (H.grew to.old to.new) (H.partly to.old to.new) result ahead floor (λ c. ahead) self.new
+            (model.each (hands_way up) (map due_of due.now) w) }
         ensures tick { self.new.tick ≡ self.old.tick }
-        ensures stood { OnOk result (H.faults to.new ≡ H.faults to.old) }
-        ensures cause { IfErr result (λ e. SimFaultCause e (H.faults to.old) (H.faults to.new)) }
-        ensures counted { H.faults to.old ≤ H.faults to.new }
+        ensures faults { CountsFaults result (H.faults to.old) (H.faults to.new) }
         ensures passes { (ahead floor : ℕ) (w : model.World) → StandsAt ahead floor (λ c. ahead) self.old w →
             ahead ≡ self.old.tick →
             self.old.tick < floor + 2 ^ 32 → OnOk result (moments.new ≤ moments.old + passes_of
-            (model.each model.hands_up (map due_of due.now) w)) }
+            (model.each (hands_way up) (map due_of due.now) w)) }
     {
         for one in due {
-            self.hand_up(alloc, one.call, &one.frame, given, to, moments)?;
+            self.hand(alloc, up, one, given, to, moments)?;
         }
         Ok(())
-    }
-
-    /// Hands over what was sent up so many ticks ago.
-    fn flows_up<H: Listener, L: Ledger>(
-        &mut self,
-        alloc: Global,
-        room: &mut Room,
-        to: &mut H,
-        moments: &mut Steps<L>,
-    ) -> Result<(), SimFault>
-        ensures step { (ahead floor : ℕ) (w : model.World) → StandsAt ahead floor (λ c. ahead) self.old w →
-            ahead ≡ self.old.tick →
-            Came (H.grew to.old to.new) (H.partly to.old to.new) result ahead floor (λ c. ahead) self.new
-            (model.flows_up w) }
-        ensures tick { self.new.tick ≡ self.old.tick }
-        ensures stood { OnOk result (H.faults to.new ≡ H.faults to.old) }
-        ensures cause { IfErr result (λ e. SimFaultCause e (H.faults to.old) (H.faults to.new)) }
-        ensures counted { H.faults to.old ≤ H.faults to.new }
-        ensures passes { (ahead floor : ℕ) (w : model.World) → StandsAt ahead floor (λ c. ahead) self.old w →
-            ahead ≡ self.old.tick →
-            self.old.tick < floor + 2 ^ 32 → OnOk result (moments.new ≤ moments.old + passes_of (model.flows_up w)) }
-    {
-        self.due_up(&mut room.due, &mut room.near.up)?;
-        self.each_up(alloc, &room.due, &mut room.given, to, moments)
-    }
-
-    /// Hands over these frames, which were sent down.
-    fn each_down<H: Listener, L: Ledger>(
-        &mut self,
-        alloc: Global,
-        due: &[Due],
-        given: &mut Given,
-        to: &mut H,
-        moments: &mut Steps<L>,
-    ) -> Result<(), SimFault>
-        ensures step { (ahead floor : ℕ) (w : model.World) → StandsAt ahead floor (λ c. ahead) self.old w →
-            ahead ≡ self.old.tick →
-            Came (H.grew to.old to.new) (H.partly to.old to.new) result ahead floor (λ c. ahead) self.new
-            (model.each model.hands_down (map due_of due.now) w) }
-        ensures tick { self.new.tick ≡ self.old.tick }
-        ensures stood { OnOk result (H.faults to.new ≡ H.faults to.old) }
-        ensures cause { IfErr result (λ e. SimFaultCause e (H.faults to.old) (H.faults to.new)) }
-        ensures counted { H.faults to.old ≤ H.faults to.new }
-        ensures passes { (ahead floor : ℕ) (w : model.World) → StandsAt ahead floor (λ c. ahead) self.old w →
-            ahead ≡ self.old.tick →
-            self.old.tick < floor + 2 ^ 32 → OnOk result (moments.new ≤ moments.old + passes_of
-            (model.each model.hands_down (map due_of due.now) w)) }
-    {
-        for one in due {
-            self.hand_down(alloc, one.call, &one.frame, given, to, moments)?;
-        }
-        Ok(())
-    }
-
-    /// Hands over what was sent down so many ticks ago.
-    fn flows_down<H: Listener, L: Ledger>(
-        &mut self,
-        alloc: Global,
-        room: &mut Room,
-        to: &mut H,
-        moments: &mut Steps<L>,
-    ) -> Result<(), SimFault>
-        ensures step { (ahead floor : ℕ) (w : model.World) → StandsAt ahead floor (λ c. ahead) self.old w →
-            ahead ≡ self.old.tick →
-            Came (H.grew to.old to.new) (H.partly to.old to.new) result ahead floor (λ c. ahead) self.new
-            (model.flows_down w) }
-        ensures tick { self.new.tick ≡ self.old.tick }
-        ensures stood { OnOk result (H.faults to.new ≡ H.faults to.old) }
-        ensures cause { IfErr result (λ e. SimFaultCause e (H.faults to.old) (H.faults to.new)) }
-        ensures counted { H.faults to.old ≤ H.faults to.new }
-        ensures passes { (ahead floor : ℕ) (w : model.World) → StandsAt ahead floor (λ c. ahead) self.old w →
-            ahead ≡ self.old.tick →
-            self.old.tick < floor + 2 ^ 32 → OnOk result (moments.new ≤ moments.old + passes_of (model.flows_down w)) }
-    {
-        self.due_down(&mut room.due, &mut room.near.down)?;
-        self.each_down(alloc, &room.due, &mut room.given, to, moments)
     }
 
     /// Hands over what was sent up, or down, so many ticks ago.
@@ -218,20 +175,17 @@ impl Channel {
     ) -> Result<(), SimFault>
         ensures step { (ahead floor : ℕ) (w : model.World) → StandsAt ahead floor (λ c. ahead) self.old w →
             ahead ≡ self.old.tick →
-            Came (H.grew to.old to.new) (H.partly to.old to.new) result ahead floor (λ c. ahead) self.new
+            CameAt (H.grew to.old to.new) (H.partly to.old to.new) result ahead floor (λ c. ahead) self.new
             (flows_by up w) }
         ensures tick { self.new.tick ≡ self.old.tick }
-        ensures stood { OnOk result (H.faults to.new ≡ H.faults to.old) }
-        ensures cause { IfErr result (λ e. SimFaultCause e (H.faults to.old) (H.faults to.new)) }
-        ensures counted { H.faults to.old ≤ H.faults to.new }
+        ensures faults { CountsFaults result (H.faults to.old) (H.faults to.new) }
         ensures passes { (ahead floor : ℕ) (w : model.World) → StandsAt ahead floor (λ c. ahead) self.old w →
             ahead ≡ self.old.tick → self.old.tick < floor + 2 ^ 32 →
             OnOk result (moments.new ≤ moments.old + passes_of (flows_by up w)) }
     {
-        if up {
-            self.flows_up(alloc, room, to, moments)
-        } else {
-            self.flows_down(alloc, room, to, moments)
-        }
+        let mut near = room.near.at(up);
+        self.list_due(up, &mut room.due, &mut near)?;
+        room.near.set(up, near);
+        self.hand_each(alloc, up, &room.due, &mut room.given, to, moments)
     }
 }

@@ -1,19 +1,16 @@
 //! Elapsed time: from one tick at which something happens to the next.
 ghost use Rattle.std.specs.Prelude.{◌≡◌, ◌≤◌, ◌+◌, ◌-◌, ◌^◌, ◌<◌, ℕ, Some, None, IfSome};
-ghost use Rattle.channel_sim.specs.inner.Quiet.{FramesRest, CallRests};
+ghost use Rattle.channel_sim.specs.Quiet.{FramesRest, CallRests};
 ghost use Rattle.channel_sim.specs.Tidy.{AreFrom, ticks_of};
-ghost use Rattle.ivs_machine.specs.IvsStands.{IvsStandsFor};
-ghost use Rattle.ivs_machine.specs.Vehicle.{Vehicle};
-ghost use Rattle.ivs_machine.specs.VehicleRows as vehicle;
-ghost use Rattle.channel_sim.specs.inner.Lag.{VehicleLags, CallLags};
+ghost use Rattle.channel_sim.specs.Lag.{CallLags};
 ghost use Rattle.channel_sim.specs.World as model;
 
 use super::Channel;
-use crate::calls::{Call, act_session, catch_each_up, list_numbers, ticks_at_once};
+use crate::calls::{Call, act_session, catch_each_up, list_numbers};
 use crate::fault::SimFault;
+use crate::quiet::{pass_vehicle_quietly, vehicle_due_at};
 use crate::room::{Given, Near, Room};
 use crate::sends::Sends;
-use ivs_machine::Ivs;
 use link_frames::{Items, Steps};
 use std::alloc::Global;
 use std::sync::ledger::Ledger;
@@ -75,58 +72,20 @@ fn first_of(next: &Next) -> u64
     next.acts.min(next.up).min(next.down)
 }
 
-/// Passes the vehicle by ticks in which it does nothing. `items` is room.
-fn pass_vehicle_quietly<L: Ledger>(
-    ivs: &mut Ivs,
-    lag: u64,
-    items: &mut Items,
-    moments: &mut Steps<L>,
-)
-    ensures lags { (v : Vehicle) → VehicleLags lag ivs.old v → VehicleLags 0 ivs.new v }
-    ensures passes { (v : Vehicle) → VehicleLags lag ivs.old v → lag < 2 ^ 32 → moments.new ≤ moments.old + 1 }
-    ensures still { lag ≡ 0 → moments.new ≡ moments.old }
-{
-    let mut left = lag;
-    while left > 0 {
-        let n = ticks_at_once(left, ivs.due());
-        if n == 0 {
-            return;
-        }
-        ivs.pass_into(n, moments, items);
-        left -= u64::from(n);
-    }
-}
-
-/// What is due at the vehicle, if that is not later than so many ticks.
-fn vehicle_due_at(ivs: &Ivs, lag: u64) -> Option<u32>
-    ensures some { IfSome result (λ due. (0 < due) × (due ≤ lag)) }
-    ensures due { (v : Vehicle) → IvsStandsFor ivs.now v → IfSome result (λ due. vehicle.due_of v ≡ Some due) }
-    ensures later { (v : Vehicle) → IvsStandsFor ivs.now v → result ≡ None →
-        IfSome (vehicle.due_of v) (λ due. lag < due) }
-{
-    let due = ivs.due()?;
-    if due > 0 && u64::from(due) <= lag {
-        Some(due)
-    } else {
-        None
-    }
-}
-
 impl Channel {
     ghost use Rattle.std.specs.Option.{is_some};
     ghost use Rattle.ivs_machine.specs.IvsStands.{IvsStandsFor};
     ghost use Rattle.ivs_machine.specs.Vehicle.{Vehicle};
     ghost use Rattle.ivs_machine.specs.VehicleRows as vehicle;
-    ghost use Rattle.channel_sim.specs.inner.Lag.{VehicleLags};
+    ghost use Rattle.channel_sim.specs.Lag.{VehicleLags, AreSameBut, CameAt, CameNow, StandsAt, StandsNow, clock_of};
     ghost use Rattle.std.specs.Prelude.{true, false, IfSome, ◌≡◌, ◌+◌, ◌-◌, ◌^◌, ◌<◌, ◌≤◌, ℕ, List, [], ◌∷◌, Some, None, map, OnOk, OnErr, IfOk, IfErr, length};
     ghost use Rattle.channel_sim.specs.World as model;
-    ghost use Rattle.channel_sim.specs.SimFault.{SimFaultCause};
-    ghost use Rattle.channel_sim.specs.inner.Acts.{AreSameBut, flows_by};
+    ghost use Rattle.channel_sim.specs.SimFault.{CountsFaults};
+    ghost use Rattle.channel_sim.specs.inner.Acts.{flows_by};
     ghost use Rattle.channel_sim.specs.inner.Asleep.{IsStirringPart};
-    ghost use Rattle.channel_sim.specs.inner.Lag.{Came, CameNow, StandsAt, StandsNow, clock_of};
-    ghost use Rattle.channel_sim.specs.inner.Quiet.{QuietFor, EndsRest, UpRests, DownRests};
+    ghost use Rattle.channel_sim.specs.Quiet.{QuietFor, EndsRest, UpRests, DownRests};
     ghost use Rattle.channel_sim.specs.Tidy.{AreAbove};
-    ghost use Rattle.channel_sim.specs.inner.Passes.{passes_of};
+    ghost use Rattle.channel_sim.specs.Passes.{passes_of};
 
     /// Passes the vehicle up to this tick, up to which it does nothing. `items` is room.
     pub(super) fn catch_vehicle_up<L: Ledger>(&mut self, items: &mut Items, moments: &mut Steps<L>)
@@ -162,6 +121,7 @@ impl Channel {
 
     /// The next ticks at which something happens, each at most `end`.
     fn next_moment(&self, near: &Near, end: u64) -> Next
+        ensures most { result.acts ≤ end }
         ensures acts { (floor n : ℕ) (w : model.World) → StandsAt self.now.tick floor (λ c. self.now.tick) self.now w →
             self.now.tick + n < result.acts → EndsRest n w }
         ensures up { (floor n : ℕ) (w : model.World) → StandsAt self.now.tick floor (λ c. self.now.tick) self.now w →
@@ -179,6 +139,15 @@ impl Channel {
             down = hands_at(&call.down, near.down, self.down_flow, self.tick, down);
         }
         Next { acts, up, down }
+    }
+
+    /// The next tick at which something happens; at most `end`.
+    pub(crate) fn next_tick(&self, near: &Near, end: u64) -> u64
+        ensures most { result ≤ end }
+        ensures quiet { (floor n : ℕ) (w : model.World) → StandsAt self.now.tick floor (λ c. self.now.tick) self.now w →
+            self.now.tick + n < result → QuietFor n w }
+    {
+        first_of(&self.next_moment(near, end))
     }
 
     /// Passes the vehicle up to this tick, if it does something at it: whether it did.
@@ -208,7 +177,7 @@ impl Channel {
     }
 
     /// The vehicle's unit tick.
-    fn vehicle_passes<H: Listener, L: Ledger>(
+    pub(crate) fn vehicle_passes<H: Listener, L: Ledger>(
         &mut self,
         alloc: Global,
         given: &mut Given,
@@ -217,12 +186,10 @@ impl Channel {
     ) -> Result<(), SimFault>
         ensures step { (floor before : ℕ) (w : model.World) → StandsAt before floor (λ c. before) self.old w →
             before + 1 ≡ self.old.tick →
-            Came (H.grew to.old to.new) (H.partly to.old to.new) result self.old.tick floor (λ c. before) self.new
+            CameAt (H.grew to.old to.new) (H.partly to.old to.new) result self.old.tick floor (λ c. before) self.new
             (model.vehicle_passes w) }
         ensures tick { self.new.tick ≡ self.old.tick }
-        ensures stood { OnOk result (H.faults to.new ≡ H.faults to.old) }
-        ensures cause { IfErr result (λ e. SimFaultCause e (H.faults to.old) (H.faults to.new)) }
-        ensures counted { H.faults to.old ≤ H.faults to.new }
+        ensures faults { CountsFaults result (H.faults to.old) (H.faults to.new) }
         ensures passes { (floor before : ℕ) (w : model.World) → StandsAt before floor (λ c. before) self.old w →
             before + 1 ≡ self.old.tick → self.old.tick < floor + 2 ^ 32 → OnOk result
             (moments.new ≤ moments.old + passes_of (model.vehicle_passes w)) }
@@ -237,7 +204,7 @@ impl Channel {
     }
 
     /// The unit tick of the session of a call.
-    fn session_passes<H: Listener, L: Ledger>(
+    pub(crate) fn session_passes<H: Listener, L: Ledger>(
         &mut self,
         alloc: Global,
         number: u32,
@@ -248,12 +215,10 @@ impl Channel {
         ensures step { (ahead floor : ℕ) (before after : ℕ → ℕ) (w : model.World) →
             StandsAt ahead floor before self.old w →
             ahead ≡ self.old.tick → before number + 1 ≡ ahead → after number ≡ ahead → AreSameBut number before after →
-            Came (H.grew to.old to.new) (H.partly to.old to.new) result ahead floor after self.new
+            CameAt (H.grew to.old to.new) (H.partly to.old to.new) result ahead floor after self.new
             (model.session_passes number w) }
         ensures tick { self.new.tick ≡ self.old.tick }
-        ensures stood { OnOk result (H.faults to.new ≡ H.faults to.old) }
-        ensures cause { IfErr result (λ e. SimFaultCause e (H.faults to.old) (H.faults to.new)) }
-        ensures counted { H.faults to.old ≤ H.faults to.new }
+        ensures faults { CountsFaults result (H.faults to.old) (H.faults to.new) }
         ensures passes { (ahead floor : ℕ) (before after : ℕ → ℕ) (w : model.World) →
             StandsAt ahead floor before self.old w →
             ahead ≡ self.old.tick → before number + 1 ≡ ahead → after number ≡ ahead → AreSameBut number before after →
@@ -280,12 +245,10 @@ impl Channel {
         ensures step { (ahead floor before : ℕ) (w : model.World) →
             StandsAt ahead floor (clock_of before numbers.now) self.old w →
             ahead ≡ self.old.tick → before + 1 ≡ ahead → AreAbove 0 numbers.now →
-            Came (H.grew to.old to.new) (H.partly to.old to.new) result ahead floor (λ c. ahead) self.new
+            CameAt (H.grew to.old to.new) (H.partly to.old to.new) result ahead floor (λ c. ahead) self.new
             (model.each model.session_passes numbers.now w) }
         ensures tick { self.new.tick ≡ self.old.tick }
-        ensures stood { OnOk result (H.faults to.new ≡ H.faults to.old) }
-        ensures cause { IfErr result (λ e. SimFaultCause e (H.faults to.old) (H.faults to.new)) }
-        ensures counted { H.faults to.old ≤ H.faults to.new }
+        ensures faults { CountsFaults result (H.faults to.old) (H.faults to.new) }
         ensures passes { (ahead floor before : ℕ) (w : model.World) →
             StandsAt ahead floor (clock_of before numbers.now) self.old w →
             ahead ≡ self.old.tick → before + 1 ≡ ahead → AreAbove 0 numbers.now →
@@ -308,12 +271,10 @@ impl Channel {
     ) -> Result<(), SimFault>
         ensures step { (ahead floor before : ℕ) (w : model.World) → StandsAt ahead floor (λ c. before) self.old w →
             ahead ≡ self.old.tick → before + 1 ≡ ahead →
-            Came (H.grew to.old to.new) (H.partly to.old to.new) result ahead floor (λ c. ahead) self.new
+            CameAt (H.grew to.old to.new) (H.partly to.old to.new) result ahead floor (λ c. ahead) self.new
             (model.sessions_pass w) }
         ensures tick { self.new.tick ≡ self.old.tick }
-        ensures stood { OnOk result (H.faults to.new ≡ H.faults to.old) }
-        ensures cause { IfErr result (λ e. SimFaultCause e (H.faults to.old) (H.faults to.new)) }
-        ensures counted { H.faults to.old ≤ H.faults to.new }
+        ensures faults { CountsFaults result (H.faults to.old) (H.faults to.new) }
         ensures passes { (ahead floor before : ℕ) (w : model.World) → StandsAt ahead floor (λ c. before) self.old w →
             ahead ≡ self.old.tick → before + 1 ≡ ahead → self.old.tick < floor + 2 ^ 32 → OnOk result
             (moments.new ≤ moments.old + passes_of (model.sessions_pass w)) }
@@ -333,12 +294,10 @@ impl Channel {
     ) -> Result<(), SimFault>
         ensures step { (floor before : ℕ) (w : model.World) → StandsAt before floor (λ c. before) self.old w →
             before + 1 ≡ self.old.tick → (self.old.tick < next → EndsRest 1 w) →
-            Came (H.grew to.old to.new) (H.partly to.old to.new) result self.old.tick floor (λ c. self.old.tick)
+            CameAt (H.grew to.old to.new) (H.partly to.old to.new) result self.old.tick floor (λ c. self.old.tick)
             self.new (model.and_then (model.vehicle_passes w) model.sessions_pass) }
         ensures tick { self.new.tick ≡ self.old.tick }
-        ensures stood { OnOk result (H.faults to.new ≡ H.faults to.old) }
-        ensures cause { IfErr result (λ e. SimFaultCause e (H.faults to.old) (H.faults to.new)) }
-        ensures counted { H.faults to.old ≤ H.faults to.new }
+        ensures faults { CountsFaults result (H.faults to.old) (H.faults to.new) }
         ensures passes { (floor before : ℕ) (w : model.World) → StandsAt before floor (λ c. before) self.old w →
             before + 1 ≡ self.old.tick → self.old.tick < floor + 2 ^ 32 → OnOk result
             (moments.new ≤ moments.old + passes_of (model.and_then (model.vehicle_passes w) model.sessions_pass)) }
@@ -362,12 +321,10 @@ impl Channel {
     ) -> Result<(), SimFault>
         ensures step { (ahead floor : ℕ) (w : model.World) → StandsAt ahead floor (λ c. ahead) self.old w →
             ahead ≡ self.old.tick → (self.old.tick < next → flows_by up w ≡ model.quiet_step w) →
-            Came (H.grew to.old to.new) (H.partly to.old to.new) result ahead floor (λ c. ahead) self.new
+            CameAt (H.grew to.old to.new) (H.partly to.old to.new) result ahead floor (λ c. ahead) self.new
             (flows_by up w) }
         ensures tick { self.new.tick ≡ self.old.tick }
-        ensures stood { OnOk result (H.faults to.new ≡ H.faults to.old) }
-        ensures cause { IfErr result (λ e. SimFaultCause e (H.faults to.old) (H.faults to.new)) }
-        ensures counted { H.faults to.old ≤ H.faults to.new }
+        ensures faults { CountsFaults result (H.faults to.old) (H.faults to.new) }
         ensures passes { (ahead floor : ℕ) (w : model.World) → StandsAt ahead floor (λ c. ahead) self.old w →
             ahead ≡ self.old.tick → self.old.tick < floor + 2 ^ 32 →
             OnOk result (moments.new ≤ moments.old + passes_of (flows_by up w)) }
@@ -392,12 +349,10 @@ impl Channel {
             self.old.tick + n + 1 ≡ tick → QuietFor n w →
             (tick < next.now.acts → EndsRest (n + 1) w) → (tick < next.now.up → UpRests (n + 1) w) →
             (tick < next.now.down → DownRests (n + 1) w) →
-            Came (H.grew to.old to.new) (H.partly to.old to.new) result tick floor (λ c. tick) self.new
+            CameAt (H.grew to.old to.new) (H.partly to.old to.new) result tick floor (λ c. tick) self.new
             (model.units (n + 1) w) }
         ensures tick { self.new.tick ≡ tick }
-        ensures stood { OnOk result (H.faults to.new ≡ H.faults to.old) }
-        ensures cause { IfErr result (λ e. SimFaultCause e (H.faults to.old) (H.faults to.new)) }
-        ensures counted { H.faults to.old ≤ H.faults to.new }
+        ensures faults { CountsFaults result (H.faults to.old) (H.faults to.new) }
         ensures passes { (floor n : ℕ) (w : model.World) → StandsAt self.old.tick floor
             (λ c. self.old.tick) self.old w →
             self.old.tick + n + 1 ≡ tick → QuietFor n w →
@@ -413,7 +368,7 @@ impl Channel {
     }
 
     /// Passes each end that lags up to this tick. `items` is room.
-    fn catch_all_up<L: Ledger>(&mut self, items: &mut Items, moments: &mut Steps<L>)
+    pub(crate) fn catch_all_up<L: Ledger>(&mut self, items: &mut Items, moments: &mut Steps<L>)
         ensures tick { self.new.tick ≡ self.old.tick }
         ensures caught { (floor : ℕ) (w : model.World) → StandsAt self.old.tick floor (λ c. self.old.tick) self.old w →
             StandsNow self.new w }
@@ -436,9 +391,7 @@ impl Channel {
         requires { self.old.tick + n < 2 ^ 64 }
         ensures step { (w : model.World) → StandsNow self.old w →
             CameNow (H.grew to.old to.new) (H.partly to.old to.new) result self.new (model.units n w) }
-        ensures stood { OnOk result (H.faults to.new ≡ H.faults to.old) }
-        ensures cause { IfErr result (λ e. SimFaultCause e (H.faults to.old) (H.faults to.new)) }
-        ensures counted { H.faults to.old ≤ H.faults to.new }
+        ensures faults { CountsFaults result (H.faults to.old) (H.faults to.new) }
         ensures passes { (w : model.World) → StandsNow self.old w → OnOk result
             (moments.new ≤ moments.old + (passes_of (model.units n w) + model.ends w)) }
     {

@@ -1,7 +1,7 @@
 use Rattle.std.proofs.Common.{◌<◌, length, not, ap, sym, ◌∙◌, subst, arith}
 use Rattle.std.specs.Option.{is_some}
 use Rattle.channel_sim.specs.World.{with_legs}
-use Rattle.channel_sim.specs.inner.Lag.{CallsLag}
+use Rattle.channel_sim.specs.Lag.{CallsLag}
 use Rattle.channel_sim.proofs.AsleepLemmas.{asleep_removed}
 use Rattle.channel_sim.proofs.CallsLemmas.{found_at, none_of}
 use Rattle.channel_sim.proofs.TidyLemmas.{dropped_at, session_has, all_still}

@@ -1,7 +1,7 @@
 use Rattle.std.proofs.Common.{◌≡◌, ◌+◌, [], ◌∷◌, ◌++◌, take, map, ap, sym, ◌∙◌, subst}
 use Rattle.trace_model.specs.History.{told}
 use Rattle.channel_sim.specs.World.{carries}
-use Rattle.channel_sim.specs.inner.Lag.{CallsLag}
+use Rattle.channel_sim.specs.Lag.{CallsLag}
 use Rattle.channel_sim.specs.Tidy.{AreAbove}
 use Rattle.channel_sim.proofs.CallsLemmas.{all_carry, carried_numbers, carries_none}
 use Rattle.channel_sim.proofs.TellingLemmas.{told-take_more}

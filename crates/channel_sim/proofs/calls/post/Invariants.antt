@@ -1,7 +1,7 @@
 use Rattle.std.proofs.Common.{ℕ, List, take, map}
 use Rattle.trace_model.specs.History.{told}
 use Rattle.channel_sim.specs.World.{Call, carries}
-use Rattle.channel_sim.specs.inner.Lag.{CallsLag}
+use Rattle.channel_sim.specs.Lag.{CallsLag}
 use Rattle.channel_sim.specs.Tidy.{AreAbove, numbers_of}
 use Rattle.channel_sim.proofs.calls.post.Given as goal
 

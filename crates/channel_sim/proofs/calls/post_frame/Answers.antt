@@ -3,7 +3,7 @@ use Rattle.std.proofs.Math.ListN.{set}
 use Rattle.trace_model.specs.History.{Sent}
 use Rattle.channel_sim.specs.World.{carries}
 use Rattle.channel_sim.specs.inner.Acts.{pushed}
-use Rattle.channel_sim.specs.inner.Lag.{CallsLag}
+use Rattle.channel_sim.specs.Lag.{CallsLag}
 use Rattle.channel_sim.proofs.CallsLemmas.{found_at, posted_at, posted_elsewhere, one_sent, on_ok}
 use Rattle.channel_sim.proofs.calls.post_frame.Goals as goal
 

@@ -1,26 +1,22 @@
-use Rattle.std.proofs.Common.{◌<◌, ◌+◌, ◌-◌, ◌/◌, length, sym, subst, arith, add-one, take}
-use Rattle.std.specs.List.{AllByRecursion}
-use Rattle.channel_sim.proofs.TickLemmas.{ticks, low_part, high_part}
+use Rattle.std.proofs.Common.{rules, of_calls, ◌≡◌, ◌≤◌, ◌-◌, ltb, true, false, length, length-drop, take, drop, subst, arith}
+use Rattle.std.proofs.lemmas.List.Sorted.{IsPartitionPoint-from_clause, IsPartitionedBy-ltb, IsNonDecreasingBy-drop, IsNonDecreasingBy-take}
+use Rattle.std.specs.List.Sorted.{IsPartitionedBy, IsPartitionPoint}
+use Rattle.channel_sim.specs.declared.sends.KeptSent.{KeptSent}
+use Rattle.channel_sim.proofs.StepLemmas.{take_all}
+use Rattle.channel_sim.proofs.TickLemmas.{never_fall, parted}
 use Rattle.channel_sim.proofs.sends.search_place.Goals as goal
 
-pub loop-low-preserved-then-frames-middle : goal.loop-low-preserved-then-frames-middle
-loop-low-preserved-then-frames-middle c =
-    let middle = c.loop-low.low + (c.loop-low.high - c.loop-low.low) / 2 in
-    let inside : middle < length c.args.frames.now = omega (arith, c.loop-low.invariant.inside, c.loop-low-test.true) in
-    record {
-      order = omega (arith, c.loop-low-test.true);
-      inside = c.loop-low.invariant.inside;
-      front = λ rise. subst (λ m. AllByRecursion (λ t. t < c.args.tick) (take m (ticks c.args.frames.now))) (sym (add-one middle)) (low_part 0 c.args.tick c.args.frames.now middle c.index-frames-middle.result rise inside c.if-frames-middle.true);
-      back = c.loop-low.invariant.back;
-    }
-
-pub loop-low-preserved : goal.loop-low-preserved
-loop-low-preserved c =
-    let middle = c.loop-low.low + (c.loop-low.high - c.loop-low.low) / 2 in
-    let inside : middle < length c.args.frames.now = omega (arith, c.loop-low.invariant.inside, c.loop-low-test.true) in
-    record {
-      order = omega arith;
-      inside = omega (arith, inside);
-      front = c.loop-low.invariant.front;
-      back = λ rise. high_part 0 c.args.tick c.args.frames.now middle c.index-frames-middle.result rise inside c.if-frames-middle.false;
-    }
+pub returns-clause-first : goal.returns-clause-first
+returns-clause-first c =
+    λ rise.
+    let fs = c.args.frames.now in
+    let begin = c.begin_at-begin.result in
+    let count = length fs - begin in
+    let part = take count (drop begin fs) in
+    let whole : part ≡ drop begin fs = take_all count (drop begin fs) (omega (arith, length-drop begin fs)) in
+    let ordered : IsPartitionedBy (λ (s : KeptSent). ltb s.tick c.args.tick) part =
+    IsPartitionedBy-ltb (λ (s : KeptSent). s.tick) part c.args.tick
+    (IsNonDecreasingBy-take (λ (s : KeptSent). s.tick) count (drop begin fs) (IsNonDecreasingBy-drop (λ (s : KeptSent). s.tick) begin fs (never_fall 0 fs rise))) in
+    let point = IsPartitionPoint-from_clause (λ (s : KeptSent). ltb s.tick c.args.tick) part c.partition_point.result c.partition_point.ensures.partitioned ordered (λ a r f k. search (rules, of_calls)) in
+    parted c.args.tick begin c.partition_point.result fs (c.begin_at-begin.ensures.front rise)
+    (subst (λ xs. IsPartitionPoint (λ (s : KeptSent). ltb s.tick c.args.tick ≡ true) (λ (s : KeptSent). ltb s.tick c.args.tick ≡ false) xs c.partition_point.result) whole point)

@@ -4,7 +4,7 @@ use Rattle.ivs_machine.specs.VehicleRows as vehicle
 use Rattle.psap_machine.specs.PointRows as point
 use Rattle.psap_machine.specs.SessionStands.{SessionStandsFor}
 use Rattle.channel_sim.specs.Lines as lines
-use Rattle.channel_sim.specs.inner.Lag.{CameNow}
+use Rattle.channel_sim.specs.Lag.{CameNow}
 use Rattle.channel_sim.proofs.LineLemmas.{one_deed, caught_now, nothing_came, is_out_reachable}
 use Rattle.channel_sim.proofs.VehicleLemmas.{vehicle_is}
 use Rattle.channel_sim.proofs.channel.Channel.callback.Goals as goal

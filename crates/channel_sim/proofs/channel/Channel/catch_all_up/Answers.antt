@@ -1,5 +1,5 @@
 use Rattle.std.proofs.Common.{◌≡◌, ◌≤◌, refl, ap, sym, ◌∙◌, subst, arith}
-use Rattle.channel_sim.specs.inner.Lag.{StandsAt}
+use Rattle.channel_sim.specs.Lag.{StandsAt}
 use Rattle.channel_sim.proofs.HandLemmas.{caught_all}
 use Rattle.channel_sim.proofs.channel.Channel.catch_all_up.Goals as goal
 

@@ -1,5 +1,5 @@
 use Rattle.std.proofs.Common.{◌≡◌, ◌≤◌, ◌-◌, subst, arith}
-use Rattle.channel_sim.specs.inner.Lag.{VehicleLags}
+use Rattle.channel_sim.specs.Lag.{VehicleLags}
 use Rattle.channel_sim.proofs.channel.Channel.catch_vehicle_up.Goals as goal
 
 pub returns-clause-passes : goal.returns-clause-passes

@@ -6,7 +6,7 @@ use Rattle.trace_model.specs.History.{told}
 use Rattle.channel_sim.specs.World as model
 use Rattle.channel_sim.specs.Lines as lines
 use Rattle.channel_sim.specs.inner.Acts.{IsReady}
-use Rattle.channel_sim.specs.inner.Lag.{Came, StandsAt}
+use Rattle.channel_sim.specs.Lag.{CameAt, StandsAt}
 use Rattle.channel_sim.proofs.ActLemmas.{came_after}
 use Rattle.channel_sim.proofs.ArrivalLemmas.{arrival_ready}
 use Rattle.channel_sim.proofs.LineLemmas.{came_now, caught_now}
@@ -57,7 +57,7 @@ returns-clause-step g c =
     let admitted = c.admit.ensures kept.tick came.new first.world.calls did.1.calls did.1.tidy.numbers arrives.stands arrives.live in
     let second = c.did-2.ensures.step kept.tick kept.tick clock first.world first.world.vehicle (model.seated (kept.drawn + 1) (Some came.new) first.world.calls)
     (seated_ready kept.tick kept.tick clock clock c.did.new.self (record c.did.new.self { calls = c.admit.new.calls }) first.world (kept.drawn + 1) (Some came.new) did.1 refl admitted) in
-    let Then = λ (z : model.Step). Came (g.H.Listener.grew c.did.new.to c.did-2.new.to) (g.H.Listener.partly c.did.new.to c.did-2.new.to) c.did-2.result kept.tick kept.tick clock c.did-2.new.self z in
+    let Then = λ (z : model.Step). CameAt (g.H.Listener.grew c.did.new.to c.did-2.new.to) (g.H.Listener.partly c.did.new.to c.did-2.new.to) c.did-2.result kept.tick kept.tick clock c.did-2.new.self z in
     let u = first.world in
     let then = subst (λ n. Then (model.did u came.items u.vehicle (model.seated n (model.left_by came.new) u.calls))) number
     (subst (λ o. Then (model.did u came.items u.vehicle (model.seated (kept.drawn + 1) o u.calls))) (sym arrives.live)

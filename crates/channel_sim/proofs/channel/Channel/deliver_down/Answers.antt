@@ -3,8 +3,8 @@ use Rattle.std.proofs.lemmas.Result.{err_from_is_err_and}
 use Rattle.ivs_machine.specs.VehicleRows as vehicle
 use Rattle.channel_sim.specs.World as model
 use Rattle.channel_sim.specs.Lines as lines
-use Rattle.channel_sim.specs.inner.Lag.{Came}
-use Rattle.channel_sim.specs.inner.Sends.{full}
+use Rattle.channel_sim.specs.Lag.{CameAt}
+use Rattle.channel_sim.specs.Handing.{full}
 use Rattle.channel_sim.proofs.HandLemmas.{came_alike_now, down_line}
 use Rattle.channel_sim.proofs.LineLemmas.{came_now, caught_now}
 use Rattle.channel_sim.proofs.channel.Channel.deliver_down.Goals as goal
@@ -22,7 +22,7 @@ returns-in_ok-kept-in-Some-clause-step g c =
     (model.performs (model.Hears (vehicle.Arrives frame)) w)
     (down_line c.args.number c.args.place w frame (c.in-Some.ensures w s))
     (came_now Grew Partly c.vehicle_performs.result kept.tick c.vehicle_performs.new.self (model.performs (model.Hears (vehicle.Arrives frame)) w) c.vehicle_performs.ensures.tick
-    (subst (λ f. Came Grew Partly c.vehicle_performs.result kept.tick kept.tick (λ d. kept.tick) c.vehicle_performs.new.self (model.performs (model.Hears (vehicle.Arrives f)) w)) (c.lend.ensures ∙ c.in_ok-kept-in-Some.ensures) did))
+    (subst (λ f. CameAt Grew Partly c.vehicle_performs.result kept.tick kept.tick (λ d. kept.tick) c.vehicle_performs.new.self (model.performs (model.Hears (vehicle.Arrives f)) w)) (c.lend.ensures ∙ c.in_ok-kept-in-Some.ensures) did))
 
 pub returns-in_err-kept-in-Some-clause-step : goal.returns-in_err-kept-in-Some-clause-step
 returns-in_err-kept-in-Some-clause-step g c =

@@ -3,8 +3,8 @@ use Rattle.std.proofs.lemmas.Result.{err_from_is_err_and}
 use Rattle.psap_machine.specs.PointRows as point
 use Rattle.channel_sim.specs.World as model
 use Rattle.channel_sim.specs.Lines as lines
-use Rattle.channel_sim.specs.inner.Lag.{Came}
-use Rattle.channel_sim.specs.inner.Sends.{full}
+use Rattle.channel_sim.specs.Lag.{CameAt}
+use Rattle.channel_sim.specs.Handing.{full}
 use Rattle.channel_sim.proofs.HandLemmas.{came_alike_now, up_line}
 use Rattle.channel_sim.proofs.LineLemmas.{came_now, all_caught}
 use Rattle.channel_sim.proofs.channel.Channel.deliver_up.Goals as goal
@@ -23,7 +23,7 @@ returns-in_ok-kept-in-Some-clause-step g c =
     (model.performs (model.Session c.args.number (point.Arrives frame)) w)
     (up_line c.args.number c.args.place w frame (c.in-Some.ensures w s))
     (came_now Grew Partly c.session_performs.result kept.tick c.session_performs.new.self (model.performs (model.Session c.args.number (point.Arrives frame)) w) c.session_performs.ensures.tick
-    (subst (λ f. Came Grew Partly c.session_performs.result kept.tick kept.tick (λ d. kept.tick) c.session_performs.new.self (model.performs (model.Session c.args.number (point.Arrives f)) w)) heard did))
+    (subst (λ f. CameAt Grew Partly c.session_performs.result kept.tick kept.tick (λ d. kept.tick) c.session_performs.new.self (model.performs (model.Session c.args.number (point.Arrives f)) w)) heard did))
 
 pub returns-in_err-kept-in-Some-clause-step : goal.returns-in_err-kept-in-Some-clause-step
 returns-in_err-kept-in-Some-clause-step g c =

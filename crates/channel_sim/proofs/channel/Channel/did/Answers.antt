@@ -3,7 +3,7 @@ use Rattle.std.proofs.lemmas.Result.{err_from_is_err_and}
 use Rattle.ivs_machine.specs.Vehicle.{vehicle_call}
 use Rattle.trace_model.specs.History.{told}
 use Rattle.channel_sim.specs.World.{carries}
-use Rattle.channel_sim.specs.inner.Lag.{CallsLag}
+use Rattle.channel_sim.specs.Lag.{CallsLag}
 use Rattle.channel_sim.specs.Tidy.{AreAbove}
 use Rattle.channel_sim.proofs.ActLemmas.{did_done}
 use Rattle.channel_sim.proofs.CallsLemmas.{carried_numbers}

@@ -5,7 +5,7 @@ use Rattle.ivs_machine.specs.VehicleRows as vehicle
 use Rattle.psap_machine.specs.PointRows as point
 use Rattle.channel_sim.specs.World as model
 use Rattle.channel_sim.specs.Lines as lines
-use Rattle.channel_sim.specs.inner.Lag.{CameNow, CallsLag}
+use Rattle.channel_sim.specs.Lag.{CameNow, CallsLag}
 use Rattle.channel_sim.proofs.VehicleLemmas.{not_called, called}
 use Rattle.channel_sim.proofs.channel.Channel.drop_both.Goals as goal
 

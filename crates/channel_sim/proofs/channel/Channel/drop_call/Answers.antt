@@ -1,7 +1,7 @@
 use Rattle.std.proofs.Common.{ap, sym, ◌∙◌, subst}
 use Rattle.ivs_machine.specs.Vehicle.{vehicle_call}
 use Rattle.channel_sim.specs.World.{is_number}
-use Rattle.channel_sim.specs.inner.Lag.{CallsLag}
+use Rattle.channel_sim.specs.Lag.{CallsLag}
 use Rattle.channel_sim.proofs.TidyLemmas.{concerned_has}
 use Rattle.channel_sim.proofs.VehicleLemmas.{lagging_call, same_number, not_is_true, not_is_false}
 use Rattle.channel_sim.proofs.channel.Channel.drop_call.Goals as goal

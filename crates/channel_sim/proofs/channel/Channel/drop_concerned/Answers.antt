@@ -2,7 +2,7 @@ use Rattle.std.proofs.Common.{sym, subst}
 use Rattle.std.specs.List.{AllByRecursion}
 use Rattle.ivs_machine.specs.Vehicle.{vehicle_call}
 use Rattle.channel_sim.specs.inner.Acts.{OtherHasLeg}
-use Rattle.channel_sim.specs.inner.Lag.{CallsLag}
+use Rattle.channel_sim.specs.Lag.{CallsLag}
 use Rattle.channel_sim.proofs.CallsLemmas.{none_of}
 use Rattle.channel_sim.proofs.TidyLemmas.{none_concerned}
 use Rattle.channel_sim.proofs.channel.Channel.drop_concerned.Goals as goal

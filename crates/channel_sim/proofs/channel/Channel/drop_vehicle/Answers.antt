@@ -1,7 +1,7 @@
 use Rattle.std.proofs.Common.{refl, sym, ◌∙◌, subst}
 use Rattle.ivs_machine.specs.VehicleRows as vehicle
 use Rattle.channel_sim.specs.World as model
-use Rattle.channel_sim.specs.inner.Lag.{CameNow}
+use Rattle.channel_sim.specs.Lag.{CameNow}
 use Rattle.channel_sim.proofs.LineLemmas.{came_now, caught_now, its_call, no_call, nothing_came}
 use Rattle.channel_sim.proofs.VehicleLemmas.{vehicle_is}
 use Rattle.channel_sim.proofs.channel.Channel.drop_vehicle.Goals as goal

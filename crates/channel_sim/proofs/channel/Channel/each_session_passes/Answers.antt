@@ -1,10 +1,10 @@
 use Rattle.channel_sim.proofs.BoundLemmas.{passes_more}
-use Rattle.channel_sim.specs.inner.Passes.{passes_of}
+use Rattle.channel_sim.specs.Passes.{passes_of}
 use Rattle.std.proofs.Common.{◌≡◌, suc, ◌+◌, ◌<◌, ◌≤◌, ◌∷◌, length, take, drop, get_or, refl, ap, sym, ◌∙◌, subst, add-one, drop-cons, ◌^◌, arith}
 use Rattle.std.proofs.lemmas.List.{drop_all}
 use Rattle.std.proofs.lemmas.Result.{err_from_is_err_and}
 use Rattle.channel_sim.specs.World.{World, Step, each, session_passes}
-use Rattle.channel_sim.specs.inner.Lag.{StandsAt, clock_of}
+use Rattle.channel_sim.specs.Lag.{StandsAt, clock_of}
 use Rattle.channel_sim.specs.Tidy.{AreAbove}
 use Rattle.channel_sim.proofs.PassLemmas.{clock_first, clock_gone, clock_same, above_behind, same_at}
 use Rattle.channel_sim.proofs.StepLemmas.{each_more, each_all, take_all}
@@ -30,7 +30,7 @@ loop-number-preserved g c =
     let inside : i < length ns = c.loop-number-test.true in
     record {
       tick = c.session_passes.ensures.tick ∙ c.loop-number.invariant.tick;
-      stood = c.in_ok-session_passes.ensures.stood ∙ c.loop-number.invariant.stood;
+      stood = c.in_ok-session_passes.ensures.faults.stood ∙ c.loop-number.invariant.stood;
       passes =
           λ ahead floor before w s now next listed small.
           let kept = c.args.self.now in

@@ -1,7 +1,7 @@
-use Rattle.channel_sim.specs.inner.Passes.{passes_of}
+use Rattle.channel_sim.specs.Passes.{passes_of}
 use Rattle.std.proofs.Common.{◌≡◌, ◌+◌, ℕ, take, drop, ◌≤◌, ◌<◌, ◌^◌}
 use Rattle.channel_sim.specs.World.{World, each, session_passes}
-use Rattle.channel_sim.specs.inner.Lag.{StandsAt, clock_of}
+use Rattle.channel_sim.specs.Lag.{StandsAt, clock_of}
 use Rattle.channel_sim.specs.Tidy.{AreAbove}
 use Rattle.channel_sim.proofs.channel.Channel.each_session_passes.Given as goal
 

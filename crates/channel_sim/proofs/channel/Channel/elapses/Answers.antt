@@ -1,10 +1,10 @@
 use Rattle.channel_sim.proofs.BoundLemmas.{passes_more, units_ends, ends_more}
-use Rattle.channel_sim.specs.inner.Passes.{passes_of}
+use Rattle.channel_sim.specs.Passes.{passes_of}
 use Rattle.std.proofs.Common.{◌≡◌, ◌≤◌, ◌+◌, ◌++◌, ◌-◌, refl, ap, sym, ◌∙◌, subst, arith, ◌<◌, ◌^◌}
 use Rattle.std.proofs.lemmas.Result.{err_from_is_err_and}
 use Rattle.channel_sim.specs.declared.channel.Channel.{Channel}
 use Rattle.channel_sim.specs.World.{World, Step, units, and_then, ends}
-use Rattle.channel_sim.specs.inner.Lag.{StandsAt, StandsNow}
+use Rattle.channel_sim.specs.Lag.{StandsAt, StandsNow}
 use Rattle.channel_sim.proofs.Jump.{units_add}
 use Rattle.channel_sim.proofs.MomentLemmas.{moment_quiet, quiet_end}
 use Rattle.channel_sim.proofs.WaitLemmas.{quiet_until}
@@ -70,7 +70,7 @@ loop-self-preserved g c =
     record {
       began = omega (arith, c.moment.ensures.tick, c.max-tick.ensures);
       within = omega (arith, c.moment.ensures.tick, c.if-tick-end.false);
-      stood = c.in_ok-moment.ensures.stood ∙ c.loop-self.invariant.stood;
+      stood = c.in_ok-moment.ensures.faults.stood ∙ c.loop-self.invariant.stood;
       passes =
           λ w s.
           let so_far = c.loop-self.invariant.came w s in

@@ -1,7 +1,7 @@
-use Rattle.channel_sim.specs.inner.Passes.{passes_of}
+use Rattle.channel_sim.specs.Passes.{passes_of}
 use Rattle.std.proofs.Common.{◌≡◌, ◌-◌, ◌≤◌, ◌+◌}
 use Rattle.channel_sim.specs.World.{World, units}
-use Rattle.channel_sim.specs.inner.Lag.{StandsAt, StandsNow}
+use Rattle.channel_sim.specs.Lag.{StandsAt, StandsNow}
 use Rattle.channel_sim.proofs.channel.Channel.elapses.Given as goal
 
 -- so many ticks have elapsed

@@ -1,10 +1,10 @@
 use Rattle.channel_sim.proofs.BoundLemmas.{passes_more}
-use Rattle.channel_sim.specs.inner.Passes.{passes_of}
+use Rattle.channel_sim.specs.Passes.{passes_of}
 use Rattle.std.proofs.Common.{◌≡◌, ◌+◌, take, arith, refl, sym, ◌∙◌, subst, ◌≤◌, ◌<◌, ◌^◌}
 use Rattle.std.proofs.lemmas.Result.{err_from_is_err_and}
 use Rattle.trace_model.specs.History.{told}
 use Rattle.channel_sim.specs.World.{Step, does_each, consequences, consequence}
-use Rattle.channel_sim.specs.inner.Lag.{StandsAt}
+use Rattle.channel_sim.specs.Lag.{StandsAt}
 use Rattle.channel_sim.proofs.StepLemmas.{follow_more, follow_all, take_all}
 use Rattle.channel_sim.proofs.channel.Channel.follow.Goals as goal
 
@@ -22,7 +22,7 @@ pub loop-note-preserved : goal.loop-note-preserved
 loop-note-preserved g c =
     record {
       tick = c.follow_one.ensures.tick ∙ c.loop-note.invariant.tick;
-      stood = c.in_ok-follow_one.ensures.stood ∙ c.loop-note.invariant.stood;
+      stood = c.in_ok-follow_one.ensures.faults.stood ∙ c.loop-note.invariant.stood;
       passes =
           λ ahead floor clock w s now small.
           let before = does_each (consequences (told w.tick (take c.loop-note.note-index c.args.items.now))) w in

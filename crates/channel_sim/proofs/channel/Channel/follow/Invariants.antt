@@ -1,8 +1,8 @@
-use Rattle.channel_sim.specs.inner.Passes.{passes_of}
+use Rattle.channel_sim.specs.Passes.{passes_of}
 use Rattle.std.proofs.Common.{◌≡◌, ℕ, take, ◌≤◌, ◌<◌, ◌+◌, ◌^◌}
 use Rattle.trace_model.specs.History.{told}
 use Rattle.channel_sim.specs.World.{World, does_each, consequences}
-use Rattle.channel_sim.specs.inner.Lag.{StandsAt}
+use Rattle.channel_sim.specs.Lag.{StandsAt}
 use Rattle.channel_sim.proofs.channel.Channel.follow.Given as goal
 
 -- what the items so far have follow came about

@@ -4,7 +4,7 @@ use Rattle.link_frames.specs.declared.note.Why.TheVariants as why
 use Rattle.ivs_machine.specs.VehicleRows as vehicle
 use Rattle.psap_machine.specs.PointRows as point
 use Rattle.channel_sim.specs.World as model
-use Rattle.channel_sim.specs.inner.Lag.{Came, StandsAt}
+use Rattle.channel_sim.specs.Lag.{CameAt, StandsAt}
 use Rattle.channel_sim.proofs.StepLemmas.{quiet_behind}
 use Rattle.channel_sim.proofs.VehicleLemmas.{not_in_call, in_call}
 use Rattle.channel_sim.proofs.channel.Channel.follow_one.Goals as goal
@@ -19,7 +19,7 @@ pub returns-in-Releases-clause-step : goal.returns-in-Releases-clause-step
 returns-in-Releases-clause-step g c =
     λ ahead floor clock w s now.
     let act = model.Session c.in-Releases.call (point.Ended why.Release) in
-    subst (λ z. Came (g.H.Listener.grew c.args.to.now c.session_released.new.to) (g.H.Listener.partly c.args.to.now c.session_released.new.to) c.session_released.result ahead floor clock c.session_released.new.self z)
+    subst (λ z. CameAt (g.H.Listener.grew c.args.to.now c.session_released.new.to) (g.H.Listener.partly c.args.to.now c.session_released.new.to) c.session_released.result ahead floor clock c.session_released.new.self z)
     (sym (ap (λ acts. model.does_each acts w) c.in-Releases.ensures ∙ quiet_behind (model.does act w)))
     (c.session_released.ensures.step ahead floor clock w s)
 
@@ -39,7 +39,7 @@ returns-else-ne-clause-step g c =
     let act = model.InCall c.in-HangsUp.call vehicle.Hangup in
     let inside = in_call (ahead - c.args.self.now.passed) c.in-HangsUp.call c.args.self.now.vehicle w.vehicle c.call.result c.call.ensures s.vehicle c.if-ne.ensures in
     let did : model.does act w ≡ model.vehicle_did w (vehicle.vehicle_row w.vehicle vehicle.Hangup) = ap (λ b. if b then model.vehicle_did w (vehicle.vehicle_row w.vehicle vehicle.Hangup) else model.quiet_step w) inside in
-    subst (λ z. Came (g.H.Listener.grew c.args.to.now c.vehicle_hears.new.to) (g.H.Listener.partly c.args.to.now c.vehicle_hears.new.to) c.vehicle_hears.result ahead floor clock c.vehicle_hears.new.self z)
+    subst (λ z. CameAt (g.H.Listener.grew c.args.to.now c.vehicle_hears.new.to) (g.H.Listener.partly c.args.to.now c.vehicle_hears.new.to) c.vehicle_hears.result ahead floor clock c.vehicle_hears.new.self z)
     (sym (ap (λ acts. model.does_each acts w) c.in-HangsUp.ensures ∙ quiet_behind (model.does act w) ∙ did))
     (c.vehicle_hears.ensures.step ahead floor clock w (c.catch_vehicle_up.ensures.caught ahead floor clock w s now) (now ∙ sym (ap (λ x. x.passed) c.catch_vehicle_up.ensures.same)))
 

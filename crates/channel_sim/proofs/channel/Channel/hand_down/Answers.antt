@@ -2,10 +2,10 @@ use Rattle.channel_sim.proofs.BoundLemmas.{handed_down_ok}
 use Rattle.std.proofs.Common.{◌-◌, ap, sym, ◌∙◌, subst}
 use Rattle.ivs_machine.specs.VehicleRows as vehicle
 use Rattle.channel_sim.specs.World as model
-use Rattle.channel_sim.specs.inner.Lag.{Came}
+use Rattle.channel_sim.specs.Lag.{CameAt}
 use Rattle.channel_sim.proofs.HandLemmas.{came_alike, down_alike}
 use Rattle.channel_sim.proofs.VehicleLemmas.{in_call}
-use Rattle.channel_sim.specs.inner.Sends.{full}
+use Rattle.channel_sim.specs.Handing.{full}
 use Rattle.channel_sim.proofs.channel.Channel.hand_down.Goals as goal
 
 pub returns-clause-step : goal.returns-clause-step
@@ -19,7 +19,7 @@ returns-clause-step g c =
     (now ∙ sym (ap (λ x. x.passed) c.catch_vehicle_up.ensures.same)) (now ∙ sym (ap (λ x. x.tick) c.catch_vehicle_up.ensures.same)) in
     came_alike Grew Partly c.vehicle_performs.result ahead floor (λ d. ahead) c.vehicle_performs.new.self (model.hands_down (record { call = c.args.number; frame = full c.args.frame.now }) w)
     (model.performs (model.Hears (vehicle.Arrives (full c.args.frame.now))) w) (down_alike (record { call = c.args.number; frame = full c.args.frame.now }) w inside)
-    (subst (λ f. Came Grew Partly c.vehicle_performs.result ahead floor (λ d. ahead) c.vehicle_performs.new.self (model.performs (model.Hears (vehicle.Arrives f)) w)) c.lend.ensures did)
+    (subst (λ f. CameAt Grew Partly c.vehicle_performs.result ahead floor (λ d. ahead) c.vehicle_performs.new.self (model.performs (model.Hears (vehicle.Arrives f)) w)) c.lend.ensures did)
 
 pub returns-clause-passes : goal.returns-clause-passes
 returns-clause-passes g c =

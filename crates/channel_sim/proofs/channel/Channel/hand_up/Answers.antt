@@ -1,11 +1,11 @@
 use Rattle.channel_sim.proofs.BoundLemmas.{handed_up_ok}
-use Rattle.channel_sim.specs.inner.Passes.{passes_of}
+use Rattle.channel_sim.specs.Passes.{passes_of}
 use Rattle.std.proofs.Common.{refl, sym, subst, ◌+◌, ◌≤◌, OnOk}
 use Rattle.psap_machine.specs.PointRows as point
 use Rattle.channel_sim.specs.World as model
-use Rattle.channel_sim.specs.inner.Lag.{Came, StandsAt}
+use Rattle.channel_sim.specs.Lag.{CameAt, StandsAt}
 use Rattle.channel_sim.proofs.HandLemmas.{came_alike, up_alike, with_calls}
-use Rattle.channel_sim.specs.inner.Sends.{full}
+use Rattle.channel_sim.specs.Handing.{full}
 use Rattle.channel_sim.proofs.channel.Channel.hand_up.Goals as goal
 
 pub returns-clause-step : goal.returns-clause-step
@@ -19,10 +19,10 @@ returns-clause-step g c =
     let moved = record kept { calls = c.catch_session_up.new.calls } in
     let s1 = with_calls t floor (λ d. t) kept moved w s0 refl (c.catch_session_up.ensures.lags floor w.calls s0.calls s0.tidy.numbers) in
     let did = c.session_performs.ensures.step t floor (λ d. t) w s1 refl (c.catch_session_up.ensures.caught floor w.calls s0.calls s0.tidy.numbers) in
-    subst (λ n. Came Grew Partly c.session_performs.result n floor (λ e. n) c.session_performs.new.self (model.hands_up (record { call = c.args.number; frame = full c.args.frame.now }) w)) (sym now)
+    subst (λ n. CameAt Grew Partly c.session_performs.result n floor (λ e. n) c.session_performs.new.self (model.hands_up (record { call = c.args.number; frame = full c.args.frame.now }) w)) (sym now)
     (came_alike Grew Partly c.session_performs.result t floor (λ e. t) c.session_performs.new.self (model.hands_up (record { call = c.args.number; frame = full c.args.frame.now }) w)
     (model.performs (model.Session c.args.number (point.Arrives (full c.args.frame.now))) w) (up_alike (record { call = c.args.number; frame = full c.args.frame.now }) w)
-    (subst (λ f. Came Grew Partly c.session_performs.result t floor (λ e. t) c.session_performs.new.self (model.performs (model.Session c.args.number (point.Arrives f)) w)) c.lend.ensures did))
+    (subst (λ f. CameAt Grew Partly c.session_performs.result t floor (λ e. t) c.session_performs.new.self (model.performs (model.Session c.args.number (point.Arrives f)) w)) c.lend.ensures did))
 
 pub returns-clause-passes : goal.returns-clause-passes
 returns-clause-passes g c =

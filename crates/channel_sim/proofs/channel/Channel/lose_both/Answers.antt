@@ -5,7 +5,7 @@ use Rattle.ivs_machine.specs.VehicleRows as vehicle
 use Rattle.psap_machine.specs.PointRows as point
 use Rattle.channel_sim.specs.World as model
 use Rattle.channel_sim.specs.Lines as lines
-use Rattle.channel_sim.specs.inner.Lag.{CameNow, Came, StandsAt, StandsNow}
+use Rattle.channel_sim.specs.Lag.{CameNow, CameAt, StandsAt, StandsNow}
 use Rattle.channel_sim.proofs.ActLemmas.{came_after}
 use Rattle.channel_sim.proofs.StepLemmas.{quiet_behind}
 use Rattle.channel_sim.proofs.LineLemmas.{came_now, caught_now, all_caught, in_call_performs}
@@ -40,7 +40,7 @@ returns-then-at_point-clause-step g c =
     (came_now Grew Partly c.session_performs.result kept.tick c.session_performs.new.self (model.each lines.deed (lost ∷ ends ∷ []) w) (c.session_performs.ensures.tick ∙ c.vehicle_performs.ensures.tick)
     (came_after g.H.Listener.grew g.H.Listener.partly law.twice law.then_partly c.args.to.now c.vehicle_performs.new.to c.session_performs.new.to c.session_performs.result kept.tick kept.tick (λ d. kept.tick) c.session_performs.new.self first
     (model.each lines.deed (ends ∷ [])) did.0
-    (subst (Came (g.H.Listener.grew c.vehicle_performs.new.to c.session_performs.new.to) (g.H.Listener.partly c.vehicle_performs.new.to c.session_performs.new.to) c.session_performs.result kept.tick kept.tick (λ d. kept.tick) c.session_performs.new.self)
+    (subst (CameAt (g.H.Listener.grew c.vehicle_performs.new.to c.session_performs.new.to) (g.H.Listener.partly c.vehicle_performs.new.to c.session_performs.new.to) c.session_performs.result kept.tick kept.tick (λ d. kept.tick) c.session_performs.new.self)
     (sym (quiet_behind (lines.deed ends first.world))) then)))
 
 pub returns-else-at_point-clause-step : goal.returns-else-at_point-clause-step

@@ -1,10 +1,10 @@
 use Rattle.channel_sim.proofs.BoundLemmas.{passes_more, then_ok}
-use Rattle.channel_sim.specs.inner.Passes.{passes_of}
+use Rattle.channel_sim.specs.Passes.{passes_of}
 use Rattle.std.proofs.Common.{◌+◌, sym, ◌∙◌, subst, ◌≡◌, ℕ, ◌≤◌, ◌<◌, ◌^◌, OnOk}
 use Rattle.std.proofs.lemmas.Result.{err_from_is_err_and}
 use Rattle.channel_sim.specs.World as model
-use Rattle.channel_sim.specs.inner.Lag.{Came}
-use Rattle.channel_sim.specs.inner.Quiet.{aged_world}
+use Rattle.channel_sim.specs.Lag.{CameAt}
+use Rattle.channel_sim.specs.Quiet.{aged_world}
 use Rattle.channel_sim.proofs.ActLemmas.{came_after}
 use Rattle.channel_sim.proofs.FlowRests.{none_up, none_down}
 use Rattle.channel_sim.proofs.MomentLemmas.{ends_next, jumped, units_jump}
@@ -49,7 +49,7 @@ returns-clause-step g c =
     let came = c.flows_from-2.ensures.step c.args.tick floor u3 d3.1 (sym (c.flows_from.ensures.tick ∙ t2))
     (λ late. none_down n w (no_down (subst (λ t. t < c.args.next.now.down) (c.flows_from.ensures.tick ∙ t2) late))) in
     let first : model.Step = model.and_then (model.and_then (model.vehicle_passes w1) model.sessions_pass) model.flows_up in
-    subst (Came (g.H.Listener.grew c.args.to.now c.flows_from-2.new.to) (g.H.Listener.partly c.args.to.now c.flows_from-2.new.to) c.flows_from-2.result c.args.tick floor (λ d. c.args.tick) c.flows_from-2.new.self) (sym (units_jump floor n kept w s quiet))
+    subst (CameAt (g.H.Listener.grew c.args.to.now c.flows_from-2.new.to) (g.H.Listener.partly c.args.to.now c.flows_from-2.new.to) c.flows_from-2.result c.args.tick floor (λ d. c.args.tick) c.flows_from-2.new.self) (sym (units_jump floor n kept w s quiet))
     (came_after g.H.Listener.grew g.H.Listener.partly law.twice law.then_partly c.args.to.now c.flows_from.new.to c.flows_from-2.new.to c.flows_from-2.result c.args.tick floor (λ d. c.args.tick) c.flows_from-2.new.self first model.flows_down
     (law.twice _ _ _ _ _ d2.0 d3.0) came)
 

@@ -1,8 +1,8 @@
 use Rattle.std.proofs.Common.{◌≡◌, ◌≤◌, ◌<◌, ◌+◌, suc, length, take, drop, get_or, ap, sym, ◌∙◌, subst, arith, length-drop}
 use Rattle.std.proofs.lemmas.List.{get_or-drop}
 use Rattle.std.specs.List.{AllByRecursion}
-use Rattle.channel_sim.specs.inner.Lag.{CallLags}
-use Rattle.channel_sim.specs.inner.Quiet.{CallRests, FramesRest}
+use Rattle.channel_sim.specs.Lag.{CallLags}
+use Rattle.channel_sim.specs.Quiet.{CallRests, FramesRest}
 use Rattle.channel_sim.specs.Tidy.{AreFrom, CallInTime, ticks_of}
 use Rattle.channel_sim.proofs.AsleepLemmas.{front_quiet}
 use Rattle.channel_sim.proofs.ChangeLemmas.{lag_at, same_lengths}
@@ -14,6 +14,7 @@ pub loop-call-init : goal.loop-call-init
 loop-call-init c =
     let kept = c.args.self.now in
     record {
+      most = c.acts_at-acts.ensures.most;
       acts =
           λ h floor n w s low.
           let none : h.front + 0 ≡ h.front = omega arith in
@@ -47,6 +48,7 @@ loop-call-preserved c =
     let fewer_down : c.hands_at-down.result ≤ c.loop-call.down = c.hands_at-down.ensures.most in
     let within : i < length part = c.loop-call-test.true in
     record {
+      most = omega (arith, c.loop-call.invariant.most);
       acts =
           λ h floor n w s low.
           let before = c.loop-call.invariant.acts h floor n w s (omega arith) in

@@ -5,7 +5,7 @@ use Rattle.psap_machine.specs.PointRows as point
 use Rattle.channel_sim.specs.World as model
 use Rattle.channel_sim.specs.Lines as lines
 use Rattle.channel_sim.specs.inner.Acts.{seat_after}
-use Rattle.channel_sim.specs.inner.Lag.{CameNow, Came}
+use Rattle.channel_sim.specs.Lag.{CameNow, CameAt}
 use Rattle.channel_sim.proofs.LineLemmas.{one_deed, came_now, all_caught, nothing_came}
 use Rattle.channel_sim.proofs.SessionLemmas.{session_ready, session_step, nobody_did}
 use Rattle.channel_sim.proofs.channel.Channel.point_line.Goals as goal
@@ -26,8 +26,8 @@ returns-then-hear_session-clause-step g c =
     sym (c.hear_session.ensures.variant kept.tick clock w.calls s.calls s.tidy.numbers) ∙ c.if-hear_session.true in
     let after = model.seated number (seat_after row (model.session_of number w.calls)) w.calls in
     let Step = λ (z : model.Step).
-    Came Grew Partly c.settles.result kept.tick kept.tick clock c.settles.new.self (model.settled z) in
-    let did : Came Grew Partly c.settles.result kept.tick kept.tick clock c.settles.new.self (model.performs act w) =
+    CameAt Grew Partly c.settles.result kept.tick kept.tick clock c.settles.new.self (model.settled z) in
+    let did : CameAt Grew Partly c.settles.result kept.tick kept.tick clock c.settles.new.self (model.performs act w) =
     subst Step (sym (session_step number w row there))
     (subst (λ items. Step (model.did w items w.vehicle after)) (c.as_slice-items.ensures.value ∙ heard.items)
     (c.settles.ensures.step kept.tick kept.tick clock w w.vehicle after

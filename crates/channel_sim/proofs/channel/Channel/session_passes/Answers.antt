@@ -1,11 +1,11 @@
 use Rattle.channel_sim.proofs.BoundLemmas.{acted_ok}
-use Rattle.channel_sim.specs.inner.Passes.{passes_of}
+use Rattle.channel_sim.specs.Passes.{passes_of}
 use Rattle.std.proofs.Common.{ap, ◌≡◌, true, refl, sym, ◌∙◌, subst, ◌+◌, ◌≤◌, OnOk, length, arith}
 use Rattle.std.specs.Option.{is_some}
 use Rattle.psap_machine.specs.PointRows as point
 use Rattle.channel_sim.specs.World as model
 use Rattle.channel_sim.specs.inner.Acts.{seat_after}
-use Rattle.channel_sim.specs.inner.Lag.{Came}
+use Rattle.channel_sim.specs.Lag.{CameAt}
 use Rattle.channel_sim.proofs.SessionLemmas.{session_ready, session_step}
 use Rattle.channel_sim.proofs.PassLemmas.{rests_step}
 use Rattle.channel_sim.proofs.channel.Channel.session_passes.Goals as goal
@@ -17,7 +17,7 @@ returns-then-act_session-clause-step g c =
     let did = c.act_session.ensures.did floor before after w.calls s.calls s.tidy.numbers (due ∙ now) (passed ∙ now) others in
     let there : is_some (model.session_of c.args.number w.calls) ≡ true = did.acts c.if-act_session.true in
     let seats = model.seated c.args.number (seat_after point.unit_row (model.session_of c.args.number w.calls)) w.calls in
-    let Step = λ (z : model.Step). Came (g.H.Listener.grew c.args.to.now c.settles.new.to) (g.H.Listener.partly c.args.to.now c.settles.new.to) c.settles.result ahead floor after c.settles.new.self (model.settled z) in
+    let Step = λ (z : model.Step). CameAt (g.H.Listener.grew c.args.to.now c.settles.new.to) (g.H.Listener.partly c.args.to.now c.settles.new.to) c.settles.result ahead floor after c.settles.new.self (model.settled z) in
     subst Step (sym (session_step c.args.number w point.unit_row there))
     (subst (λ items. Step (model.did w items w.vehicle seats)) (c.as_slice-items.ensures.value ∙ did.items)
     (c.settles.ensures.step ahead floor after w w.vehicle seats

@@ -1,12 +1,12 @@
 use Rattle.channel_sim.proofs.BoundLemmas.{fewer_ok}
-use Rattle.channel_sim.specs.inner.Passes.{passes_of}
+use Rattle.channel_sim.specs.Passes.{passes_of}
 use Rattle.std.proofs.Common.{◌≡◌, true, false, refl, ap, sym, ◌∙◌, subst, ◌+◌, ◌≤◌, OnOk, length}
 use Rattle.std.specs.Option.{is_some}
 use Rattle.psap_machine.specs.Point.{Point}
 use Rattle.psap_machine.specs.PointRows as point
 use Rattle.channel_sim.specs.World as model
 use Rattle.channel_sim.specs.inner.Acts.{seat_after}
-use Rattle.channel_sim.specs.inner.Lag.{Came, StandsAt}
+use Rattle.channel_sim.specs.Lag.{CameAt, StandsAt}
 use Rattle.channel_sim.proofs.SessionLemmas.{session_ready, session_step, no_session_step, nobody_did, settled_quiet}
 use Rattle.channel_sim.proofs.channel.Channel.session_performs.Goals as goal
 
@@ -18,7 +18,7 @@ returns-then-hear_session-clause-step g c =
     let heard = c.hear_session.ensures.did floor clock w.calls s.calls s.tidy.numbers caught in
     let there : is_some (model.session_of c.args.number w.calls) ≡ true = sym (c.hear_session.ensures.variant floor clock w.calls s.calls s.tidy.numbers) ∙ c.if-hear_session.true in
     let after = model.seated c.args.number (seat_after row (model.session_of c.args.number w.calls)) w.calls in
-    let Step = λ (z : model.Step). Came (g.H.Listener.grew c.args.to.now c.settles.new.to) (g.H.Listener.partly c.args.to.now c.settles.new.to) c.settles.result ahead floor clock c.settles.new.self (model.settled z) in
+    let Step = λ (z : model.Step). CameAt (g.H.Listener.grew c.args.to.now c.settles.new.to) (g.H.Listener.partly c.args.to.now c.settles.new.to) c.settles.result ahead floor clock c.settles.new.self (model.settled z) in
     subst Step (sym (session_step c.args.number w row there))
     (subst (λ items. Step (model.did w items w.vehicle after)) (c.as_slice-items.ensures.value ∙ heard.items)
     (c.settles.ensures.step ahead floor clock w w.vehicle after

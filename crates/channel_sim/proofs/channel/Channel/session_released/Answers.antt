@@ -5,7 +5,7 @@ use Rattle.psap_machine.specs.Point.{Point}
 use Rattle.psap_machine.specs.PointRows as point
 use Rattle.channel_sim.specs.World as model
 use Rattle.channel_sim.specs.inner.Acts.{seat_after}
-use Rattle.channel_sim.specs.inner.Lag.{Came, StandsAt}
+use Rattle.channel_sim.specs.Lag.{CameAt, StandsAt}
 use Rattle.channel_sim.proofs.SessionLemmas.{session_ready, session_step, no_session_step, nobody_did}
 use Rattle.channel_sim.proofs.channel.Channel.session_released.Goals as goal
 
@@ -17,7 +17,7 @@ returns-then-hear_session-clause-step g c =
     let heard = c.hear_session.ensures.ended floor clock w.calls s.calls s.tidy.numbers refl in
     let there : is_some (model.session_of c.args.number w.calls) ≡ true = sym (c.hear_session.ensures.variant floor clock w.calls s.calls s.tidy.numbers) ∙ c.if-hear_session.true in
     let after = model.seated c.args.number (seat_after row (model.session_of c.args.number w.calls)) w.calls in
-    let Step = λ (z : model.Step). Came (g.H.Listener.grew c.args.to.now c.did.new.to) (g.H.Listener.partly c.args.to.now c.did.new.to) c.did.result ahead floor clock c.did.new.self z in
+    let Step = λ (z : model.Step). CameAt (g.H.Listener.grew c.args.to.now c.did.new.to) (g.H.Listener.partly c.args.to.now c.did.new.to) c.did.result ahead floor clock c.did.new.self z in
     subst Step (sym (session_step c.args.number w row there))
     (subst (λ items. Step (model.did w items w.vehicle after)) (c.as_slice.ensures.value ∙ heard.items)
     (c.did.ensures.step ahead floor clock w w.vehicle after

@@ -4,8 +4,8 @@ use Rattle.std.proofs.lemmas.Result.{err_from_is_err_and}
 use Rattle.std.specs.List.{AllByRecursion}
 use Rattle.channel_sim.specs.World.{Step, each, session_passes, sessions_pass}
 use Rattle.channel_sim.specs.inner.Asleep.{Waits}
-use Rattle.channel_sim.specs.inner.Lag.{Came, StandsAt, clock_of}
-use Rattle.channel_sim.specs.inner.Passes.{passes_of}
+use Rattle.channel_sim.specs.Lag.{CameAt, StandsAt, clock_of}
+use Rattle.channel_sim.specs.Passes.{passes_of}
 use Rattle.channel_sim.specs.Tidy.{AreAbove, numbers_of}
 use Rattle.channel_sim.proofs.AsleepTicks.{above_drop, front_passed, waiting_pass, waiting_stand}
 use Rattle.channel_sim.proofs.CallsLemmas.{same_numbers}
@@ -31,7 +31,7 @@ returns-clause-step g c =
     ∙ ap (drop f) (sym (same_numbers floor (λ d. before) kept.calls w.calls s.calls)) in
     let same : each session_passes c.deref.result.now u ≡ sessions_pass w =
     ap (λ ns. each session_passes ns u) listed ∙ sym (waiting_pass ahead floor before f kept w s wait) in
-    subst (λ (z : Step). Came (g.H.Listener.grew c.args.to.now c.each_session_passes.new.to) (g.H.Listener.partly c.args.to.now c.each_session_passes.new.to) c.each_session_passes.result ahead floor (λ d. ahead) c.each_session_passes.new.self z) same
+    subst (λ (z : Step). CameAt (g.H.Listener.grew c.args.to.now c.each_session_passes.new.to) (g.H.Listener.partly c.args.to.now c.each_session_passes.new.to) c.each_session_passes.result ahead floor (λ d. ahead) c.each_session_passes.new.self z) same
     (c.each_session_passes.ensures.step ahead floor before u
     (subst (λ ns. StandsAt ahead floor (clock_of before ns) kept u) (sym listed) (waiting_stand ahead floor before f kept w s wait)) now next
     (subst (AreAbove 0) (sym listed) (above_drop 0 f (numbers_of w.calls) s.tidy.numbers)))

@@ -1,9 +1,9 @@
 use Rattle.channel_sim.proofs.BoundLemmas.{acted_ok}
-use Rattle.channel_sim.specs.inner.Passes.{passes_of}
+use Rattle.channel_sim.specs.Passes.{passes_of}
 use Rattle.std.proofs.Common.{ap, sym, ◌∙◌, subst, ◌+◌, ◌-◌, ◌≤◌, ◌<◌, ◌^◌, OnOk, length, arith}
 use Rattle.ivs_machine.specs.VehicleRows as vehicle
 use Rattle.channel_sim.specs.World as model
-use Rattle.channel_sim.specs.inner.Lag.{Came, StandsAt}
+use Rattle.channel_sim.specs.Lag.{CameAt, StandsAt}
 use Rattle.channel_sim.proofs.PassLemmas.{vehicle_passed_ready, vehicle_rests_stand}
 use Rattle.channel_sim.proofs.VehicleLemmas.{lagging_call}
 use Rattle.channel_sim.proofs.channel.Channel.vehicle_passes.Goals as goal
@@ -16,7 +16,7 @@ returns-then-vehicle_act-clause-step g c =
     let row = vehicle.unit_row w.vehicle in
     let acts = c.vehicle_act.ensures.acts before w.vehicle s.vehicle s.passed next c.if-vehicle_act.true in
     let call = lagging_call _ kept.vehicle w.vehicle c.call-call.result c.call-call.ensures s.vehicle in
-    subst (λ items. Came (g.H.Listener.grew c.args.to.now c.settles.new.to) (g.H.Listener.partly c.args.to.now c.settles.new.to) c.settles.result kept.tick floor (λ d. before) c.settles.new.self (model.settled (model.did w items row.new w.calls)))
+    subst (λ items. CameAt (g.H.Listener.grew c.args.to.now c.settles.new.to) (g.H.Listener.partly c.args.to.now c.settles.new.to) c.settles.result kept.tick floor (λ d. before) c.settles.new.self (model.settled (model.did w items row.new w.calls)))
     (c.as_slice-items.ensures.value ∙ acts.0)
     (c.settles.ensures.step kept.tick floor (λ d. before) w row.new w.calls
     (vehicle_passed_ready floor before (λ d. before) kept moved w row.new c.call-call.result s next c.vehicle_act.ensures.same (c.vehicle_act.ensures.some c.if-vehicle_act.true) acts.1 call)

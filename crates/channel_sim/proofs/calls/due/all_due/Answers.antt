@@ -1,0 +1,23 @@
+use Rattle.std.proofs.Common.{◌≤◌, ◌+◌, ◌-◌, ◌++◌, suc, map, ap, sym, ◌∙◌, arith}
+use Rattle.channel_sim.specs.World.{due_in}
+use Rattle.channel_sim.specs.Handing.{due_of, sent_way}
+use Rattle.channel_sim.proofs.DueLemmas.{none_early, all_at}
+use Rattle.channel_sim.proofs.calls.due.all_due.Goals as goal
+use Rattle.channel_sim.proofs.calls.due.all_due.Goals.{then-flow-eq0-via-then-flow-eq0, then-flow-eq0-via-else-flow-eq0+then-now-delay}
+
+pub returns-then-flow-eq0 : goal.returns-then-flow-eq0
+returns-then-flow-eq0 c =
+    λ floor clock ks h in_time.
+    ap (map due_of) c.clear.ensures.items
+    ∙ elim c.then-flow-eq0.branch [
+      | then-flow-eq0-via-then-flow-eq0 w ↦ ap (λ d. due_in (sent_way c.args.up) d c.args.now ks) (sym w.if-flow-eq0.true)
+      | then-flow-eq0-via-else-flow-eq0+then-now-delay w ↦ sym (none_early (sent_way c.args.up) c.args.flow c.args.now ks (omega (arith, w.if-now-delay.true, c.from-delay.ensures)))
+    ]
+
+pub returns : goal.returns
+returns c =
+    λ floor clock ks h in_time.
+    let late : c.args.flow ≤ c.args.now = omega (arith, c.if-now-delay.false, c.from-delay.ensures) in
+    all_at (sent_way c.args.up) c.args.flow c.args.now ks (map due_of c.add_all_due.new.due.items) (c.args.now - c.from-delay.result) c.if-flow-eq0.false
+    (omega (arith, c.if-now-delay.false, c.from-delay.ensures))
+    (λ d. c.in_ok-add_all_due.ensures d floor c.args.now clock ks h in_time ∙ ap (λ z. map due_of z ++ due_in (sent_way c.args.up) (suc d) ((c.args.now - c.from-delay.result) + suc d) ks) c.clear.ensures.items)

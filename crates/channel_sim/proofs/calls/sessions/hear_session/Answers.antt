@@ -1,0 +1,85 @@
+use Rattle.std.proofs.Common.{◌<◌, false, refl, ap, sym, ◌∙◌, subst, arith, length}
+use Rattle.std.specs.Option.{is_some}
+use Rattle.psap_machine.specs.Point.{Point}
+use Rattle.psap_machine.specs.PointRows as point
+use Rattle.link_frames.specs.declared.note.Why.TheVariants as why
+use Rattle.channel_sim.specs.inner.Acts.{SessionDid}
+use Rattle.channel_sim.specs.Lag.{CallLags}
+use Rattle.channel_sim.proofs.CallsLemmas.{found_at, is_there, no_session, did_at, did_nowhere, caught_at, number_found}
+use Rattle.channel_sim.proofs.calls.sessions.hear_session.Goals as goal
+
+pub returns-in-None-clause-variant : goal.returns-in-None-clause-variant
+returns-in-None-clause-variant c =
+    rw (← c.calls.view_is) (
+    λ floor clock ks h above.
+    let place = found_at floor clock c.args.number c.deref.result.now c.calls.inside.list.items ks _ c.deref.ensures.value
+    c.in-None.ensures.place h above in
+    ap is_some (sym (no_session c.args.number ks place))
+    )
+
+pub returns-in-Some-clause-variant : goal.returns-in-Some-clause-variant
+returns-in-Some-clause-variant c =
+    rw (← c.calls.view_is) (
+    λ floor clock ks h above.
+    let xs = c.calls.inside.list.items in
+    let place = found_at floor clock c.args.number c.deref.result.now xs ks _ c.deref.ensures.value
+    c.in-Some.ensures.place h above in
+    c.hear_call.ensures.variant ∙ ap (λ x. is_some x.session) c.index_mut.ensures.value
+    ∙ is_there floor clock c.args.number xs ks c.in-Some.i c.index_mut.result.now h place
+    )
+
+pub returns-in-None-clause-did : goal.returns-in-None-clause-did
+returns-in-None-clause-did c =
+    rw (← c.calls.view_is) (
+    λ floor clock ks h above caught.
+    let row = λ (s : Point). point.point_row s (point.heard c.args.event.now) in
+    let xs = c.calls.inside.list.items in
+    let place = found_at floor clock c.args.number c.deref.result.now xs ks _ c.deref.ensures.value
+    c.in-None.ensures.place h above in
+    subst (λ ns. SessionDid floor clock false ns xs c.args.number row ks) (sym c.clear.ensures)
+    (did_nowhere floor clock c.args.number row xs ks h place)
+    )
+
+pub returns-in-Some-clause-did : goal.returns-in-Some-clause-did
+returns-in-Some-clause-did c =
+    rw (← c.calls.view_is) (
+    λ floor clock ks h above caught.
+    let row = λ (s : Point). point.point_row s (point.heard c.args.event.now) in
+    let xs = c.calls.inside.list.items in
+    let place = found_at floor clock c.args.number c.deref.result.now xs ks _ c.deref.ensures.value
+    c.in-Some.ensures.place h above in
+    let inside : c.in-Some.i < length xs = omega (arith, c.in-Some.ensures.within, ap length c.deref.ensures.value) in
+    let here = number_found floor clock c.args.number xs ks c.in-Some.i c.index_mut.result.now h place inside in
+    let passed = caught_at floor clock c.args.number xs c.in-Some.i c.index_mut.result.now caught inside here in
+    did_at floor clock clock 0 c.args.number row c.hear_call.result c.hear_call.new.items.items xs ks c.in-Some.i
+    c.index_mut.result.now c.hear_call.new.call h above place (λ j other. refl)
+    (λ k number lags. c.hear_call.ensures.did floor (clock c.args.number) k
+    (subst (λ x. CallLags floor (clock c.args.number) x k) (sym c.index_mut.ensures.value) lags)
+    (ap (λ x. x.passed) c.index_mut.ensures.value ∙ passed))
+    )
+
+pub returns-in-None-clause-ended : goal.returns-in-None-clause-ended
+returns-in-None-clause-ended c =
+    rw (← c.calls.view_is) (
+    λ floor clock ks h above is.
+    let row = λ (s : Point). point.point_row s (point.Ended why.Release) in
+    let xs = c.calls.inside.list.items in
+    let place = found_at floor clock c.args.number c.deref.result.now xs ks _ c.deref.ensures.value
+    c.in-None.ensures.place h above in
+    subst (λ ns. SessionDid floor clock false ns xs c.args.number row ks) (sym c.clear.ensures)
+    (did_nowhere floor clock c.args.number row xs ks h place)
+    )
+
+pub returns-in-Some-clause-ended : goal.returns-in-Some-clause-ended
+returns-in-Some-clause-ended c =
+    rw (← c.calls.view_is) (
+    λ floor clock ks h above is.
+    let row = λ (s : Point). point.point_row s (point.Ended why.Release) in
+    let xs = c.calls.inside.list.items in
+    let place = found_at floor clock c.args.number c.deref.result.now xs ks _ c.deref.ensures.value
+    c.in-Some.ensures.place h above in
+    did_at floor clock clock 0 c.args.number row c.hear_call.result c.hear_call.new.items.items xs ks c.in-Some.i
+    c.index_mut.result.now c.hear_call.new.call h above place (λ j other. refl)
+    (λ k number lags. c.hear_call.ensures.ended floor (clock c.args.number) k
+    (subst (λ x. CallLags floor (clock c.args.number) x k) (sym c.index_mut.ensures.value) lags) is)
+    )

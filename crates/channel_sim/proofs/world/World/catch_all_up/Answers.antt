@@ -1,0 +1,5 @@
+use Rattle.channel_sim.proofs.Standing.{stands_then}
+use Rattle.channel_sim.proofs.world.World.catch_all_up.Goals as goal
+
+pub returns-clause-stands : goal.returns-clause-stands
+returns-clause-stands g c = λ floor w s. stands_then c.catch_all_up.new.self w (c.catch_all_up.ensures.caught floor w s)

@@ -1,0 +1,95 @@
+//! Which of the first calls have sessions that do nothing for now, or however many ticks pass.
+
+ghost use Rattle.std.specs.Prelude.{◌≡◌, ◌≤◌, ◌<◌, ◌-◌, ◌+◌, ℕ, List, true, Some, None, ◌^◌};
+ghost use Rattle.channel_sim.specs.World as model;
+ghost use Rattle.channel_sim.specs.Lag.{CallsLag};
+ghost use Rattle.channel_sim.specs.inner.Asleep.{AreAsleep, AreWaiting, Sleeps, Waits};
+
+use super::call::catch_up;
+use super::{Call, Calls};
+use crate::quiet::due_at;
+use link_frames::{Items, Steps};
+use std::sync::ledger::Ledger;
+
+/// Passes each session up to this tick, up to which it does nothing. `items` is room.
+pub(crate) fn catch_each_up<L: Ledger>(
+    calls: &mut Calls,
+    tick: u64,
+    items: &mut Items,
+    moments: &mut Steps<L>,
+)
+    ensures lags { (floor : ℕ) (ks : List model.Call) → CallsLag floor (λ c. tick) calls.old ks → floor ≤ tick →
+        CallsLag tick (λ c. tick) calls.new ks }
+    ensures passes { (floor : ℕ) (ks : List model.Call) → CallsLag floor (λ c. tick) calls.old ks → floor ≤ tick →
+        tick < floor + 2 ^ 32 → moments.new ≤ moments.old + model.session_count ks }
+{
+    calls.asleep = catch_listed_up(&mut calls.list, tick, items, moments);
+}
+
+/// Passes the session of each of these calls up to this tick, up to which it does nothing, and gives in how many of the
+/// first ones the session, if it is there, does nothing however many ticks pass. `items` is room.
+fn catch_listed_up<L: Ledger>(
+    calls: &mut Vec<Call>,
+    tick: u64,
+    items: &mut Items,
+    moments: &mut Steps<L>,
+) -> usize
+    ensures asleep { AreAsleep result calls.new.items }
+    ensures lags { (floor : ℕ) (ks : List model.Call) → CallsLag floor (λ c. tick) calls.old.items ks → floor ≤ tick →
+        CallsLag tick (λ c. tick) calls.new.items ks }
+    ensures passes { (floor : ℕ) (ks : List model.Call) → CallsLag floor (λ c. tick) calls.old.items ks → floor ≤ tick →
+        tick < floor + 2 ^ 32 → moments.new ≤ moments.old + model.session_count ks }
+{
+    let mut asleep = 0;
+    let mut all = true;
+    for call in calls.iter_mut() {
+        catch_up(call, tick, items, moments);
+        all = sleeps_too(all, call);
+        if all {
+            asleep += 1;
+        }
+    }
+    asleep
+}
+
+/// Whether the session of this call, if it is there, does nothing however many ticks pass.
+fn is_asleep(call: &Call) -> bool
+    ensures { result ≡ true → Sleeps call.now }
+{
+    match &call.session {
+        Some(session) => session.due().is_none(),
+        None => true,
+    }
+}
+
+/// Whether those before this call sleep, as `before` says, and this one does too.
+fn sleeps_too(before: bool, call: &Call) -> bool
+    ensures before { result ≡ true → before ≡ true }
+    ensures this { result ≡ true → Sleeps call.now }
+{
+    before && is_asleep(call)
+}
+
+/// Whether the session of this call, if it is there, does nothing up to this tick.
+fn waits(call: &Call, tick: u64) -> bool
+    ensures { result ≡ true → Waits tick call.now }
+{
+    match &call.session {
+        Some(session) => due_at(session, tick.saturating_sub(call.passed)).is_none(),
+        None => true,
+    }
+}
+
+/// How many of the first of these calls wait up to this tick, where in so many of them nothing is due.
+pub(super) fn count_waiting(calls: &[Call], asleep: usize, tick: u64) -> usize
+    ensures { AreAsleep asleep calls.now → AreWaiting tick result calls.now }
+{
+    let mut count = asleep;
+    while count < calls.len() {
+        if !waits(&calls[count], tick) {
+            return count;
+        }
+        count += 1;
+    }
+    count
+}

@@ -1,0 +1,155 @@
+//! A call with a leg up, and what its session does.
+
+ghost use Rattle.std.specs.Prelude.{◌≡◌, ◌≤◌, ◌<◌, ◌-◌, ◌+◌, ℕ, [], Option, true, false, Some, None, OnOk, length, slice_get, if◌then◌else◌, ◌^◌};
+ghost use Rattle.std.specs.Option.{is_some, option_map};
+ghost use Rattle.psap_machine.specs.Point.{Point};
+ghost use Rattle.psap_machine.specs.PointRows as point;
+ghost use Rattle.channel_sim.specs.World as model;
+ghost use Rattle.channel_sim.specs.inner.Acts.{pushed, CallDid};
+ghost use Rattle.channel_sim.specs.Handing.{full};
+ghost use Rattle.channel_sim.specs.Lag.{CallLags};
+ghost use Rattle.channel_sim.specs.inner.Passes.{once_if};
+
+use crate::kept::KeptFrame;
+use crate::quiet::{due_at, pass_quietly};
+use crate::sends::Sends;
+use link_frames::{End, Frame, Items, Steps, Why};
+use psap_machine::{PointEvent, Session};
+use std::alloc::{AllocError, Global};
+use std::sync::ledger::Ledger;
+
+/// A call with a leg up: the point's session, where its leg is up, the tick up to which it was passed, and the frames
+/// sent: up by the vehicle, down by the point.
+#[derive(Drop)]
+pub(crate) struct Call {
+    pub(crate) number: u32,
+    pub(crate) session: Option<Session>,
+    pub(crate) passed: u64,
+    pub(crate) up: Sends,
+    pub(crate) down: Sends,
+}
+
+impl Call {
+    /// A call in which nothing was sent, and whose session is not there yet.
+    pub(crate) fn new(alloc: Global, number: u32, passed: u64) -> Call
+        ensures { result ≡ record { number = number; session = None; passed = passed; up = []; down = [] } }
+    {
+        Call {
+            number,
+            session: None,
+            passed,
+            up: Sends::new(alloc),
+            down: Sends::new(alloc),
+        }
+    }
+
+    /// This end sent a frame at a tick.
+    pub(super) fn push(
+        &mut self,
+        alloc: Global,
+        end: End,
+        tick: u64,
+        frame: &Frame,
+    ) -> Result<(), AllocError>
+        ensures { OnOk result (self.new ≡ pushed end (record { tick = tick; frame = frame.now }) self.old) }
+    {
+        match end {
+            End::Vehicle => self.up.push(alloc, tick, frame),
+            End::Point => self.down.push(alloc, tick, frame),
+        }
+    }
+
+    /// The frames sent up, or down.
+    pub(super) fn sends(&self, up: bool) -> &Sends
+        ensures { result.now ≡ (if up then self.now.up else self.now.down) }
+    {
+        if up { &self.up } else { &self.down }
+    }
+
+    /// The frame sent up, or down, at this place, from 0.
+    pub(super) fn frame(&self, up: bool, place: usize) -> Option<&KeptFrame>
+        ensures { option_map (λ f. full f.now) result ≡
+            option_map (λ s. s.frame) (slice_get (if up then self.now.up else self.now.down) place) }
+    {
+        if up {
+            self.up.frame(place)
+        } else {
+            self.down.frame(place)
+        }
+    }
+}
+
+/// The session of this call hears this, and one that is over is gone: whether it is there. Its items stand in `items`.
+pub(super) fn hear_call(call: &mut Call, event: &PointEvent<'_>, items: &mut Items) -> bool
+    ensures same { call.new ≡ record call.old { session = call.new.session } }
+    ensures variant { result ≡ is_some call.old.session }
+    ensures did { (floor : ℕ) (clock : ℕ) (k : model.Call) → CallLags floor clock call.old k →
+        call.old.passed ≡ clock → CallDid floor clock result items.new.items call.new k
+        (λ s. point.point_row s (point.heard event.now)) }
+    ensures ended { (floor : ℕ) (clock : ℕ) (k : model.Call) → CallLags floor clock call.old k →
+        event.now ≡ PointEvent.Ended Why.Release → CallDid floor clock result items.new.items call.new k
+        (λ s. point.point_row s (point.Ended Why.Release)) }
+{
+    match &mut call.session {
+        Some(session) => {
+            session.hear_into(event, items);
+            if session.over() {
+                call.session = None;
+            }
+            true
+        }
+        None => {
+            items.clear();
+            false
+        }
+    }
+}
+
+/// Passes a call's session up to a tick, up to which it does nothing. `items` is room.
+pub(crate) fn catch_up<L: Ledger>(
+    call: &mut Call,
+    tick: u64,
+    items: &mut Items,
+    moments: &mut Steps<L>,
+)
+    ensures same { call.new ≡ record call.old { session = call.new.session; passed = tick } }
+    ensures caught { (floor : ℕ) (k : model.Call) → CallLags floor tick call.old k → CallLags floor tick call.new k }
+    ensures passes { (floor : ℕ) (k : model.Call) → CallLags floor tick call.old k → tick < floor + 2 ^ 32 →
+        moments.new ≤ moments.old + once_if k.session }
+{
+    if let Some(session) = &mut call.session {
+        pass_quietly(session, tick.saturating_sub(call.passed), items, moments);
+    }
+    call.passed = tick;
+}
+
+/// Passes a call's session up to this tick, if it does something at it, and one that is over is gone: whether it did.
+/// Its items stand in `items`.
+pub(crate) fn act_at<L: Ledger>(
+    call: &mut Call,
+    tick: u64,
+    items: &mut Items,
+    moments: &mut Steps<L>,
+) -> bool
+    ensures did { (floor before : ℕ) (k : model.Call) → CallLags floor before call.old k → before + 1 ≡ tick →
+        CallDid floor tick result items.new.items call.new k point.unit_row }
+    ensures none { result ≡ false → items.new.items ≡ [] }
+    ensures same { call.new ≡ record call.old { session = call.new.session; passed = call.new.passed } }
+    ensures passes { (floor before : ℕ) (k : model.Call) → CallLags floor before call.old k →
+        moments.new ≤ moments.old + length items.new.items }
+{
+    let Some(session) = &mut call.session else {
+        items.clear();
+        return false;
+    };
+    let Some(due) = due_at(session, tick.saturating_sub(call.passed)) else {
+        items.clear();
+        return false;
+    };
+    session.pass_into(due, moments, items);
+    if session.over() {
+        call.session = None;
+    }
+    call.passed = tick;
+    true
+}

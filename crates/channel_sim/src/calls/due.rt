@@ -1,0 +1,140 @@
+//! The frames of calls that a flow hands over at a tick.
+
+ghost use Rattle.std.specs.Prelude.{◌≡◌, ◌<◌, ◌++◌, ◌∷◌, [], ◌-◌, ◌+◌, ℕ, suc, List, Option, Some, OnOk, map};
+ghost use Rattle.std.specs.List.{AllByRecursion};
+ghost use Rattle.std.specs.Option.{option_map};
+ghost use Rattle.channel_sim.specs.World as model;
+ghost use Rattle.channel_sim.specs.inner.Acts.{due_by};
+ghost use Rattle.channel_sim.specs.Handing.{due_of, sent_way, full};
+ghost use Rattle.channel_sim.specs.Lag.{CallLags, CallsLag};
+ghost use Rattle.channel_sim.specs.Tidy.{AreFrom, ticks_of, CallInTime};
+ghost use Rattle.channel_sim.specs.inner.Sends.{IsFirstFrom};
+
+use super::Call;
+use crate::kept::KeptFrame;
+use crate::sends::Sends;
+use std::alloc::AllocError;
+
+/// A frame that is due, with its call.
+#[derive(Drop)]
+pub struct Due {
+    pub(crate) call: u32,
+    pub(crate) frame: KeptFrame,
+}
+
+/// Adds a frame of a call, if there is one.
+fn add_frame(due: &mut Vec<Due>, number: u32, frame: Option<&KeptFrame>) -> Result<(), AllocError>
+    ensures { OnOk result (map due_of due.new.items ≡ map due_of due.old.items ++
+        due_by number (option_map (λ f. full f.now) frame.entry)) }
+{
+    if let Some(frame) = frame {
+        due.push(Due {
+            call: number,
+            frame: frame.share()?,
+        })?;
+    }
+    Ok(())
+}
+
+/// Adds the frames of a call that were sent at this tick, the first of which is at this place, and gives the place behind
+/// them. Out of line, so that a call in which nothing is due is soon passed over.
+#[inline(never)]
+fn add_from(
+    due: &mut Vec<Due>,
+    number: u32,
+    sends: &Sends,
+    tick: u64,
+    first: usize,
+) -> Result<usize, AllocError>
+    ensures { (delay : ℕ) → AreFrom 0 (ticks_of sends.now) → IsFirstFrom tick first (ticks_of sends.now) → OnOk result
+        (map due_of due.new.items ≡ map due_of due.old.items ++ model.due_frames number delay
+        (tick + delay) sends.now) }
+{
+    for k in first..sends.len() {
+        if sends.tick(k) != Some(tick) {
+            return Ok(k);
+        }
+        add_frame(due, number, sends.frame(k))?;
+    }
+    Ok(sends.len())
+}
+
+/// Adds the frames of a call that were sent at this tick. `near` becomes the place behind them, where the next ones are.
+fn add_due(
+    due: &mut Vec<Due>,
+    number: u32,
+    sends: &Sends,
+    tick: u64,
+    near: &mut usize,
+) -> Result<(), AllocError>
+    ensures { (delay : ℕ) → AreFrom 0 (ticks_of sends.now) → OnOk result
+        (map due_of due.new.items ≡ map due_of due.old.items ++ model.due_frames number delay
+        (tick + delay) sends.now) }
+{
+    let first = sends.first_from(tick, *near);
+    *near = first;
+    if sends.tick(first) != Some(tick) {
+        return Ok(());
+    }
+    *near = add_from(due, number, sends, tick, first)?;
+    Ok(())
+}
+
+/// Adds the frames of these calls that were sent up, or down, at this tick.
+fn add_all_due(
+    due: &mut Vec<Due>,
+    calls: &[Call],
+    up: bool,
+    tick: u64,
+    near: &mut usize,
+) -> Result<(), AllocError>
+    ensures { (d floor now : ℕ) (clock : ℕ → ℕ) (ks : List model.Call) → CallsLag floor clock calls.now ks →
+        AllByRecursion (CallInTime now) ks → OnOk result
+        (map due_of due.new.items ≡ map due_of due.old.items ++ model.due_in (sent_way up) (suc d) (tick + suc d) ks) }
+{
+    for call in calls {
+        add_due(due, call.number, call.sends(up), tick, near)?;
+    }
+    Ok(())
+}
+
+/// Adds the frames of a call that a flow up, or down, hands over now.
+pub(crate) fn call_due(
+    due: &mut Vec<Due>,
+    call: &Call,
+    up: bool,
+    flow: u32,
+    now: u64,
+    near: &mut usize,
+) -> Result<(), AllocError>
+    ensures { (floor clock : ℕ) (k : model.Call) → CallLags floor clock call.now k → CallInTime now k → OnOk result
+        (map due_of due.new.items ≡ map due_of due.old.items ++ model.due_in (sent_way up) flow now (k ∷ [])) }
+{
+    let delay = u64::from(flow);
+    if flow == 0 || now < delay {
+        return Ok(());
+    }
+    add_due(due, call.number, call.sends(up), now - delay, near)
+}
+
+/// The frames of these calls that a flow up, or down, hands over now, in place of what stood there.
+pub(crate) fn all_due(
+    calls: &[Call],
+    up: bool,
+    flow: u32,
+    now: u64,
+    due: &mut Vec<Due>,
+    near: &mut usize,
+) -> Result<(), AllocError>
+    ensures { (floor : ℕ) (clock : ℕ → ℕ) (ks : List model.Call) → CallsLag floor clock calls.now ks →
+        AllByRecursion (CallInTime now) ks →
+        OnOk result (map due_of due.new.items ≡ model.due_in (sent_way up) flow now ks) }
+{
+    due.clear();
+    let delay = u64::from(flow);
+    if flow == 0 || now < delay {
+        return Ok(());
+    }
+    add_all_due(due, calls, up, now - delay, near)?;
+    Ok(())
+}

@@ -1,0 +1,125 @@
+//! The session of the call of a number, among calls.
+
+ghost use Rattle.std.specs.Prelude.{◌≡◌, ◌≤◌, ◌<◌, ◌-◌, ◌+◌, ℕ, List, [], false, Some, None, length, ◌^◌};
+ghost use Rattle.std.specs.Option.{is_some};
+ghost use Rattle.psap_machine.specs.Point.{Point};
+ghost use Rattle.psap_machine.specs.PointRows as point;
+ghost use Rattle.psap_machine.specs.SessionStands.{SessionStandsFor};
+ghost use Rattle.channel_sim.specs.World as model;
+ghost use Rattle.channel_sim.specs.inner.Acts.{SessionDid, IsCaught};
+ghost use Rattle.channel_sim.specs.Lag.{AreSameBut, CallsLag};
+ghost use Rattle.channel_sim.specs.Tidy.{AreAbove, numbers_of};
+ghost use Rattle.channel_sim.specs.inner.Passes.{once_if};
+
+use super::call::{act_at, catch_up, hear_call};
+use super::{Call, Calls, find};
+use link_frames::{Items, Steps, Why};
+use psap_machine::{PointEvent, Session};
+use std::sync::ledger::Ledger;
+
+/// Whether a call's session is there.
+pub(crate) fn has_session(calls: &[Call], number: u32) -> bool
+    ensures { (floor : ℕ) (clock : ℕ → ℕ) (ks : List model.Call) → CallsLag floor clock calls.now ks →
+        AreAbove 0 (numbers_of ks) →
+        result ≡ is_some (model.session_of number ks) }
+{
+    match find(calls, number) {
+        Some(i) => calls[i].session.is_some(),
+        None => false,
+    }
+}
+
+/// A session comes up in the call of a number.
+pub(crate) fn admit(calls: &mut Calls, number: u32, session: Session)
+    ensures { (tick : ℕ) (s : Point) (ks : List model.Call) → CallsLag tick (λ c. tick) calls.old ks →
+        AreAbove 0 (numbers_of ks) → SessionStandsFor session s → model.left_by s ≡ Some s →
+        CallsLag tick (λ c. tick) calls.new (model.seated number (Some s) ks) }
+{
+    if let Some(i) = find(&calls.list, number) {
+        calls.asleep = calls.asleep.min(i);
+        calls.list[i].session = Some(session);
+    }
+}
+
+/// The session of a call hears this, and one that is over is gone: whether it is there. Its items stand in `items`.
+pub(crate) fn hear_session(
+    calls: &mut Calls,
+    number: u32,
+    event: &PointEvent<'_>,
+    items: &mut Items,
+) -> bool
+    ensures variant { (floor : ℕ) (clock : ℕ → ℕ) (ks : List model.Call) →
+        CallsLag floor clock calls.old ks → AreAbove 0 (numbers_of ks) →
+        result ≡ is_some (model.session_of number ks) }
+    ensures did { (floor : ℕ) (clock : ℕ → ℕ) (ks : List model.Call) → CallsLag floor clock calls.old ks →
+        AreAbove 0 (numbers_of ks) → IsCaught clock number calls.old →
+        SessionDid floor clock result items.new.items calls.new number
+        (λ s. point.point_row s (point.heard event.now)) ks }
+    ensures ended { (floor : ℕ) (clock : ℕ → ℕ) (ks : List model.Call) → CallsLag floor clock calls.old ks →
+        AreAbove 0 (numbers_of ks) → event.now ≡ PointEvent.Ended Why.Release →
+        SessionDid floor clock result items.new.items calls.new number
+        (λ s. point.point_row s (point.Ended Why.Release)) ks }
+{
+    match find(&calls.list, number) {
+        Some(i) => {
+            calls.asleep = calls.asleep.min(i);
+            hear_call(&mut calls.list[i], event, items)
+        }
+        None => {
+            items.clear();
+            false
+        }
+    }
+}
+
+/// Passes the session of a call up to this tick, if it is there and does something at it, and one that is over is
+/// gone: whether it did. Its items stand in `items`.
+pub(crate) fn act_session<L: Ledger>(
+    calls: &mut Calls,
+    number: u32,
+    tick: u64,
+    items: &mut Items,
+    moments: &mut Steps<L>,
+) -> bool
+    ensures did { (floor : ℕ) (before after : ℕ → ℕ) (ks : List model.Call) →
+        CallsLag floor before calls.old ks → AreAbove 0 (numbers_of ks) → before number + 1 ≡ tick →
+        after number ≡ tick → AreSameBut number before after →
+        SessionDid floor after result items.new.items calls.new number point.unit_row ks }
+    ensures none { result ≡ false → items.new.items ≡ [] }
+    ensures passes { (floor : ℕ) (before : ℕ → ℕ) (ks : List model.Call) →
+        CallsLag floor before calls.old ks → AreAbove 0 (numbers_of ks) →
+        moments.new ≤ moments.old + length items.new.items }
+{
+    match find(&calls.list, number) {
+        Some(i) => {
+            calls.asleep = calls.asleep.min(i);
+            act_at(&mut calls.list[i], tick, items, moments)
+        }
+        None => {
+            items.clear();
+            false
+        }
+    }
+}
+
+/// Passes the session of a call up to this tick, up to which it does nothing. `items` is room.
+pub(crate) fn catch_session_up<L: Ledger>(
+    calls: &mut Calls,
+    number: u32,
+    tick: u64,
+    items: &mut Items,
+    moments: &mut Steps<L>,
+)
+    ensures lags { (floor : ℕ) (ks : List model.Call) → CallsLag floor (λ c. tick) calls.old ks →
+        AreAbove 0 (numbers_of ks) → CallsLag floor (λ c. tick) calls.new ks }
+    ensures caught { (floor : ℕ) (ks : List model.Call) → CallsLag floor (λ c. tick) calls.old ks →
+        AreAbove 0 (numbers_of ks) → IsCaught (λ c. tick) number calls.new }
+    ensures passes { (floor : ℕ) (ks : List model.Call) → CallsLag floor (λ c. tick) calls.old ks →
+        AreAbove 0 (numbers_of ks) → tick < floor + 2 ^ 32 → moments.new ≤ moments.old + once_if
+        (model.session_of number ks) }
+{
+    if let Some(i) = find(&calls.list, number) {
+        calls.asleep = calls.asleep.min(i);
+        catch_up(&mut calls.list[i], tick, items, moments);
+    }
+}
