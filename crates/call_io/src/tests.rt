@@ -122,21 +122,26 @@ fn writes_whole_pieces(rt: HostRuntime) -> Result<(), Fail> {
 }
 
 #[test]
-fn works_over_std(rt: HostRuntime) -> Result<(), Fail> {
+fn reads_over_std(rt: HostRuntime) -> Result<(), Fail> {
     let bytes = [1, 2, 3, 4, 5];
     let mut source = RealSource::new(bytes.as_slice());
     expect_read(&rt, &mut source, Ok(4), &[1, 2, 3, 4]);
     expect_read(&rt, &mut source, Ok(1), &[5]);
     expect_read(&rt, &mut source, Ok(0), &[]);
     expect_read(&rt, &mut RealSource::new(Broken), Err(Failed), &[]);
+    assert_eq!(rt; RealSource::new(Broken).read(&mut []), Err(Failed));
+    assert_eq!(rt; RealSource::new(bytes.as_slice()).read(&mut []), Ok(0));
+    Ok(())
+}
+
+#[test]
+fn writes_over_std(rt: HostRuntime) -> Result<(), Fail> {
     let mut written: Vec<u8> = Vec::new(rt.alloc());
     {
         let mut sink = RealSink::new(&mut written);
         expect_whole(&rt, &mut sink, &[1, 2, 3], Ok(()));
     }
     expect_bytes(&rt, written.as_slice(), &[1, 2, 3]);
-    assert_eq!(rt; RealSource::new(Broken).read(&mut []), Err(Failed));
-    assert_eq!(rt; RealSource::new(bytes.as_slice()).read(&mut []), Ok(0));
     expect_write(&rt, &mut RealSink::new(Broken), &[1], Err(Failed));
     expect_write(&rt, &mut RealSink::new(Broken), &[], Err(Failed));
     let mut stuck = RealSink::new(Stuck);
@@ -197,6 +202,11 @@ fn blocks_keep_what_failed(rt: HostRuntime) -> Result<(), Fail> {
         expect_empty(&rt, &mut block, Err(Failed));
     }
     expect_bytes(&rt, sink.bytes(), b"ab");
+    Ok(())
+}
+
+#[test]
+fn full_blocks_keep_what_failed(rt: HostRuntime) -> Result<(), Fail> {
     // A full block is emptied before it takes more, and a failure there leaves all pending.
     let fails = vec![in rt.alloc(); 1]?;
     let mut sink = MemSink::new(rt.alloc(), 10000, fails)?;
