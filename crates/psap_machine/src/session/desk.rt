@@ -1,0 +1,141 @@
+//! What the session does at what its desk asks for, and as its call ends. After EN 16062 and EN 16072.
+ghost use Rattle.std.specs.Prelude.{◌≡◌, ◌↔◌, ◌≤◌, IsTrue};
+
+use super::{LEAST_OPENING, Phase, Session};
+use link_frames::{Answer, End, Frame, Items, Note, Request, Why, fill};
+
+impl Session {
+    ghost use Rattle.std.specs.Prelude.{[], ◌∷◌, if◌then◌else◌};
+    ghost use Rattle.audio_switch.specs.Switch.{is_open, open_ticks};
+    ghost use Rattle.link_frames.specs.Does.{Does};
+    ghost use Rattle.link_frames.specs.declared.frame.End.TheVariants as «end»;
+    ghost use Rattle.link_frames.specs.declared.note.Note.TheVariants as note;
+    ghost use Rattle.psap_machine.specs.Point.{Point, Over};
+    ghost use Rattle.psap_machine.specs.PointRows as rows;
+    ghost use Rattle.psap_machine.specs.PointRows.{point_row};
+    ghost use Rattle.psap_machine.specs.SessionStands.{SessionIs, SessionStandsFor};
+
+    /// Something came that the link could not read: a point that asks for a set says so.
+    pub(super) fn damaged(&mut self, items: &mut Items)
+        ensures { Does SessionStandsFor SessionIs self.old self.new items.new.items (λ s. point_row s rows.Damaged) }
+    {
+        let phase = self.phase;
+        match phase {
+            Phase::Asking(request) => fill(items, &[self.sends(Frame::Nack(request))]),
+            _ => fill(items, &[Note::Nothing]),
+        }
+    }
+
+    /// The desk asks for another set.
+    pub(super) fn request(&mut self, items: &mut Items)
+        ensures { Does SessionStandsFor SessionIs self.old self.new items.new.items (λ s. point_row s rows.Request) }
+    {
+        match self.phase {
+            Phase::Over => fill(items, &[Note::Nothing]),
+            Phase::Talking if self.is_long_open() => self.asks_again(items),
+            _ => fill(items, &[Note::Busy(self.call)]),
+        }
+    }
+
+    /// The desk lets the vehicle go.
+    pub(super) fn clear(&mut self, items: &mut Items)
+        ensures { Does SessionStandsFor SessionIs self.old self.new items.new.items (λ s. point_row s rows.Clear) }
+    {
+        match self.phase {
+            Phase::Over => fill(items, &[Note::Nothing]),
+            Phase::Talking if self.is_long_open() => self.lets_go(items),
+            _ => fill(items, &[Note::Busy(self.call)]),
+        }
+    }
+
+    /// Whether the voice was open for so long that the desk may ask again or let the vehicle go.
+    pub(super) fn is_long_open(&self) -> bool
+        ensures long { IsTrue result ↔ (20 ≤ open_ticks self.now.voice.stretch) }
+        ensures open { IsTrue result → IsTrue (is_open self.now.voice.stretch) }
+    {
+        self.voice.open_for() >= LEAST_OPENING
+    }
+
+    /// Mutes an open voice, and asks for the next set; the numbers of requests may be spent.
+    pub(super) fn asks_again(&mut self, items: &mut Items)
+        requires { IsTrue (is_open self.old.voice.stretch) }
+        ensures { self.old.phase ≡ Phase.Talking → 20 ≤ open_ticks self.old.voice.stretch →
+            Does SessionStandsFor SessionIs self.old self.new items.new.items (λ s. point_row s rows.Request) }
+    {
+        match self.asked.checked_add(1).and_then(Request::new) {
+            Some(request) => {
+                self.voice.mute();
+                let muting = self.voices();
+                let start = self.asks(request);
+                fill(items, &[muting, start])
+            }
+            None => fill(items, &[Note::Spent(self.call)]),
+        }
+    }
+
+    /// Mutes an open voice, and tells the vehicle of the set shown last that it may go.
+    pub(super) fn lets_go(&mut self, items: &mut Items)
+        requires { IsTrue (is_open self.old.voice.stretch) }
+        ensures { self.old.phase ≡ Phase.Talking → 20 ≤ open_ticks self.old.voice.stretch →
+            Does SessionStandsFor SessionIs self.old self.new items.new.items (λ s. point_row s rows.Clear) }
+    {
+        match self.last {
+            Some(request) => {
+                self.voice.mute();
+                self.enters(Phase::Clearing(request));
+                let answer = Answer::Clear;
+                fill(
+                    items,
+                    &[self.voices(), self.sends(Frame::App { request, answer })],
+                )
+            }
+            None => fill(items, &[Note::Unshown(self.call)]),
+        }
+    }
+
+    /// A fault of the audio or the modem: a muted voice opens.
+    pub(super) fn fault(&mut self, items: &mut Items)
+        ensures { Does SessionStandsFor SessionIs self.old self.new items.new.items (λ s. point_row s rows.Fault) }
+    {
+        let fault = Note::Fault {
+            end: End::Point,
+            call: self.call,
+        };
+        match self.phase {
+            Phase::Over => fill(items, &[Note::Nothing]),
+            Phase::Talking => fill(items, &[fault]),
+            Phase::Listening | Phase::Asking(_) | Phase::Telling(_) | Phase::Clearing(_) => {
+                let opening = self.opens();
+                fill(items, &[fault, opening])
+            }
+        }
+    }
+
+    /// The call ends.
+    pub(super) fn ends(&mut self, why: Why, items: &mut Items)
+        ensures { Does SessionStandsFor SessionIs self.old self.new items.new.items
+            (λ s. point_row s (rows.Ended why)) }
+    {
+        if self.is_over() {
+            fill(items, &[Note::Nothing])
+        } else {
+            self.goes_down(why, items)
+        }
+    }
+
+    /// The leg goes down, and the session is over.
+    pub(super) fn goes_down(&mut self, why: Why, items: &mut Items)
+        ensures items { items.new.items ≡ note.Down «end».Point self.old.call why ∷ [] }
+        ensures new { self.new ≡ record self.old { phase = Phase.Over } }
+    {
+        self.phase = Phase::Over;
+        fill(
+            items,
+            &[Note::Down {
+                end: End::Point,
+                call: self.call,
+                why,
+            }],
+        )
+    }
+}

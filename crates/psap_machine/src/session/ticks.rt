@@ -1,0 +1,130 @@
+//! What the session does as ticks pass. After EN 16062.
+ghost use Rattle.std.specs.Prelude.{◌≡◌, IsTrue};
+
+use super::{LONGEST_ASKING, LONGEST_LISTENING, Phase, REPEATS_EVERY, Session, TELLING};
+use link_frames::{Answer, End, Frame, Items, Note, Timer, Why, fill};
+
+impl Session {
+    ghost use Rattle.std.specs.Prelude.{true, [], ◌∷◌, ◌==◌, if◌then◌else◌};
+    ghost use Rattle.audio_switch.specs.Switch.{unmuted};
+    ghost use Rattle.link_frames.specs.Does.{Does};
+    ghost use Rattle.link_frames.specs.Ranks.{to_next};
+    ghost use Rattle.link_frames.specs.Row.{silent};
+    ghost use Rattle.link_frames.specs.declared.frame.End.TheVariants as «end»;
+    ghost use Rattle.link_frames.specs.declared.note.Note.TheVariants as note;
+    ghost use Rattle.psap_machine.specs.Point.{Point, Over};
+    ghost use Rattle.psap_machine.specs.PointRows.{acts, due_of};
+    ghost use Rattle.psap_machine.specs.SessionStands.{SessionIs, SessionStandsFor};
+    ghost use Rattle.psap_machine.specs.inner.Ageing.{aged_in, SessionIsDue};
+
+    /// The least ticks that a timer or a repeat of the phase has left.
+    pub(super) fn ticks_left(&self) -> Option<u32>
+        ensures { (s : Point) → SessionStandsFor self.now s → result ≡ due_of s }
+    {
+        let wait = match self.phase {
+            Phase::Listening => return Some(LONGEST_LISTENING.saturating_sub(self.in_phase)),
+            Phase::Asking(_) => LONGEST_ASKING,
+            Phase::Telling(_) | Phase::Clearing(_) => TELLING,
+            Phase::Talking | Phase::Over => return None,
+        };
+        let repeat = REPEATS_EVERY - self.in_phase % REPEATS_EVERY;
+        Some(wait.saturating_sub(self.in_phase).min(repeat))
+    }
+
+    /// Each sum that runs, `n` ticks later; a voice is muted for at most its limit.
+    pub(super) fn age(&mut self, n: u32)
+        ensures { self.new ≡ aged_in n self.old self.old.phase }
+    {
+        if !self.is_over() {
+            self.in_phase = self.in_phase.saturating_add(n);
+            let room = self.voice.room().unwrap_or(n);
+            self.voice.pass(n.min(room));
+        }
+    }
+
+    /// What the timers and repeats do that have no ticks left; mostly all have some.
+    pub(super) fn acts(&mut self, items: &mut Items)
+        ensures { Does SessionIsDue SessionIs self.old self.new items.new.items acts }
+    {
+        if self.is_quiet() {
+            items.clear();
+        } else {
+            self.acts_now(items);
+        }
+    }
+
+    /// Whether no timer is at its end and no frame is sent again. Where frames are repeated, the wait ends at the tick
+    /// of a repeat.
+    pub(super) fn is_quiet(&self) -> bool
+        ensures { IsTrue result → (s : Point) → SessionIsDue self.now s → acts s ≡ silent s }
+    {
+        match self.phase {
+            Phase::Listening => self.in_phase < LONGEST_LISTENING,
+            Phase::Asking(_) | Phase::Telling(_) | Phase::Clearing(_) => {
+                !self.in_phase.is_multiple_of(REPEATS_EVERY)
+            }
+            Phase::Talking | Phase::Over => true,
+        }
+    }
+
+    /// What the timers and repeats do that have no ticks left.
+    #[inline(never)]
+    pub(super) fn acts_now(&mut self, items: &mut Items)
+        ensures { Does SessionIsDue SessionIs self.old self.new items.new.items acts }
+    {
+        let phase = self.phase;
+        match phase {
+            Phase::Listening if self.in_phase < LONGEST_LISTENING => items.clear(),
+            Phase::Listening => self.times_out(Timer::T4, items),
+            Phase::Asking(request) if self.in_phase < LONGEST_ASKING => {
+                self.repeats(Frame::Start(request), items)
+            }
+            Phase::Asking(_) => self.times_out(Timer::T8, items),
+            Phase::Telling(request) if self.in_phase < TELLING => self.repeats(
+                Frame::App {
+                    request,
+                    answer: Answer::Positive,
+                },
+                items,
+            ),
+            Phase::Telling(_) => fill(items, &[self.opens()]),
+            Phase::Clearing(request) if self.in_phase < TELLING => self.repeats(
+                Frame::App {
+                    request,
+                    answer: Answer::Clear,
+                },
+                items,
+            ),
+            Phase::Clearing(_) => self.goes_down(Why::Release, items),
+            Phase::Talking | Phase::Over => items.clear(),
+        }
+    }
+
+    /// Sends a frame again, where it is time for it.
+    pub(super) fn repeats(&self, frame: Frame, items: &mut Items)
+        ensures { items.new.items ≡ (if to_next 5 self.now.in_phase == 0
+            then note.Send «end».Point self.now.call frame ∷ [] else []) }
+    {
+        if self.in_phase.is_multiple_of(REPEATS_EVERY) {
+            fill(items, &[self.sends(frame)])
+        } else {
+            items.clear()
+        }
+    }
+
+    /// A wait for data ends, and the voice opens.
+    pub(super) fn times_out(&mut self, timer: Timer, items: &mut Items)
+        ensures items { items.new.items ≡ note.Ended «end».Point self.old.call timer
+            ∷ note.Voice «end».Point self.old.call true true ∷ [] }
+        ensures new { self.new ≡ record self.old { phase = Phase.Talking; in_phase = 0; voice = self.new.voice } }
+        ensures voice { self.new.voice ≡ record self.old.voice { stretch = unmuted self.old.voice.stretch } }
+    {
+        let ended = Note::Ended {
+            end: End::Point,
+            call: self.call,
+            timer,
+        };
+        let opening = self.opens();
+        fill(items, &[ended, opening])
+    }
+}
