@@ -49,7 +49,7 @@ impl Session {
     }
 
     /// Whether the voice was open for so long that the desk may ask again or let the vehicle go.
-    pub(super) fn is_long_open(&self) -> bool
+    fn is_long_open(&self) -> bool
         ensures long { IsTrue result ↔ (20 ≤ open_ticks self.now.voice.stretch) }
         ensures open { IsTrue result → IsTrue (is_open self.now.voice.stretch) }
     {
@@ -57,7 +57,7 @@ impl Session {
     }
 
     /// Mutes an open voice, and asks for the next set; the numbers of requests may be spent.
-    pub(super) fn asks_again(&mut self, items: &mut Items)
+    fn asks_again(&mut self, items: &mut Items)
         requires { IsTrue (is_open self.old.voice.stretch) }
         ensures { self.old.phase ≡ Phase.Talking → 20 ≤ open_ticks self.old.voice.stretch →
             Does SessionStandsFor SessionIs self.old self.new items.new.items (λ s. point_row s rows.Request) }
@@ -74,7 +74,7 @@ impl Session {
     }
 
     /// Mutes an open voice, and tells the vehicle of the set shown last that it may go.
-    pub(super) fn lets_go(&mut self, items: &mut Items)
+    fn lets_go(&mut self, items: &mut Items)
         requires { IsTrue (is_open self.old.voice.stretch) }
         ensures { self.old.phase ≡ Phase.Talking → 20 ≤ open_ticks self.old.voice.stretch →
             Does SessionStandsFor SessionIs self.old self.new items.new.items (λ s. point_row s rows.Clear) }

@@ -32,7 +32,7 @@ impl Session {
     }
 
     /// The vehicle is there: a point that listens asks for the first set.
-    pub(super) fn initiated(&mut self, items: &mut Items)
+    fn initiated(&mut self, items: &mut Items)
         ensures { Does SessionStandsFor SessionIs self.old self.new items.new.items
             (λ s. point_row s (rows.Arrives frame.Init)) }
     {
@@ -47,7 +47,7 @@ impl Session {
 
     /// A set came: it is shown where it was asked for and not shown before, and then acknowledged. A repeat is
     /// acknowledged again.
-    pub(super) fn content(&mut self, request: Request, octets: &[u8; OCTETS], items: &mut Items)
+    fn content(&mut self, request: Request, octets: &[u8; OCTETS], items: &mut Items)
         ensures { (attempt : ℕ) → Does SessionStandsFor SessionIs self.old self.new items.new.items
             (λ s. point_row s (rows.Arrives (frame.Content request attempt octets.now))) }
     {
@@ -64,7 +64,7 @@ impl Session {
 
     /// Shows a set that was asked for and not shown before, and acknowledges it. Where it is the one that the point
     /// asks for, the application acknowledges it too.
-    pub(super) fn shows(&mut self, request: Request, octets: &[u8; OCTETS], items: &mut Items)
+    fn shows(&mut self, request: Request, octets: &[u8; OCTETS], items: &mut Items)
         ensures { Does SessionStandsFor SessionIs self.old self.new items.new.items (λ s.
             behind (rows.shows request octets.now s)
             (rows.shown_row request (rows.with_shown request octets.now s) s.phase)) }
@@ -94,7 +94,7 @@ impl Session {
     }
 
     /// Whether it is this request that the point asks for.
-    pub(super) fn asks_for(&self, request: Request) -> bool
+    fn asks_for(&self, request: Request) -> bool
         ensures { IsTrue result ↔ (self.now.phase ≡ Phase.Asking request) }
     {
         matches!(self.phase, Phase::Asking(asked) if asked.number() == request.number())

@@ -55,7 +55,7 @@ impl Session {
 
     /// Whether no timer is at its end and no frame is sent again. Where frames are repeated, the wait ends at the tick
     /// of a repeat.
-    pub(super) fn is_quiet(&self) -> bool
+    fn is_quiet(&self) -> bool
         ensures { IsTrue result → (s : Point) → SessionIsDue self.now s → acts s ≡ silent s }
     {
         match self.phase {
@@ -69,7 +69,7 @@ impl Session {
 
     /// What the timers and repeats do that have no ticks left.
     #[inline(never)]
-    pub(super) fn acts_now(&mut self, items: &mut Items)
+    fn acts_now(&mut self, items: &mut Items)
         ensures { Does SessionIsDue SessionIs self.old self.new items.new.items acts }
     {
         let phase = self.phase;
@@ -101,7 +101,7 @@ impl Session {
     }
 
     /// Sends a frame again, where it is time for it.
-    pub(super) fn repeats(&self, frame: Frame, items: &mut Items)
+    fn repeats(&self, frame: Frame, items: &mut Items)
         ensures { items.new.items ≡ (if to_next 5 self.now.in_phase == 0
             then note.Send «end».Point self.now.call frame ∷ [] else []) }
     {
@@ -113,7 +113,7 @@ impl Session {
     }
 
     /// A wait for data ends, and the voice opens.
-    pub(super) fn times_out(&mut self, timer: Timer, items: &mut Items)
+    fn times_out(&mut self, timer: Timer, items: &mut Items)
         ensures items { items.new.items ≡ note.Ended «end».Point self.old.call timer
             ∷ note.Voice «end».Point self.old.call true true ∷ [] }
         ensures new { self.new ≡ record self.old { phase = Phase.Talking; in_phase = 0; voice = self.new.voice } }
