@@ -1,5 +1,5 @@
--- What the stretches of muting say of all voices, and what is noted of a new one. Scaffolding: cited by the contracts of
--- private functions alone.
+-- What the stretches of muting say of all voices, and what is noted of a new one. Scaffolding: cited by the contracts
+-- of private functions alone.
 use Rattle.std.specs.Prelude.{◌≡◌, ◌≤◌, ◌&&◌, ◌||◌, ◌==◌, ◌++◌, ℕ, Bool, true, false, not, List, [], ◌∷◌, Option, Some, None}
 use Rattle.trace_model.specs.declared.legs.Muting.{Muting}
 use Rattle.trace_model.specs.declared.voice.Voice.{Voice}
