@@ -11,6 +11,7 @@ use Rattle.command_base.specs.Refusals.{Reply}
 use Rattle.command_base.specs.inner.ReadEnds.{EndsReading, by_line, in_front}
 use Rattle.line_input.specs.declared.fault.LineFault.TheVariants as fault
 use Rattle.command_base.specs.inner.Standing.{CommandStanding, RepliesFrom, most_from, TurnsTo}
+use Rattle.command_base.proofs.LinesEnded as endings
 use Rattle.command_base.proofs.LinesRead as lines
 
 module _ {Seen : Type 0} (Rest : Seen → ℕ → List (List ℕ) → Reply → Type 0) (most : Seen → ℕ → List (List ℕ) → ℕ)
@@ -70,7 +71,7 @@ module _ {Seen : Type 0} (Rest : Seen → ℕ → List (List ℕ) → Reply → 
         counted.1,
       )
       by_answer (Some answer) t =
-          lines.ends_line (RepliesFrom Rest most first) (most_from Rest most first) (Rest s.seen) (most s.seen) is_lined
+          endings.ends_line (RepliesFrom Rest most first) (most_from Rest most first) (Rest s.seen) (most s.seen) is_lined
           start now passes old new left held s.lines reads answer t.0 t.1
 
   -- the end of the input was read, with all as it was written, and the command ended there
@@ -84,7 +85,7 @@ module _ {Seen : Type 0} (Rest : Seen → ℕ → List (List ℕ) → Reply → 
       → Outcome (RepliesFrom Rest most first) (most_from Rest most first) true start
       (record now { left = left; held = held }) answer
   finished Stands lined start now old new left between held same reads answer ends s =
-      lines.ended (RepliesFrom Rest most first) (most_from Rest most first) (Rest s.seen) (most s.seen)
+      endings.ended (RepliesFrom Rest most first) (most_from Rest most first) (Rest s.seen) (most s.seen)
       (lined old.lines s.seen s.stands) start now old new left held s.lines reads answer
       (subst (λ (h : Option (List ℕ)).
       EndsInput (Rest s.seen) (old.lines + 1 + length reads.finds.0.passed) h held answer) same
@@ -98,7 +99,7 @@ module _ {Seen : Type 0} (Rest : Seen → ℕ → List (List ℕ) → Reply → 
       → Outcome (RepliesFrom Rest most first) (most_from Rest most first) true start
       (record now { left = left; held = held }) answer
   unread Stands lined start now old new left held answer ends s =
-      lines.unread (RepliesFrom Rest most first) (most_from Rest most first) (Rest s.seen) (most s.seen)
+      endings.unread (RepliesFrom Rest most first) (most_from Rest most first) (Rest s.seen) (most s.seen)
       (lined old.lines s.seen s.stands) start now old new left held answer ends s.lines
 
   -- no read fails where a line was taken

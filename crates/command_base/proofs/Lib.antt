@@ -1,5 +1,6 @@
 mod Takings
 mod LinesRead
+mod LinesEnded
 mod CommandTurns
 pub mod LineEnds
 pub mod WholeReplies

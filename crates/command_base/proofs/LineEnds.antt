@@ -3,7 +3,7 @@ use Rattle.std.specs.Prelude.{ℕ, ◌+◌, ◌≤◌, true, List, [], ◌∷◌
 use Rattle.std.proofs.Common.{◌∙◌, sym, subst, ap, refl, append_assoc, inl, inr, arith}
 use Rattle.call_io.specs.Bytes.{GrewPartly}
 use Rattle.command_base.specs.LineCommands.{GoesOn, Ends, CountsEnd, EndsLine}
-use Rattle.command_base.specs.Outcome.{CutShort, Outcome, Streams}
+use Rattle.command_base.specs.Outcome.{Answered, CutShort, Outcome, Streams}
 use Rattle.command_base.specs.Refusals.{Reply, in_front_of}
 use Rattle.command_base.specs.declared.refusal.Refused.{Refused}
 use Rattle.command_base.specs.declared.status.Status.{Status}
@@ -68,6 +68,34 @@ ends_as Rest Rest' number line line' held held' same status.Usage e = absurd e
 ends_as Rest Rest' number line line' held held' same status.ReadFault e = absurd e
 ends_as Rest Rest' number line line' held held' same status.TooLong e = absurd e
 
+-- what an answer that was cut short says doesn't depend on passes
+cut_passes : (replies : List ℕ → Reply → Type 0) (left left' held held' : Option (List ℕ)) (passes : ℕ)
+    (input : List ℕ)
+    → CutShort replies (record { left = left; held = held; passes = 0 })
+    (record { left = left'; held = held'; passes = 0 }) input
+    → CutShort replies (record { left = left; held = held; passes = passes })
+    (record { left = left'; held = held'; passes = passes }) input
+cut_passes replies left left' held held' passes input c =
+    record {
+      took = c.took;
+      front = c.front;
+      rest = c.rest;
+      split = c.split;
+      text = c.text;
+      wrote = c.wrote;
+      begins = c.begins;
+    }
+
+-- nor what one that answered whole says, of a command that passes no ends
+answered_passes : (replies : List ℕ → Reply → Type 0) (left left' held held' : Option (List ℕ)) (passes : ℕ)
+    (input : List ℕ) (r : Reply)
+    → Answered replies (λ bytes. 0) (record { left = left; held = held; passes = 0 })
+    (record { left = left'; held = held'; passes = 0 }) input r
+    → Answered replies (λ bytes. 0) (record { left = left; held = held; passes = passes })
+    (record { left = left'; held = held'; passes = passes }) input r
+answered_passes replies left left' held held' passes input r a =
+    record { took = a.took; replied = a.replied; wrote = a.wrote; counted = omega arith }
+
 -- a command that passes no ends leaves any count of them as it was
 pub any_passes : (replies : List ℕ → Reply → Type 0) (left left' held held' : Option (List ℕ)) (passes : ℕ)
     (answer : Status)
@@ -76,32 +104,21 @@ pub any_passes : (replies : List ℕ → Reply → Type 0) (left left' held held
     → Outcome replies (λ bytes. 0) true (record { left = left; held = held; passes = passes })
     (record { left = left'; held = held'; passes = passes }) answer
 any_passes replies left left' held held' passes status.Done o =
-    (o.0, o.1, record { took = o.2.took; replied = o.2.replied; wrote = o.2.wrote; counted = omega arith }, o.3, o.4)
+    (o.0, o.1, answered_passes replies left left' held held' passes o.0 o.1 o.2, o.3, o.4)
 any_passes replies left left' held held' passes status.Usage o =
-    (o.0, record { took = o.1.took; replied = o.1.replied; wrote = o.1.wrote; counted = omega arith }, o.2)
+    (o.0, answered_passes replies left left' held held' passes [] o.0 o.1, o.2)
 any_passes replies left left' held held' passes (status.Refused why) o =
-    (o.0, o.1, record { took = o.2.took; replied = o.2.replied; wrote = o.2.wrote; counted = omega arith }, o.3, o.4)
+    (o.0, o.1, answered_passes replies left left' held held' passes o.0 o.1 o.2, o.3, o.4)
 any_passes replies left left' held held' passes (status.Broken place rule) o =
-    (o.0, o.1, record { took = o.2.took; replied = o.2.replied; wrote = o.2.wrote; counted = omega arith }, o.3, o.4)
-any_passes replies left left' held held' passes status.ReadFault o = (
-  o.0,
-  record { took = o.1.took; front = o.1.front; rest = o.1.rest; split = o.1.split; text = o.1.text; wrote = o.1.wrote; begins = o.1.begins },
-  omega arith,
-)
-any_passes replies left left' held held' passes status.WriteFault o = (
-  o.0,
-  record { took = o.1.took; front = o.1.front; rest = o.1.rest; split = o.1.split; text = o.1.text; wrote = o.1.wrote; begins = o.1.begins },
-)
-any_passes replies left left' held held' passes status.Memory o = (
-  o.0,
-  record { took = o.1.took; front = o.1.front; rest = o.1.rest; split = o.1.split; text = o.1.text; wrote = o.1.wrote; begins = o.1.begins },
-)
-any_passes replies left left' held held' passes status.TooLong o = (
-  o.0,
-  record { took = o.1.took; front = o.1.front; rest = o.1.rest; split = o.1.split; text = o.1.text; wrote = o.1.wrote; begins = o.1.begins },
-  o.2,
-  omega arith,
-)
+    (o.0, o.1, answered_passes replies left left' held held' passes o.0 o.1 o.2, o.3, o.4)
+any_passes replies left left' held held' passes status.ReadFault o =
+    (o.0, cut_passes replies left left' held held' passes o.0 o.1, omega arith)
+any_passes replies left left' held held' passes status.WriteFault o =
+    (o.0, cut_passes replies left left' held held' passes o.0 o.1)
+any_passes replies left left' held held' passes status.Memory o =
+    (o.0, cut_passes replies left left' held held' passes o.0 o.1)
+any_passes replies left left' held held' passes status.TooLong o =
+    (o.0, cut_passes replies left left' held held' passes o.0 o.1, o.2, omega arith)
 
 -- a bound of passes holds where the line wasn't cut short, if it holds
 pub counts_end : (answer : Status) (few : Type 0) → few → CountsEnd answer few

@@ -1,5 +1,5 @@
--- What the lines that were read say of the reply of a command that reads its input line by line, and how such a command
--- ends. It holds for every command whose reply is one to lines (`IsLined`).
+-- What the lines that were read say of the reply of a command that reads its input line by line. It holds for every
+-- command whose reply is one to lines (`IsLined`).
 use Rattle.std.specs.Prelude.{◌≡◌, ℕ, ◌+◌, ◌<◌, ◌≤◌, ◌⊎◌, Bool, true, false, List, [], ◌∷◌, ◌++◌, length, Option, Some, Ok, Err}
 use Rattle.std.specs.Io.KnownBytes.{IsAtEnd}
 use Rattle.std.specs.List.{AllByRecursion}
@@ -80,14 +80,14 @@ module _ (replies : List ℕ → Reply → Type 0) (most : List ℕ → ℕ) (Re
       (omega (arith, here, there))
 
   -- a text in front of another in front of a reply
-  in_front_twice : (input text more : List ℕ) (r : Reply) → replies input (in_front_of text (in_front_of more r))
+  pub in_front_twice : (input text more : List ℕ) (r : Reply) → replies input (in_front_of text (in_front_of more r))
       → replies input (in_front_of (text ++ more) r)
   in_front_twice input text more r replied =
       subst (λ (t : List ℕ). replies input (record { text = t; status = r.status }))
       (sym (append_assoc text more r.text)) replied
 
   -- behind a line that is found, the reply goes on with that line
-  line_replied : (start now : Streams) (old new : Reading) (bytes : List ℕ)
+  pub line_replied : (start now : Streams) (old new : Reading) (bytes : List ℕ)
       → (s : LinesStanding replies most Rest passing start now old) → AtHand old new bytes
       → (finds : FindsLine old new bytes) → (more : List ℕ) → MayFollow new.feed more
       → (r : Reply) → Rest new.lines (new.text ∷ lines_of more) r
@@ -124,19 +124,19 @@ module _ (replies : List ℕ → Reply → Type 0) (most : List ℕ → ℕ) (Re
 
   -- A line ends the command with a reply: a front of the input, the bytes behind it, and the reply that ends there,
   -- whatever follows the front.
-  record Ending (start now : Streams) (passes : ℕ) (old new : Reading) (left : Option (List ℕ))
+  pub record Ending (start now : Streams) (passes : ℕ) (old new : Reading) (left : Option (List ℕ))
       (s : LinesStanding replies most Rest passing start now old) (r : Reply) : Type 0 where
-    taken : List ℕ
-    draws : Draws old.feed new.feed now.left left taken
-    done : IsDone new.feed
-    front : List ℕ
-    split : s.front ++ (old.feed.pending ++ taken) ≡ front ++ new.feed.pending
-    within : length front ≤ most_bytes
-    replied : (more : List ℕ) → MayFollow new.feed more → replies (front ++ more) (in_front_of s.text r)
-    counted : (more : List ℕ) → MayFollow new.feed more → passes ≤ start.passes + most (front ++ more)
+    pub taken : List ℕ
+    pub draws : Draws old.feed new.feed now.left left taken
+    pub done : IsDone new.feed
+    pub front : List ℕ
+    pub split : s.front ++ (old.feed.pending ++ taken) ≡ front ++ new.feed.pending
+    pub within : length front ≤ most_bytes
+    pub replied : (more : List ℕ) → MayFollow new.feed more → replies (front ++ more) (in_front_of s.text r)
+    pub counted : (more : List ℕ) → MayFollow new.feed more → passes ≤ start.passes + most (front ++ more)
 
   -- a line that is refused for its length or its bytes
-  ending_bad : (start now : Streams) (old new : Reading) (left : Option (List ℕ))
+  pub ending_bad : (start now : Streams) (old new : Reading) (left : Option (List ℕ))
       (s : LinesStanding replies most Rest passing start now old) (bad : BadLine)
       → ReadsLine old new now.left left (Err (fault.Bad bad))
       → Ending start now now.passes old new left s (refusal_reply (refused.Line bad))
@@ -179,7 +179,7 @@ module _ (replies : List ℕ → Reply → Type 0) (most : List ℕ → ℕ) (Re
           (lined.faulty number text rest bad.reason fails)
 
   -- a line that ends the command by what it says
-  ending_line : (start now : Streams) (passes : ℕ) (old new : Reading) (left : Option (List ℕ))
+  pub ending_line : (start now : Streams) (passes : ℕ) (old new : Reading) (left : Option (List ℕ))
       (s : LinesStanding replies most Rest passing start now old) (r : Reply)
       → ReadsLine old new now.left left (Ok true) → Ends Rest new.lines new.text r
       → ((texts : List (List ℕ)) → passes ≤ now.passes + passing new.lines (new.text ∷ texts))
@@ -207,7 +207,7 @@ module _ (replies : List ℕ → Reply → Type 0) (most : List ℕ → ℕ) (Re
       }
 
   -- what comes behind a line that ends the command can't change the reply, or it ended with the input
-  settled : (start now : Streams) (passes : ℕ) (old new : Reading) (left : Option (List ℕ))
+  pub settled : (start now : Streams) (passes : ℕ) (old new : Reading) (left : Option (List ℕ))
       (s : LinesStanding replies most Rest passing start now old) (r : Reply)
       → (e : Ending start now passes old new left s r) → (b : Bool) → new.feed.ended ≡ b
       → IsSettled replies (s.front ++ (old.feed.pending ++ e.taken)) (in_front_of s.text r)
@@ -226,7 +226,7 @@ module _ (replies : List ℕ → Reply → Type 0) (most : List ℕ → ℕ) (Re
       )
 
   -- the reply to all that was taken, and the count
-  ending_replied : (start now : Streams) (passes : ℕ) (old new : Reading) (left : Option (List ℕ))
+  pub ending_replied : (start now : Streams) (passes : ℕ) (old new : Reading) (left : Option (List ℕ))
       (s : LinesStanding replies most Rest passing start now old) (r : Reply)
       → (e : Ending start now passes old new left s r)
       → replies (s.front ++ (old.feed.pending ++ e.taken)) (in_front_of s.text r)
@@ -239,7 +239,7 @@ module _ (replies : List ℕ → Reply → Type 0) (most : List ℕ → ℕ) (Re
   )
 
   -- the whole reply of a line that is refused was written
-  ends_refused : (start now : Streams) (passes : ℕ) (old new : Reading) (left held : Option (List ℕ))
+  pub ends_refused : (start now : Streams) (passes : ℕ) (old new : Reading) (left held : Option (List ℕ))
       (s : LinesStanding replies most Rest passing start now old) (text : List ℕ) (why : Refused)
       → Ending start now passes old new left s (record { text = text; status = status.Refused why })
       → Grew now.held held text
@@ -260,7 +260,7 @@ module _ (replies : List ℕ → Reply → Type 0) (most : List ℕ → ℕ) (Re
       )
 
   -- it could not be written whole
-  cut_refused : (start now : Streams) (passes : ℕ) (old new : Reading) (left held : Option (List ℕ))
+  pub cut_refused : (start now : Streams) (passes : ℕ) (old new : Reading) (left held : Option (List ℕ))
       (s : LinesStanding replies most Rest passing start now old) (r : Reply)
       → Ending start now passes old new left s r → GrewPartly now.held held r.text
       → Outcome replies most true start (record { left = left; held = held; passes = passes }) status.WriteFault
@@ -302,7 +302,7 @@ module _ (replies : List ℕ → Reply → Type 0) (most : List ℕ → ℕ) (Re
           )
 
   -- the reply to an input that was read to its end
-  end_replied : (start now : Streams) (old new : Reading) (left : Option (List ℕ)) (r : Reply)
+  pub end_replied : (start now : Streams) (old new : Reading) (left : Option (List ℕ)) (r : Reply)
       → (s : LinesStanding replies most Rest passing start now old)
       → (reads : ReadsLine old new now.left left (Ok false))
       → Rest (old.lines + 1 + length reads.finds.0.passed) [] r
@@ -316,14 +316,14 @@ module _ (replies : List ℕ → Reply → Type 0) (most : List ℕ → ℕ) (Re
       (passed_replied f.passed (old.lines + 1) [] r f.each ends))
 
   -- a reply begins with the text so far
-  begun : (start now : Streams) (old : Reading) (s : LinesStanding replies most Rest passing start now old)
+  pub begun : (start now : Streams) (old : Reading) (s : LinesStanding replies most Rest passing start now old)
       (more : List ℕ) → MayFollow old.feed more → (r : Reply) × replies (s.front ++ more) (in_front_of s.text r)
   begun start now old s more follows =
       let rest : (r : Reply) × Rest (old.lines + 1) (lines_of more) r = lined.some (old.lines + 1) (lines_of more) in
       (rest.0, s.read more follows rest.0 rest.1)
 
   -- the count where all that was taken is read
-  all_counted : (start now : Streams) (old new : Reading) (left : Option (List ℕ)) (taken : List ℕ)
+  pub all_counted : (start now : Streams) (old new : Reading) (left : Option (List ℕ)) (taken : List ℕ)
       → (s : LinesStanding replies most Rest passing start now old) → Draws old.feed new.feed now.left left taken
       → now.passes ≤ start.passes + most (s.front ++ (old.feed.pending ++ taken))
   all_counted start now old new left taken s draws =
@@ -332,7 +332,7 @@ module _ (replies : List ℕ → Reply → Type 0) (most : List ℕ → ℕ) (Re
       (s.counted (old.feed.pending ++ taken) (at_hand start now old new left s.front taken s.taken draws).follows)
 
   -- what was written so far, where nothing more is
-  cut_here : (start now : Streams) (old new : Reading) (left : Option (List ℕ)) (taken : List ℕ)
+  pub cut_here : (start now : Streams) (old new : Reading) (left : Option (List ℕ)) (taken : List ℕ)
       → (s : LinesStanding replies most Rest passing start now old) → Draws old.feed new.feed now.left left taken
       → CutShort replies start (record now { left = left }) (s.front ++ (old.feed.pending ++ taken))
   cut_here start now old new left taken s draws =
@@ -349,7 +349,8 @@ module _ (replies : List ℕ → Reply → Type 0) (most : List ℕ → ℕ) (Re
       by_end : (b : Bool) → old.feed.ended ≡ b
           → ((more : List ℕ) → (r : Reply) × replies (s.front ++ more) (in_front_of s.text r))
           ⊎ (IsAtEnd left × ((r : Reply) × replies (s.front ++ (old.feed.pending ++ taken)) (in_front_of s.text r)))
-      by_end false open_ended = inl (λ more. begun start now old s more (λ ended. absurd (false≢true (sym open_ended ∙ ended))))
+      by_end false open_ended =
+          inl (λ more. begun start now old s more (λ ended. absurd (false≢true (sym open_ended ∙ ended))))
       by_end true ended =
           inr (
             at_end start now old new left s.front taken s.taken draws (draws.stays ended),
@@ -358,7 +359,7 @@ module _ (replies : List ℕ → Reply → Type 0) (most : List ℕ → ℕ) (Re
           )
 
   -- the input is too long
-  too_long : (start now : Streams) (old new : Reading) (left : Option (List ℕ))
+  pub too_long : (start now : Streams) (old new : Reading) (left : Option (List ℕ))
       → LinesStanding replies most Rest passing start now old → ReadsLine old new now.left left (Err fault.TooLong)
       → Outcome replies most true start (record now { left = left }) status.TooLong
   unfolding lines_of
@@ -420,212 +421,8 @@ module _ (replies : List ℕ → Reply → Type 0) (most : List ℕ → ℕ) (Re
             (few (lines_of more));
       }
 
-  -- a text with which a reply to a line begins was written, and no more
-  cut_begun : (start now : Streams) (passes : ℕ) (old new : Reading) (left held : Option (List ℕ))
-      → (s : LinesStanding replies most Rest passing start now old) → (text : List ℕ)
-      → (reads : ReadsLine old new now.left left (Ok true)) → Begins Rest new.lines new.text text
-      → Grew now.held held text
-      → CutShort replies start (record { left = left; held = held; passes = passes })
-      ((s.front ++ reads.finds.0.front) ++ new.feed.pending)
-  cut_begun start now passes old new left held s text reads begins grew =
-      record {
-        took = (taken_behind start now old new left held passes s.front s.taken reads).took;
-        front = s.front ++ reads.finds.0.front;
-        rest = new.feed.pending;
-        split = refl;
-        text = s.text ++ text;
-        wrote = Grew-append start.held now.held held s.text text s.wrote grew;
-        begins = by_end new.feed.ended refl;
-      }
-    where
-      goes : (more : List ℕ) → MayFollow new.feed more
-          → (r : Reply) × replies ((s.front ++ reads.finds.0.front) ++ more) (in_front_of (s.text ++ text) r)
-      goes more follows =
-          let r : (r : Reply) × Rest new.lines (new.text ∷ lines_of more) (in_front_of text r) =
-          begins (lines_of more) in (
-            r.0,
-            in_front_twice ((s.front ++ reads.finds.0.front) ++ more) s.text text r.0
-                (line_replied start now old new (old.feed.pending ++ reads.taken) s
-                (at_hand start now old new left s.front reads.taken s.taken reads.draws) reads.finds.0 more follows
-                (in_front_of text r.0) r.1),
-          )
-
-      by_end : (b : Bool) → new.feed.ended ≡ b
-          → ((more : List ℕ)
-          → (r : Reply) × replies ((s.front ++ reads.finds.0.front) ++ more) (in_front_of (s.text ++ text) r))
-          ⊎ (IsAtEnd left
-          × ((r : Reply)
-          × replies ((s.front ++ reads.finds.0.front) ++ new.feed.pending) (in_front_of (s.text ++ text) r)))
-      by_end false open_ended = inl (λ more. goes more (λ ended. absurd (false≢true (sym open_ended ∙ ended))))
-      by_end true ended =
-          inr (
-            (taken_behind start now old new left held passes s.front s.taken reads).«end» ended,
-            goes new.feed.pending reads.done,
-          )
-
-  -- a line ended the command
-  pub ends_line : (start now : Streams) (passes : ℕ) (old new : Reading) (left held : Option (List ℕ))
-      → (s : LinesStanding replies most Rest passing start now old) → ReadsLine old new now.left left (Ok true)
-      → (answer : Status) → EndsLine Rest new.lines new.text now.held held answer
-      → CountsEnd answer ((texts : List (List ℕ)) → passes ≤ now.passes + passing new.lines (new.text ∷ texts))
-      → Outcome replies most true start (record { left = left; held = held; passes = passes }) answer
-  ends_line start now passes old new left held s reads (status.Refused why) e few =
-      ends_refused start now passes old new left held s e.0 why
-      (ending_line start now passes old new left s (record { text = e.0; status = status.Refused why }) reads e.1 few)
-      e.2
-  ends_line start now passes old new left held s reads (status.Broken place rule) e few =
-      let r : Reply = record { text = e.0; status = status.Broken place rule } in
-      let ending : Ending start now passes old new left s r =
-      ending_line start now passes old new left s r reads e.1 few in
-      let all = ending_replied start now passes old new left s r ending in (
-        s.front ++ (old.feed.pending ++ ending.taken),
-        in_front_of s.text r,
-        record {
-          took = taken_whole start now old new left s.front ending.taken s.taken ending.draws;
-          replied = all.0;
-          wrote = Grew-append start.held now.held held s.text e.0 s.wrote e.2;
-          counted = all.1;
-        },
-        refl,
-        settled start now passes old new left s r ending new.feed.ended refl,
-      )
-  ends_line start now passes old new left held s reads status.WriteFault e few =
-      (_, cut_begun start now passes old new left held s e.0 reads e.1 e.2)
-  ends_line start now passes old new left held s reads status.Memory e few =
-      (_, cut_begun start now passes old new left held s e.0 reads e.1 e.2)
-  ends_line start now passes old new left held s reads status.Done e few = absurd e
-  ends_line start now passes old new left held s reads status.Usage e few = absurd e
-  ends_line start now passes old new left held s reads status.ReadFault e few = absurd e
-  ends_line start now passes old new left held s reads status.TooLong e few = absurd e
-
   -- how many lines were read
   pub counted : (start now : Streams) (old new : Reading) (left : Option (List ℕ))
       → LinesStanding replies most Rest passing start now old → ReadsLine old new now.left left (Ok true)
       → (old.lines < new.lines) × (new.lines ≤ most_bytes)
   counted start now old new left s reads = (omega (arith, reads.finds.0.last), omega (arith, reads.few, reads.limit))
-
-  -- a line that couldn't be read ends the command
-  failed : (start now : Streams) (old new : Reading) (left held : Option (List ℕ)) → (f : LineFault)
-      → ReadsLine old new now.left left (Err f) → (answer : Status) → FailsWith f now.held held answer
-      → LinesStanding replies most Rest passing start now old
-      → Outcome replies most true start (record now { left = left; held = held }) answer
-  failed start now old new left held (fault.Bad bad) reads answer (inl h) s =
-      subst (λ (a : Status). Outcome replies most true start (record now { left = left; held = held }) a) (sym h.0)
-      (ends_refused start now now.passes old new left held s (refusal_line (refused.Line bad)) (refused.Line bad)
-      (ending_bad start now old new left s bad reads) h.1)
-  failed start now old new left held (fault.Bad bad) reads answer (inr h) s =
-      subst (λ (a : Status). Outcome replies most true start (record now { left = left; held = held }) a) (sym h.0)
-      (cut_refused start now now.passes old new left held s (refusal_reply (refused.Line bad))
-      (ending_bad start now old new left s bad reads) h.1)
-  failed start now old new left held fault.ReadFault reads answer fails s =
-      subst (λ (h : Option (List ℕ)). Outcome replies most true start (record now { left = left; held = h }) answer)
-      (sym fails.1)
-      (subst (λ (a : Status). Outcome replies most true start (record now { left = left }) a) (sym fails.0) (
-        s.front ++ (old.feed.pending ++ reads.taken),
-        cut_here start now old new left reads.taken s reads.draws,
-        all_counted start now old new left reads.taken s reads.draws,
-      ))
-  failed start now old new left held fault.TooLong reads answer fails s =
-      subst (λ (h : Option (List ℕ)). Outcome replies most true start (record now { left = left; held = h }) answer)
-      (sym fails.1)
-      (subst (λ (a : Status). Outcome replies most true start (record now { left = left }) a) (sym fails.0)
-      (too_long start now old new left s reads))
-
-  -- what was written so far, where not even a line was looked for
-  cut_before : (start now : Streams) (old : Reading) → (s : LinesStanding replies most Rest passing start now old)
-      → CutShort replies start now (s.front ++ old.feed.pending)
-  cut_before start now old s =
-      record {
-        took = s.taken.took;
-        front = s.front;
-        rest = old.feed.pending;
-        split = refl;
-        text = s.text;
-        wrote = s.wrote;
-        begins = by_end old.feed.ended refl;
-      }
-    where
-      by_end : (b : Bool) → old.feed.ended ≡ b
-          → ((more : List ℕ) → (r : Reply) × replies (s.front ++ more) (in_front_of s.text r))
-          ⊎ (IsAtEnd now.left × ((r : Reply) × replies (s.front ++ old.feed.pending) (in_front_of s.text r)))
-      by_end false open_ended = inl (λ more. begun start now old s more (λ ended. absurd (false≢true (sym open_ended ∙ ended))))
-      by_end true ended = inr (s.taken.«end» ended, begun start now old s old.feed.pending s.taken.done)
-
-  -- a line that wasn't read ends the command
-  pub unread : (start now : Streams) (old new : Reading) (left held : Option (List ℕ)) (answer : Status)
-      → EndsReading old new now.left left now.held held answer → LinesStanding replies most Rest passing start now old
-      → Outcome replies most true start (record now { left = left; held = held }) answer
-  unread start now old new left held answer (by_line f reads fails) s =
-      failed start now old new left held f reads answer fails s
-  unread start now old new left held answer (in_front is left_is held_is) s =
-      subst (λ (h : Option (List ℕ)). Outcome replies most true start (record now { left = left; held = h }) answer)
-      (sym held_is)
-      (subst (λ (l : Option (List ℕ)). Outcome replies most true start (record now { left = l }) answer) (sym left_is)
-      (subst (λ (a : Status). Outcome replies most true start now a) (sym is)
-      (s.front ++ old.feed.pending, cut_before start now old s)))
-
-  -- the whole of a reply at the end of the input
-  end_answered : (start now : Streams) (old new : Reading) (left held : Option (List ℕ))
-      → (s : LinesStanding replies most Rest passing start now old)
-      → (reads : ReadsLine old new now.left left (Ok false)) → (r : Reply)
-      → Rest (old.lines + 1 + length reads.finds.0.passed) [] r → Grew now.held held r.text
-      → Answered replies most start (record now { left = left; held = held })
-      (s.front ++ (old.feed.pending ++ reads.taken)) (in_front_of s.text r)
-  end_answered start now old new left held s reads r ends grew =
-      record {
-        took = taken_whole start now old new left s.front reads.taken s.taken reads.draws;
-        replied = end_replied start now old new left r s reads ends;
-        wrote = Grew-append start.held now.held held s.text r.text s.wrote grew;
-        counted = all_counted start now old new left reads.taken s reads.draws;
-      }
-
-  -- the end of the input was read, and the command ended there
-  pub ended : (start now : Streams) (old new : Reading) (left held : Option (List ℕ))
-      → (s : LinesStanding replies most Rest passing start now old)
-      → (reads : ReadsLine old new now.left left (Ok false)) → (answer : Status)
-      → EndsInput Rest (old.lines + 1 + length reads.finds.0.passed) now.held held answer
-      → Outcome replies most true start (record now { left = left; held = held }) answer
-  ended start now old new left held s reads status.Done e =
-      let r : Reply = record { text = e.0; status = status.Done } in (
-        s.front ++ (old.feed.pending ++ reads.taken),
-        in_front_of s.text r,
-        end_answered start now old new left held s reads r e.1 e.2,
-        refl,
-        inl (whole_end start now old new left s.front reads.taken s.taken reads.draws reads.limit reads.finds.0),
-      )
-  ended start now old new left held s reads (status.Broken place rule) e =
-      let r : Reply = record { text = e.0; status = status.Broken place rule } in (
-        s.front ++ (old.feed.pending ++ reads.taken),
-        in_front_of s.text r,
-        end_answered start now old new left held s reads r e.1 e.2,
-        refl,
-        inr (whole_end start now old new left s.front reads.taken s.taken reads.draws reads.limit reads.finds.0),
-      )
-  ended start now old new left held s reads status.WriteFault e = (
-    s.front ++ (old.feed.pending ++ reads.taken),
-    record {
-      took = taken_whole start now old new left s.front reads.taken s.taken reads.draws;
-      front = s.front;
-      rest = old.feed.pending ++ reads.taken;
-      split = refl;
-      text = s.text ++ e.0;
-      wrote = Grew-append start.held now.held held s.text e.0 s.wrote e.3;
-      begins =
-          inr (
-            at_end start now old new left s.front reads.taken s.taken reads.draws reads.finds.0.ended,
-            (
-              e.1,
-              in_front_twice (s.front ++ (old.feed.pending ++ reads.taken)) s.text e.0 e.1
-                  (end_replied start now old new left (in_front_of e.0 e.1) s reads e.2),
-            ),
-          );
-    },
-  )
-  ended start now old new left held s reads status.Memory e =
-      subst (λ (h : Option (List ℕ)).
-      Outcome replies most true start (record now { left = left; held = h }) status.Memory) (sym e)
-      (s.front ++ (old.feed.pending ++ reads.taken), cut_here start now old new left reads.taken s reads.draws)
-  ended start now old new left held s reads (status.Refused why) e = absurd e
-  ended start now old new left held s reads status.Usage e = absurd e
-  ended start now old new left held s reads status.ReadFault e = absurd e
-  ended start now old new left held s reads status.TooLong e = absurd e

@@ -72,7 +72,9 @@ module _ {Seen : Type 0} (Rest : Seen → ℕ → List (List ℕ) → Reply → 
       pub text : List ℕ
       pub goes : GoesOn (Rest seen) (Rest next) number line text
       pub wrote : Grew held held' text
-      pub counted : (texts : List (List ℕ)) → passes' + most next (number + 1) texts ≤ passes + most seen number (line ∷ texts)
+      pub counted :
+          (texts : List (List ℕ))
+          → passes' + most next (number + 1) texts ≤ passes + most seen number (line ∷ texts)
 
     -- what a line that was read comes to; no answer goes on
     abbrev pub TakesLine : (Stands : Seen → Type 0) → Seen → (number : ℕ) → (line : List ℕ) → (passes passes' : ℕ)

@@ -78,8 +78,8 @@ pub fn carry_out_lines<C: LineCommand, I: Source, O: Sink>(
         Outcome (λ bytes r. C.rest seen 1 (lines_of bytes) r) (λ bytes. C.most seen 1 (lines_of bytes)) true
         (streams_of I.left (held O.held) input.old output.old (C.count command.old).passes)
         (streams_of I.left (held O.held) input.new output.new (C.count command.new).passes) result }
-    // Where the input tells its bytes, and they are no more than it may have, an answer that isn't cut short is the whole
-    // reply to them.
+    // Where the input tells its bytes, and they are no more than it may have, an answer that isn't cut short is the
+    // whole reply to them.
     ensures complete { (seen : C.Seen) → C.stands command.old 0 seen → (bytes : List ℕ) →
         I.left input.old ≡ Some bytes → length bytes ≤ most_bytes → IsUncut result →
         IsWholeReply (λ bytes r. C.rest seen 1 (lines_of bytes) r) bytes (held O.held output.old)

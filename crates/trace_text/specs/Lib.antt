@@ -8,6 +8,7 @@ pub mod EventLines
 pub mod FactLines
 pub mod Facts
 pub mod Hexadecimal
+pub mod Rooms
 pub mod Script
 pub mod Summary
 pub mod TextListener

@@ -1,14 +1,19 @@
 //! Octets in hexadecimal.
 
-ghost use Rattle.std.specs.Prelude.{◌≡◌, false, length, IsTrue};
+ghost use Rattle.std.specs.Prelude.{◌≡◌, ◌+◌, ◌*◌, ◌<◌, ◌≤◌, ◌∷◌, ◌++◌, false, length, take, IsTrue};
 ghost use Rattle.std.specs.Option.{option_copied};
 ghost use Rattle.std.specs.List.{list_all};
+ghost use Rattle.arrayvec.specs.ArrayVec.{array_vec_len};
+ghost use Rattle.hex.specs.Hex.{encode_lower};
+ghost use Rattle.line_input.specs.Characters.{space};
 ghost use Rattle.trace_text.specs.EntryLines.{is_lower_digit, set_octets};
 ghost use Rattle.trace_text.specs.FactLines.{candidate_from, set_of};
 ghost use Rattle.trace_text.specs.Hexadecimal.{octets_of, content_of};
 ghost use Rattle.trace_text.specs.inner.Decoding.{DecodesTo, DecodesNone, few_of};
 
+use arrayvec::ArrayVec;
 use line_input::is_word;
+use link_frames::OCTETS;
 use msd_fit::{Candidate, MOST_TOGETHER};
 
 /// The octets of a ready set, 1 to 140, with zero octets to its end.
@@ -95,4 +100,27 @@ fn decode_front(text: &[u8], into: &mut [u8]) -> bool
         return false;
     }
     hex::decode_to_slice(text, &mut into[..count]).is_ok()
+}
+
+/// Appends octets behind a space, in hexadecimal of lower case.
+pub fn push_octets<const N: usize>(line: &mut ArrayVec<u8, N>, octets: &[u8])
+    requires few { length octets.now ≤ OCTETS }
+    requires room { array_vec_len line.old + 2 * length octets.now < N }
+    ensures bytes { line.new.items ≡ line.old.items ++ space ∷ encode_lower octets.now }
+    ensures len { array_vec_len line.new ≡ array_vec_len line.old + 1 + 2 * length octets.now }
+{
+    line.push(b' ');
+    let start = line.len();
+    let zeros = [b'0'; 2 * OCTETS];
+    line.try_extend_from_slice(&zeros[..2 * octets.len()])
+        .unwrap();
+    encode_behind(line.as_mut_slice(), start, octets);
+}
+
+/// Puts octets in hexadecimal in place of what stands behind a front.
+fn encode_behind(text: &mut [u8], start: usize, octets: &[u8])
+    requires { start + 2 * length octets.now ≡ length text.old }
+    ensures { text.new ≡ take start text.old ++ encode_lower octets.now }
+{
+    hex::encode_to_slice(octets, &mut text[start..]).unwrap();
 }

@@ -12,8 +12,10 @@ mod event_tests;
 mod events;
 mod fact_line;
 mod facts;
+mod frame_text;
 mod hexadecimal;
 mod laws;
+mod note_text;
 mod numbers;
 #[cfg(test)]
 mod refusal_tests;
@@ -28,10 +30,13 @@ pub use draft::Draft;
 pub use encode::{EncodeLine, read_encode};
 pub use entries::read_entry;
 pub use fact_line::FactLine;
+pub use frame_text::push_frame_words;
+pub use hexadecimal::push_octets;
 pub use laws::{entry_laws, summary_laws};
 pub use line_input::{
     BadLine, Line, LineFault, Lines, Reason, only_word, push_number, push_word, read_u32,
 };
+pub use note_text::push_note_words;
 pub use script::{ScriptLine, read_script};
 pub use text_out::TextOut;
 pub use trace_model::{

@@ -18,7 +18,7 @@ pub const LONGEST_SUMMARY: usize = 60;
 
 /// Appends the summary of the set that octets show, or of their refusal. They are decoded once, and not copied.
 pub fn push_summary<const N: usize>(line: &mut ArrayVec<u8, N>, octets: &[u8])
-    requires { array_vec_len line.old + LONGEST_SUMMARY < N }
+    requires { array_vec_len line.old + LONGEST_SUMMARY ≤ N }
     ensures bytes { line.new.items ≡ line.old.items ++ spaced (summary_words octets.now) }
     ensures len { array_vec_len line.new ≤ array_vec_len line.old + LONGEST_SUMMARY }
 {
@@ -30,7 +30,7 @@ pub fn push_summary<const N: usize>(line: &mut ArrayVec<u8, N>, octets: &[u8])
 
 /// Appends the summary of a set.
 fn push_ok<const N: usize>(line: &mut ArrayVec<u8, N>, msd: &Msd<'_>)
-    requires { array_vec_len line.old + LONGEST_SUMMARY < N }
+    requires { array_vec_len line.old + LONGEST_SUMMARY ≤ N }
     ensures bytes { line.new.items ≡ line.old.items ++ spaced (ok_words msd.now) }
     ensures len { array_vec_len line.new ≤ array_vec_len line.old + LONGEST_SUMMARY }
 {
@@ -40,7 +40,7 @@ fn push_ok<const N: usize>(line: &mut ArrayVec<u8, N>, msd: &Msd<'_>)
 
 /// Appends the message of a set, and whose it is.
 fn push_vehicle<const N: usize>(line: &mut ArrayVec<u8, N>, msd: &Msd<'_>)
-    requires { array_vec_len line.old + LONGEST_SUMMARY < N }
+    requires { array_vec_len line.old + LONGEST_SUMMARY ≤ N }
     ensures bytes { line.new.items
         ≡ line.old.items ++ spaced (codes "ok" ∷ decimal msd.now.message ∷ msd.now.vin ∷ []) }
     ensures len { array_vec_len line.new ≤ array_vec_len line.old + 25 }
@@ -52,7 +52,7 @@ fn push_vehicle<const N: usize>(line: &mut ArrayVec<u8, N>, msd: &Msd<'_>)
 
 /// Appends when and where a set was made.
 fn push_place<const N: usize>(line: &mut ArrayVec<u8, N>, msd: &Msd<'_>)
-    requires { array_vec_len line.old + 35 < N }
+    requires { array_vec_len line.old + 35 ≤ N }
     ensures bytes { line.new.items
         ≡ line.old.items ++ spaced (decimal msd.now.time ∷ signed_decimal msd.now.latitude
         ∷ signed_decimal msd.now.longitude ∷ []) }
@@ -65,7 +65,7 @@ fn push_place<const N: usize>(line: &mut ArrayVec<u8, N>, msd: &Msd<'_>)
 
 /// Appends the summary of a refusal.
 fn push_refused<const N: usize>(line: &mut ArrayVec<u8, N>, refusal: &Refusal)
-    requires { array_vec_len line.old + LONGEST_SUMMARY < N }
+    requires { array_vec_len line.old + LONGEST_SUMMARY ≤ N }
     ensures bytes { line.new.items ≡ line.old.items ++ spaced (refused_words refusal.now) }
     ensures len { array_vec_len line.new ≤ array_vec_len line.old + LONGEST_SUMMARY }
 {

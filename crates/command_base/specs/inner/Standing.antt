@@ -1,5 +1,5 @@
--- Where a command over lines stands between two lines, and what one more line comes to. This project's profile. Cited by
--- the loop over lines.
+-- Where a command over lines stands between two lines, and what one more line comes to. This project's profile. Cited
+-- by the loop over lines.
 use Rattle.std.specs.Prelude.{ℕ, ◌+◌, ◌<◌, ◌≤◌, true, List, ◌++◌, Option, Some, None}
 use Rattle.call_io.specs.Bytes.{Grew}
 use Rattle.line_input.specs.Lines.{lines_of, most_bytes}

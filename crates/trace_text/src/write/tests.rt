@@ -2,6 +2,7 @@
 
 use super::*;
 use call_io::MemSink;
+use link_frames::{Answer, DialAttempt, End, OCTETS, Request, Timer, Why};
 use std::alloc::{AllocError, Global};
 use std::test::Fail;
 
