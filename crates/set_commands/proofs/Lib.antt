@@ -1,0 +1,9 @@
+mod WordsGiven
+mod DecodeLines
+mod EncodeLines
+mod FramesTaken
+mod FramesLines
+mod Shortest
+mod ConformTold
+mod Conformed
+pub mod OneReply

@@ -1,0 +1,15 @@
+use Rattle.std.proofs.Common.{◌≡◌, []}
+use Rattle.call_io.specs.Blocks.{held}
+use Rattle.set_commands.specs.Encode.{encode_reply}
+use Rattle.command_base.proofs.LineEnds.{any_passes}
+use Rattle.set_commands.proofs.encode.encode_sets.Goals as goal
+
+pub carry_out_lines-requires : goal.carry_out_lines-requires
+carry_out_lines-requires g c = ([], c.new-draft.ensures)
+
+pub returns-clause-outcome : goal.returns-clause-outcome
+returns-clause-outcome g c = λ passes.
+    any_passes (λ bytes r. r ≡ encode_reply bytes) (g.I.Source.left c.args.input.now)
+    (g.I.Source.left c.carry_out_lines.new.input) (held g.O.Sink.held c.args.output.now)
+    (held g.O.Sink.held c.carry_out_lines.new.output) passes c.carry_out_lines.result
+    (c.carry_out_lines.ensures.outcome [] c.new-draft.ensures)

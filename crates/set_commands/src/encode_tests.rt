@@ -1,0 +1,186 @@
+//! What no clause says: that the definitions mean, on sets and lines worked out by hand, what the description of the
+//! format says.
+
+use crate::decode_tests::PETROL;
+use crate::tests::{Command, bad, expect, expect_over, expect_stop, source};
+use command_base::Status;
+use line_input::Reason;
+use std::alloc::{AllocError, Global};
+use std::process::Abort;
+use std::test::Fail;
+
+/// A car of which no energy is known.
+const CAR: &str =
+    "vin WM9VDSVDSYA123456\nkind 1\ntime 1577836800\nplace 173880000 41700000\nheading 45\ntrusted yes\n";
+
+/// Its set: the least one.
+const LEAST: &str = "02000681d54970d65c3597ca0420c4146005e0be1008a5d32c0827c4aa02d0\n";
+
+/// The set of the petrol car behind its first three octets, which number 255 changes: its bits are the last 2 of the
+/// second octet and the first 6 of the third.
+const BEHIND_CONTROL: &str = "81d54970d65c3597ca0420c414640af05f080452e9960413e2550168\n";
+
+/// So many digits 0.
+fn zeros(alloc: Global, count: usize) -> Result<String, AllocError> {
+    let mut text = String::new(alloc);
+    for _ in 0..count {
+        text.push('0')?;
+    }
+    Ok(text)
+}
+
+/// These pieces behind one another.
+fn joined(alloc: Global, pieces: &[&str]) -> Result<String, AllocError> {
+    let mut text = String::new(alloc);
+    for piece in pieces {
+        text.push_str(piece)?;
+    }
+    Ok(text)
+}
+
+#[test]
+fn encodes_facts_as_they_change(rt: HostRuntime) -> Result<(), Fail> {
+    let alloc = rt.alloc();
+    // A comment and an empty line stand in front, so the line that is refused has number 13.
+    let input = [
+        "# a car\n\n",
+        CAR,
+        "write auto 1\nfuel 1000000\nwrite auto 1\nwrite auto 255\nanswer\n",
+    ];
+    let want = [LEAST, PETROL, "\n0203fe", BEHIND_CONTROL, "refused 13 1\n"];
+    let text = joined(alloc, &want)?;
+    let status = bad(13, Reason::Word);
+    expect_over(&rt, alloc, Command::Encode, &input, status, text.as_str())
+}
+
+/// The car and what fills its set, with two candidates whose digits are these.
+fn candidates(alloc: Global, first: &str, second: &str) -> Result<String, AllocError> {
+    let pieces = [
+        CAR,
+        "fuel 1111111\nbefore1 10 -10\nbefore2 -512 511\npassengers 2\nextra 01 ",
+        first,
+        "\nextra 01 ",
+        second,
+        "\nwrite auto 1",
+    ];
+    joined(alloc, &pieces)
+}
+
+/// The set with the candidate of these digits.
+fn with_candidate(alloc: Global, digits: &str) -> Result<String, AllocError> {
+    let front =
+        "025c0681d54970d65c3597ca0420c41467ffebc17c20114ba658104f895405b053ec007fe040202c60";
+    joined(alloc, &[front, digits, "\n"])
+}
+
+#[test]
+fn encodes_the_first_candidate_that_fits(rt: HostRuntime) -> Result<(), Fail> {
+    let alloc = rt.alloc();
+    // The first has 101 octets with its identifier and is passed over.
+    let over = zeros(alloc, 200)?;
+    let fits = zeros(alloc, 198)?;
+    let lines = candidates(alloc, over.as_str(), fits.as_str())?;
+    let text = with_candidate(alloc, fits.as_str())?;
+    expect_over(
+        &rt,
+        alloc,
+        Command::Encode,
+        &[lines.as_str()],
+        Status::Done,
+        text.as_str(),
+    )
+}
+
+/// Checks that a line is refused that stands in front of another.
+fn expect_refused(
+    rt: &impl Abort,
+    alloc: Global,
+    line: &str,
+    reason: Reason,
+    text: &str,
+) -> Result<(), Fail> {
+    let input = source(alloc, &[line, "\nvin 0"], 4096, Vec::new(alloc))?;
+    expect(
+        rt,
+        alloc,
+        Command::Encode,
+        line,
+        input,
+        Vec::new(alloc),
+        bad(1, reason),
+        text,
+    )
+}
+
+#[test]
+fn refuses_facts_and_questions(rt: HostRuntime) -> Result<(), Fail> {
+    let alloc = rt.alloc();
+    // Each stands alone, and where two reasons hold the one that is judged first is told.
+    let table = [
+        ("answer\t", Reason::Text, "refused 1 5\n"),
+        ("answer 1", Reason::Word, "refused 1 1\n"),
+        ("trigger auto", Reason::Word, "refused 1 1\n"),
+        ("set 02", Reason::Word, "refused 1 1\n"),
+        ("write soft 1", Reason::Word, "refused 1 1\n"),
+        ("write auto", Reason::Count, "refused 1 3\n"),
+        ("write auto 256", Reason::Number, "refused 1 2\n"),
+        ("extra 01 0", Reason::Hex, "refused 1 6\n"),
+        ("write auto 1", Reason::Missing, "refused 1 7\n"),
+    ];
+    for (line, reason, text) in &table {
+        expect_refused(&rt, alloc, line, *reason, text)?;
+    }
+    Ok(())
+}
+
+#[test]
+fn refuses_a_long_line(rt: HostRuntime) -> Result<(), Fail> {
+    let alloc = rt.alloc();
+    // 513 bytes, one of which may not stand in a line.
+    let long = zeros(alloc, 512)?;
+    let status = bad(1, Reason::LineLong);
+    expect_over(
+        &rt,
+        alloc,
+        Command::Encode,
+        &["\t", long.as_str()],
+        status,
+        "refused 1 4\n",
+    )
+}
+
+#[test]
+fn refuses_a_fifth_candidate(rt: HostRuntime) -> Result<(), Fail> {
+    let alloc = rt.alloc();
+    let extra = "extra 01 00\n";
+    let four = [extra, extra, extra, extra, "kind 1"];
+    expect_over(&rt, alloc, Command::Encode, &four, Status::Done, "")?;
+    let five = [extra, extra, extra, extra, extra];
+    let status = bad(5, Reason::Many);
+    expect_over(&rt, alloc, Command::Encode, &five, status, "refused 5 9\n")
+}
+
+#[test]
+fn encoding_stops_at_a_failed_write_or_read(rt: HostRuntime) -> Result<(), Fail> {
+    // The source gives the facts and one line that asks for a set a call.
+    let asks = "write auto 1\n";
+    let most = CAR.len() + asks.len();
+    for (fault, status, text) in [
+        ((1u64, 0u64), Status::ReadFault, ""),
+        ((2, 0), Status::ReadFault, LEAST),
+        ((0, 1), Status::WriteFault, ""),
+        ((0, 2), Status::WriteFault, LEAST),
+    ] {
+        expect_stop(
+            &rt,
+            rt.alloc(),
+            Command::Encode,
+            &[CAR, asks, asks],
+            most,
+            fault,
+            status,
+            text,
+        )?;
+    }
+    Ok(())
+}
