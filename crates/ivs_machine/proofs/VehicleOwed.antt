@@ -14,7 +14,7 @@ use Rattle.msd_fit.specs.declared.cause.Cause.{Cause}
 use Rattle.redial.specs.declared.series.Phase as series
 use Rattle.redial.specs.declared.series.Phase.TheVariants as series_phase
 use Rattle.redial.specs.declared.series.Series.{Series}
-use Rattle.ivs_machine.specs.Vehicle.{Vehicle, Phase, Idle, Standby, Arming, InSeries, InCall, Left, Stage, octets_for, Initiating, Awaiting, Sending, Confirming, Talking}
+use Rattle.ivs_machine.specs.Vehicle.{Vehicle, Phase, Idle, Standby, Arming, InSeries, InCall, Left, CallStage, octets_for, Initiating, Awaiting, Sending, Confirming, Talking}
 use Rattle.ivs_machine.specs.VehicleRows.{Heard, Trigger, Cancel, Net, Answered, Failed, Incoming, Sleep, Fault, Hangup, Lost, Arrives, vehicle_row, unit_row, units}
 use Rattle.ivs_machine.specs.VehicleKept.{IsKept}
 use Rattle.ivs_machine.specs.VehicleOwes.{VehicleOwes, EventOwes, came, comes_up, seat_of}
@@ -185,7 +185,7 @@ unit_confirming v r h = search rules
 unit_talking : (v : Vehicle) → UnitOwes (record v { phase = InCall Talking })
 unit_talking v h = search rules
 
-unit_in_call : (v : Vehicle) (stage : Stage) → UnitOwes (record v { phase = InCall stage })
+unit_in_call : (v : Vehicle) (stage : CallStage) → UnitOwes (record v { phase = InCall stage })
 unit_in_call v Initiating = unit_initiating v
 unit_in_call v Awaiting = unit_awaiting v
 unit_in_call v (Sending r) = unit_sending v r

@@ -12,14 +12,14 @@ use Rattle.ivs_machine.specs.declared.vehicle.Left as kept_left
 use Rattle.ivs_machine.specs.declared.vehicle.Left.TheVariants as left
 use Rattle.ivs_machine.specs.declared.vehicle.Phase as kept_phase
 use Rattle.ivs_machine.specs.declared.vehicle.Phase.TheVariants as phase
-use Rattle.ivs_machine.specs.declared.vehicle.Stage as kept_stage
-use Rattle.ivs_machine.specs.declared.vehicle.Stage.TheVariants as stage
-use Rattle.ivs_machine.specs.Vehicle.{Vehicle, Phase, Idle, Standby, Arming, InSeries, InCall, Left, LeftIdle, LeftStandby, Stage, Initiating, Awaiting, Sending, Confirming, Talking, served, has_some}
+use Rattle.ivs_machine.specs.declared.vehicle.CallStage as kept_stage
+use Rattle.ivs_machine.specs.declared.vehicle.CallStage.TheVariants as stage
+use Rattle.ivs_machine.specs.Vehicle.{Vehicle, Phase, Idle, Standby, Arming, InSeries, InCall, Left, LeftIdle, LeftStandby, CallStage, Initiating, Awaiting, Sending, Confirming, Talking, served, has_some}
 use Rattle.ivs_machine.specs.VehicleKept.{IsKept}
 use Rattle.ivs_machine.specs.VehicleRows.{most_number}
 
 -- the stage that an `Ivs`' stage stands for
-abbrev pub stage_of : kept_stage.Stage → Stage
+abbrev pub stage_of : kept_stage.CallStage → CallStage
 stage_of stage.Initiating = Initiating
 stage_of stage.Awaiting = Awaiting
 stage_of (stage.Sending request) = Sending request
@@ -58,13 +58,13 @@ vehicle_of ivs hidden =
       sets = hidden.sets;
       standby = ivs.standby;
       in_phase = ivs.in_phase;
-      call = ivs.call;
+      call = ivs.call.number;
       made = hidden.made;
       counted = hidden.counted;
-      attempt = ivs.attempt;
-      in_call = ivs.in_call;
+      attempt = ivs.call.last_attempt;
+      in_call = ivs.call.ticks;
       voice_for = hidden.voice_for;
-      marked = ivs.marked;
+      marked = ivs.call.settled_without_data;
     }
 
 -- these octets are those of the set made last, if any was made
@@ -81,12 +81,12 @@ VoiceIs voice _ ticks = Unit {0}
 -- the vehicle is that of this `Ivs`
 pub record IvsIs (ivs : Ivs) (v : Vehicle) : Type 0 where
   pub same : v ≡ vehicle_of ivs (hidden_of v)
-  pub served : served v.made ≡ ivs.served
-  pub octets : AreLast ivs.octets v.made
-  pub counted : RequestsStandFor ivs.counted v.counted
-  pub counts : has_some v.counted ≡ ivs.counts
-  pub sets : min v.sets most_number ≡ ivs.sets
-  pub voice : VoiceIs ivs.voice v.phase v.voice_for
+  pub served : served v.made ≡ ivs.call.greatest_obeyed
+  pub octets : AreLast ivs.call.set v.made
+  pub counted : RequestsStandFor ivs.call.counted v.counted
+  pub counts : has_some v.counted ≡ ivs.call.has_counted
+  pub sets : min v.sets most_number ≡ ivs.sets_made
+  pub voice : VoiceIs ivs.call.voice v.phase v.voice_for
 
 pub record IvsStandsFor (ivs : Ivs) (v : Vehicle) : Type 0 where
   pub is : IvsIs ivs v

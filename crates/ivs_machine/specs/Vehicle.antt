@@ -10,12 +10,12 @@ use Rattle.redial.specs.Series as series
 use Rattle.redial.specs.declared.series.Series.{Series}
 
 -- What the vehicle waits for in a call, with its request. The voice is open in Talking alone.
-pub data Stage : Type 0 where
-  Initiating : Stage
-  Awaiting : Stage
-  Sending : (request : ℕ) → Stage
-  Confirming : (request : ℕ) → Stage
-  Talking : Stage
+pub data CallStage : Type 0 where
+  Initiating : CallStage
+  Awaiting : CallStage
+  Sending : (request : ℕ) → CallStage
+  Confirming : (request : ℕ) → CallStage
+  Talking : CallStage
 
 -- what the vehicle left for the cancel period of a manual trigger
 pub data Left : Type 0 where
@@ -28,7 +28,7 @@ pub data Phase : Type 0 where
   Standby : Phase
   Arming : Left → Phase
   InSeries : Series → Phase
-  InCall : Stage → Phase
+  InCall : CallStage → Phase
 
 pub record Vehicle : Type 0 where
   pub facts : Facts

@@ -7,7 +7,7 @@ use Rattle.link_frames.specs.Legs.{Kept, muting_limit}
 use Rattle.link_frames.specs.declared.frame.End.TheVariants as «end»
 use Rattle.redial.specs.Series as series
 use Rattle.redial.specs.declared.series.Series.{Series}
-use Rattle.ivs_machine.specs.Vehicle.{Vehicle, Phase, Idle, Standby, Arming, InSeries, InCall, Left, LeftIdle, LeftStandby, Stage, Initiating, Awaiting, Sending, Confirming, Talking, served}
+use Rattle.ivs_machine.specs.Vehicle.{Vehicle, Phase, Idle, Standby, Arming, InSeries, InCall, Left, LeftIdle, LeftStandby, CallStage, Initiating, Awaiting, Sending, Confirming, Talking, served}
 use Rattle.ivs_machine.specs.VehicleRows.{cancel_period, longest_call, initiation, longest_awaiting, longest_confirming, longest_sending}
 
 -- each set is for a request above those of all sets before it
@@ -21,13 +21,13 @@ IsLast r [] = ⊥
 IsLast r (set ∷ sets) = set.0 ≡ r
 
 -- while a request is sent or confirmed, the set made last is its own
-abbrev pub IsOfStage : Stage → List Kept → Type 0
+abbrev pub IsOfStage : CallStage → List Kept → Type 0
 IsOfStage (Sending r) made = IsLast r made
 IsOfStage (Confirming r) made = IsLast r made
 IsOfStage _ made = Unit {0}
 
 -- the ticks at which a stage ends at the latest
-abbrev pub longest : Stage → ℕ
+abbrev pub longest : CallStage → ℕ
 longest Initiating = initiation
 longest Awaiting = longest_awaiting
 longest (Sending r) = longest_sending
@@ -35,11 +35,11 @@ longest (Confirming r) = longest_confirming
 longest Talking = longest_call
 
 -- a muted voice has ticks left to its limit
-abbrev pub IsInTime : Stage → (voice_for : ℕ) → Type 0
+abbrev pub IsInTime : CallStage → (voice_for : ℕ) → Type 0
 IsInTime Talking ticks = Unit {0}
 IsInTime _ ticks = ticks < muting_limit «end».Vehicle
 
-pub record IsCall (stage : Stage) (in_call in_phase voice_for : ℕ) (made : List Kept) : Type 0 where
+pub record IsCall (stage : CallStage) (in_call in_phase voice_for : ℕ) (made : List Kept) : Type 0 where
   pub call : in_call < longest_call
   pub phase_within : in_phase ≤ in_call
   pub voice_within : voice_for ≤ in_call

@@ -10,11 +10,11 @@ use Rattle.link_frames.specs.Legs.{through}
 use Rattle.link_frames.specs.Owes.{Seat, Owes, OwesArrival}
 use Rattle.link_frames.specs.Row.{Row}
 use Rattle.redial.specs.Series as series
-use Rattle.ivs_machine.specs.Vehicle.{Vehicle, Phase, Standby, InSeries, InCall, Stage, Talking}
+use Rattle.ivs_machine.specs.Vehicle.{Vehicle, Phase, Standby, InSeries, InCall, CallStage, Talking}
 use Rattle.ivs_machine.specs.VehicleRows.{Heard, Answered, Incoming, Arrives}
 use Rattle.ivs_machine.specs.VehicleKept.{IsKept}
 
-abbrev pub talks_in : Stage → Bool
+abbrev pub talks_in : CallStage → Bool
 talks_in Talking = true
 talks_in _ = false
 

@@ -29,7 +29,7 @@ use Rattle.redial.specs.declared.series.Series.{Series}
 use Rattle.redial.specs.declared.series.Turn.{Turn}
 use Rattle.ivs_machine.specs.declared.event.VehicleEvent.{VehicleEvent}
 use Rattle.ivs_machine.specs.declared.event.VehicleEvent.TheVariants as event
-use Rattle.ivs_machine.specs.Vehicle.{Vehicle, Phase, Idle, Standby, Arming, InSeries, InCall, Left, LeftIdle, LeftStandby, Stage, Initiating, Awaiting, Sending, Confirming, Talking, served, octets_for, is_settled}
+use Rattle.ivs_machine.specs.Vehicle.{Vehicle, Phase, Idle, Standby, Arming, InSeries, InCall, Left, LeftIdle, LeftStandby, CallStage, Initiating, Awaiting, Sending, Confirming, Talking, served, octets_for, is_settled}
 
 -- What the vehicle hears: an event whose frame is a whole one.
 pub data Heard : Type 0 where
@@ -186,7 +186,7 @@ returns v LeftIdle = gives [] (record v { phase = Idle })
 returns v LeftStandby = if v.standby == longest_standby then idles v else gives [] (record v { phase = Standby })
 
 -- a call of this number, with nothing made, counted or sent yet
-abbrev pub in_new_call : ℕ → Stage → (marked : Bool) → Vehicle → Vehicle
+abbrev pub in_new_call : ℕ → CallStage → (marked : Bool) → Vehicle → Vehicle
 in_new_call c stage marked v =
     record v {
       phase = InCall stage;
@@ -213,7 +213,7 @@ called c v =
     gives (note.Up «end».Vehicle c ∷ note.Voice «end».Vehicle c true true ∷ []) (in_new_call c Talking true v)
 
 -- another stage of the call, with the voice as it was
-abbrev pub enters : Stage → Vehicle → Vehicle
+abbrev pub enters : CallStage → Vehicle → Vehicle
 enters stage v = record v { phase = InCall stage; in_phase = 0 }
 
 abbrev pub opens : Vehicle → Row Vehicle
@@ -344,7 +344,7 @@ abbrev pub by_sum : Vehicle → Deadline (Row Vehicle)
 by_sum v = at (muting_limit «end».Vehicle) v.voice_for (times_out timer.Sum (marks v))
 
 -- the lines of a stage of a call, by rank
-abbrev pub in_stage : Vehicle → Stage → List (Deadline (Row Vehicle))
+abbrev pub in_stage : Vehicle → CallStage → List (Deadline (Row Vehicle))
 in_stage v Initiating =
     by_sum v
     ∷ at initiation v.in_phase (gives (ends v timer.T3 ∷ []) (enters Awaiting v))

@@ -47,7 +47,7 @@ const SENDS_EVERY: u32 = 13;
 
 /// What the vehicle waits for in a call, with its request.
 #[derive(Clone, Copy, Debug, PartialEq, Eq)]
-enum Stage {
+enum CallStage {
     Initiating,
     Awaiting,
     Sending(Request),
@@ -69,7 +69,26 @@ enum Phase {
     Standby,
     Arming(Left),
     InSeries,
-    InCall(Stage),
+    InCall(CallStage),
+}
+
+/// The call that the vehicle is in, or was in last.
+#[derive(Debug, Drop)]
+struct Call {
+    number: u32,
+    ticks: u32,
+    voice: Switch,
+    /// Whether T5, T7 or the sum of muted ticks ended in it, or it came by callback.
+    settled_without_data: bool,
+    /// The greatest request obeyed, and 0 before the first.
+    greatest_obeyed: u8,
+    /// The set made last, and before the first one that of an earlier call or zeros.
+    set: [u8; OCTETS],
+    /// The last attempt to send it; the number stays at 255.
+    last_attempt: u8,
+    /// The requests whose acknowledgement was counted, and whether there is one.
+    counted: Requests,
+    has_counted: bool,
 }
 
 /// The in-vehicle system.
@@ -80,27 +99,13 @@ pub struct Ivs {
     network: bool,
     cause: Cause,
     /// The sets made since the trigger; the number stays at 255.
-    sets: u8,
+    sets_made: u8,
     /// The dial series that is under way, or was last; before the first any.
     redial: Redial,
     standby: Rest,
     /// The ticks in Arming, or a stage of a call.
     in_phase: u32,
-    /// The number of the call that the vehicle is in, or was in last.
-    call: u32,
-    /// The last attempt to send a set; it stays at 255.
-    attempt: u8,
-    in_call: u32,
-    voice: Switch,
-    /// Whether T5, T7 or the sum of muted ticks ended in the call, or it came by callback.
-    marked: bool,
-    /// The greatest request obeyed in the call, and 0 before the first.
-    served: u8,
-    /// The set made last; zeros before the first.
-    octets: [u8; OCTETS],
-    /// The requests whose acknowledgement was counted, and whether there is one.
-    counted: Requests,
-    counts: bool,
+    call: Call,
 }
 
 impl Ivs {
@@ -120,19 +125,21 @@ impl Ivs {
             phase: Phase::Idle,
             network: true,
             cause: Cause::Auto,
-            sets: 0,
+            sets_made: 0,
             redial,
             standby: Rest::enter(),
             in_phase: 0,
-            call: 0,
-            attempt: 0,
-            in_call: 0,
-            voice: Switch::muted(MOST_MUTED),
-            marked: false,
-            served: 0,
-            octets: [0; OCTETS],
-            counted: Requests::none(),
-            counts: false,
+            call: Call {
+                number: 0,
+                ticks: 0,
+                voice: Switch::muted(MOST_MUTED),
+                settled_without_data: false,
+                greatest_obeyed: 0,
+                set: [0; OCTETS],
+                last_attempt: 0,
+                counted: Requests::none(),
+                has_counted: false,
+            },
         }
     }
 
@@ -203,7 +210,7 @@ impl Ivs {
         ensures { (v : Vehicle) → IvsStandsFor self.now v → result ≡ vehicle_call v }
     {
         match self.phase {
-            Phase::InCall(_) => Some(self.call),
+            Phase::InCall(_) => Some(self.call.number),
             _ => None,
         }
     }

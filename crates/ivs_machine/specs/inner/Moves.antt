@@ -10,8 +10,8 @@ use Rattle.redial.specs.declared.series.Series.{Series}
 use Rattle.redial.specs.declared.series.Turn.{Turn}
 use Rattle.ivs_machine.specs.declared.vehicle.Ivs.{Ivs}
 use Rattle.ivs_machine.specs.declared.vehicle.Phase.TheVariants as phase
-use Rattle.ivs_machine.specs.declared.vehicle.Stage.{Stage}
-use Rattle.ivs_machine.specs.declared.vehicle.Stage.TheVariants.{Initiating, Awaiting, Sending, Confirming, Talking}
+use Rattle.ivs_machine.specs.declared.vehicle.CallStage.{CallStage}
+use Rattle.ivs_machine.specs.declared.vehicle.CallStage.TheVariants.{Initiating, Awaiting, Sending, Confirming, Talking}
 use Rattle.ivs_machine.specs.VehicleRows.{failed_attempt, ended_items}
 
 -- what follows in a series, behind an attempt that failed if one was under way: the items, and the `Ivs` then
@@ -31,7 +31,8 @@ moved _ ivs = ivs
 -- the `Ivs` that begins a series
 abbrev pub begun : Ivs → Ivs
 begun ivs =
-    moved (series.begins ivs.network).next (record ivs { phase = phase.InSeries; redial = (series.begins ivs.network).new })
+    let first = series.begins ivs.network in
+    moved first.next (record ivs { phase = phase.InSeries; redial = first.new })
 
 -- the `Ivs` whose series is told of the network
 abbrev pub told_items : (under_way : Option ℕ) → Option Next → List Note
@@ -53,9 +54,9 @@ turned (Some turn) ivs = moved turn.next ivs
 
 -- the least ticks that a line of this stage has left
 abbrev pub left_of_sum : Ivs → ℕ
-left_of_sum ivs = 320 - muted_ticks ivs.voice.stretch
+left_of_sum ivs = 320 - muted_ticks ivs.call.voice.stretch
 
-abbrev pub stage_left : Ivs → Stage → ℕ
+abbrev pub stage_left : Ivs → CallStage → ℕ
 stage_left ivs Initiating = min (min (left_of_sum ivs) (20 - ivs.in_phase)) (5 - ivs.in_phase % 5)
 stage_left ivs Awaiting = min (left_of_sum ivs) (50 - ivs.in_phase)
 stage_left ivs (Sending r) = min (min (left_of_sum ivs) (200 - ivs.in_phase)) (13 - ivs.in_phase % 13)

@@ -1,5 +1,5 @@
--- What an `Ivs` and the vehicles behind it are like while ticks pass. This project's profile. Cited by private contracts
--- alone.
+-- What an `Ivs` and the vehicles behind it are like while ticks pass. This project's profile. Cited by private
+-- contracts alone.
 use Rattle.std.specs.Prelude.{ℕ, List, IfSome, min, ◌+◌, ◌-◌, ◌^◌, ◌≤◌}
 use Rattle.audio_switch.specs.Switch.{Switching}
 use Rattle.audio_switch.specs.declared.switch.Stretch.{Stretch}
@@ -17,11 +17,12 @@ pub record IvsMayPass (n : ℕ) (ivs : Ivs) (v : Vehicle) : Type 0 where
   pub kept : IsKept v
   pub due : IfSome (due_of v) (λ due. n ≤ due)
 
--- the sums of a call have grown, and no line has acted yet
+-- in a call the set made last is that of the request that is sent or confirmed
 abbrev pub IsOfPhase : Phase → List Kept → Type 0
 IsOfPhase (InCall stage) made = IsOfStage stage made
 IsOfPhase _ made = Unit {0}
 
+-- the sums of a call have grown, and no line has acted yet
 pub record IvsIsDue (ivs : Ivs) (v : Vehicle) : Type 0 where
   pub is : IvsIs ivs v
   pub request : IsOfPhase v.phase v.made
@@ -41,7 +42,9 @@ aged_voice n voice (Open ticks) = record voice { stretch = Open (more n ticks) }
 abbrev pub call_aged : ℕ → Ivs → Ivs
 call_aged n ivs =
     record ivs {
-      in_call = more n ivs.in_call;
       in_phase = more n ivs.in_phase;
-      voice = aged_voice n ivs.voice ivs.voice.stretch;
+      call = record ivs.call {
+        ticks = more n ivs.call.ticks;
+        voice = aged_voice n ivs.call.voice ivs.call.voice.stretch;
+      };
     }

@@ -1,7 +1,7 @@
 //! What the vehicle does at events and frames of its call. After EN 16062.
 ghost use Rattle.std.specs.Prelude.{◌≡◌, ◌≤◌};
 
-use super::{Ivs, LEAST_OPENING, Phase, Stage};
+use super::{CallStage, Ivs, LEAST_OPENING, Phase};
 use link_frames::{Answer, End, FrameRef, Items, Note, Request, Why, fill};
 
 impl Ivs {
@@ -21,10 +21,10 @@ impl Ivs {
     {
         let fault = Note::Fault {
             end: End::Vehicle,
-            call: self.call,
+            call: self.call.number,
         };
         match self.phase {
-            Phase::InCall(Stage::Talking) => fill(items, &[fault]),
+            Phase::InCall(CallStage::Talking) => fill(items, &[fault]),
             Phase::InCall(_) => {
                 let opening = self.opens();
                 fill(items, &[fault, opening])
@@ -52,9 +52,9 @@ impl Ivs {
 
     /// Whether the call served its end, so that it need not be dialled again.
     fn is_settled(&self) -> bool
-        ensures { result ≡ (self.now.marked || self.now.counts) }
+        ensures { result ≡ (self.now.call.settled_without_data || self.now.call.has_counted) }
     {
-        self.marked || self.counts
+        self.call.settled_without_data || self.call.has_counted
     }
 
     /// The call was lost.
@@ -96,11 +96,11 @@ impl Ivs {
         ensures { Does IvsStandsFor IvsIs self.old self.new items.new.items
             (λ v. vehicle_row v (rows.Arrives (frame.Start request))) }
     {
-        if request.number() <= self.served {
+        if request.number() <= self.call.greatest_obeyed {
             return items.clear();
         }
         match self.phase {
-            Phase::InCall(Stage::Talking) => self.asked_while_open(request, items),
+            Phase::InCall(CallStage::Talking) => self.asked_while_open(request, items),
             Phase::InCall(_) => {
                 let sent = self.takes(request);
                 fill(items, &[sent])
@@ -118,7 +118,7 @@ impl Ivs {
             return items.clear();
         };
         match stage {
-            Stage::Sending(sent) if sent.number() == request.number() => {
+            CallStage::Sending(sent) if sent.number() == request.number() => {
                 let again = self.sends_again(request);
                 fill(items, &[again])
             }
@@ -135,9 +135,9 @@ impl Ivs {
             return items.clear();
         };
         match stage {
-            Stage::Sending(current) if current.number() == request.number() => {
+            CallStage::Sending(current) if current.number() == request.number() => {
                 let acked = self.counts_as(request);
-                self.enters(Stage::Confirming(request));
+                self.enters(CallStage::Confirming(request));
                 fill(items, &[acked])
             }
             _ => items.clear(),
@@ -153,12 +153,12 @@ impl Ivs {
             return items.clear();
         };
         match stage {
-            Stage::Sending(sent) if sent.number() == request.number() => {
+            CallStage::Sending(sent) if sent.number() == request.number() => {
                 let acked = self.counts_as(request);
                 let opening = self.opens();
                 fill(items, &[acked, opening])
             }
-            Stage::Confirming(sent) if sent.number() == request.number() => {
+            CallStage::Confirming(sent) if sent.number() == request.number() => {
                 let opening = self.opens();
                 fill(items, &[opening])
             }
@@ -175,28 +175,28 @@ impl Ivs {
             return items.clear();
         };
         match stage {
-            Stage::Sending(sent) if sent.number() == request.number() => {
+            CallStage::Sending(sent) if sent.number() == request.number() => {
                 let acked = self.counts_as(request);
                 let down = self.goes_down(Why::Release);
                 fill(items, &[acked, down, self.rests()])
             }
-            Stage::Confirming(sent) if sent.number() == request.number() => {
+            CallStage::Confirming(sent) if sent.number() == request.number() => {
                 self.is_released(items)
             }
-            Stage::Talking if self.counted.has(request) => self.is_released(items),
+            CallStage::Talking if self.call.counted.has(request) => self.is_released(items),
             _ => items.clear(),
         }
     }
 
     /// A request of a vehicle that talks is obeyed once the voice was open for long enough.
     fn asked_while_open(&mut self, request: Request, items: &mut Items)
-        requires phase { self.old.phase ≡ Phase.InCall Stage.Talking }
-        requires above { self.old.served < request }
+        requires phase { self.old.phase ≡ Phase.InCall CallStage.Talking }
+        requires above { self.old.call.greatest_obeyed < request }
         ensures { Does IvsStandsFor IvsIs self.old self.new items.new.items
             (λ v. vehicle_row v (rows.Arrives (frame.Start request))) }
     {
         if self.is_long_open() {
-            self.voice.mute();
+            self.call.voice.mute();
             let sent = self.takes(request);
             fill(items, &[self.voices(false), sent])
         } else {
@@ -206,9 +206,9 @@ impl Ivs {
 
     /// Whether the voice was open for so long that a request may mute it.
     fn is_long_open(&self) -> bool
-        ensures long { IsTrue result ↔ (20 ≤ open_ticks self.now.voice.stretch) }
-        ensures open { IsTrue result → IsTrue (is_open self.now.voice.stretch) }
+        ensures long { IsTrue result ↔ (20 ≤ open_ticks self.now.call.voice.stretch) }
+        ensures open { IsTrue result → IsTrue (is_open self.now.call.voice.stretch) }
     {
-        self.voice.open_for() >= LEAST_OPENING
+        self.call.voice.open_for() >= LEAST_OPENING
     }
 }

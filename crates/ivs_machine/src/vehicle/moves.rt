@@ -3,7 +3,7 @@ ghost use Rattle.std.specs.Prelude.{◌≡◌, ◌≤◌};
 ghost use Rattle.link_frames.specs.declared.frame.End.TheVariants as «end»;
 ghost use Rattle.link_frames.specs.declared.note.Note.TheVariants as note;
 
-use super::{Ivs, Phase, Stage};
+use super::{CallStage, Ivs, Phase};
 use callback::Rest;
 use link_frames::{End, Frame, Items, Note, Request, Timer, Why, fill};
 use msd_fit::make;
@@ -28,7 +28,7 @@ impl Ivs {
     }
 
     /// A stage of the call begins, with the voice as it is.
-    pub(super) fn enters(&mut self, stage: Stage)
+    pub(super) fn enters(&mut self, stage: CallStage)
         ensures { self.new ≡ record self.old { phase = Phase.InCall stage; in_phase = 0 } }
     {
         self.phase = Phase::InCall(stage);
@@ -37,34 +37,39 @@ impl Ivs {
 
     /// Opens a muted voice: the people on both ends talk.
     pub(super) fn opens(&mut self) -> Note
-        ensures item { result ≡ note.Voice «end».Vehicle self.old.call true true }
+        ensures item { result ≡ note.Voice «end».Vehicle self.old.call.number true true }
         ensures new { self.new ≡ record self.old {
-          phase = Phase.InCall Stage.Talking;
+          phase = Phase.InCall CallStage.Talking;
           in_phase = 0;
-          voice = self.new.voice;
+          call = record self.old.call { voice = self.new.call.voice };
         } }
-        ensures voice { self.new.voice ≡ record self.old.voice { stretch = unmuted self.old.voice.stretch } }
+        ensures voice { self.new.call.voice ≡
+            record self.old.call.voice { stretch = unmuted self.old.call.voice.stretch } }
     {
-        self.voice.unmute();
-        self.enters(Stage::Talking);
+        self.call.voice.unmute();
+        self.enters(CallStage::Talking);
         self.voices(true)
     }
 
     /// A wait for data ends, and the voice opens; it may settle the call.
     pub(super) fn times_out(&mut self, timer: Timer, settles: bool, items: &mut Items)
-        ensures items { items.new.items ≡ note.Ended «end».Vehicle self.old.call timer
-            ∷ note.Voice «end».Vehicle self.old.call true true ∷ [] }
+        ensures items { items.new.items ≡ note.Ended «end».Vehicle self.old.call.number timer
+            ∷ note.Voice «end».Vehicle self.old.call.number true true ∷ [] }
         ensures new { self.new ≡ record self.old {
-          phase = Phase.InCall Stage.Talking;
+          phase = Phase.InCall CallStage.Talking;
           in_phase = 0;
-          voice = self.new.voice;
-          marked = self.new.marked;
+          call = record self.old.call {
+            voice = self.new.call.voice;
+            settled_without_data = self.new.call.settled_without_data;
+          };
         } }
-        ensures voice { self.new.voice ≡ record self.old.voice { stretch = unmuted self.old.voice.stretch } }
-        ensures marked { self.new.marked ≡ (if settles then true else self.old.marked) }
+        ensures voice { self.new.call.voice ≡
+            record self.old.call.voice { stretch = unmuted self.old.call.voice.stretch } }
+        ensures settled { self.new.call.settled_without_data ≡
+            (if settles then true else self.old.call.settled_without_data) }
     {
         if settles {
-            self.marked = true;
+            self.call.settled_without_data = true;
         }
         let ended = self.ends(timer);
         let opening = self.opens();
@@ -73,23 +78,25 @@ impl Ivs {
 
     /// Obeys a request: its set is made once, and sent.
     pub(super) fn takes(&mut self, request: Request) -> Note
-        ensures sent { result ≡ note.Send «end».Vehicle self.old.call
-            (frame.Content request 0 (made self.old.facts self.old.cause (min (self.old.sets + 1) 255))) }
+        ensures sent { result ≡ note.Send «end».Vehicle self.old.call.number
+            (frame.Content request 0 (made self.old.facts self.old.cause (min (self.old.sets_made + 1) 255))) }
         ensures new { self.new ≡ record self.old {
-          phase = Phase.InCall (Stage.Sending request);
+          phase = Phase.InCall (CallStage.Sending request);
           in_phase = 0;
-          sets = min (self.old.sets + 1) 255;
-          attempt = 0;
-          served = request;
-          octets = made self.old.facts self.old.cause (min (self.old.sets + 1) 255);
+          sets_made = min (self.old.sets_made + 1) 255;
+          call = record self.old.call {
+            greatest_obeyed = request;
+            set = made self.old.facts self.old.cause (min (self.old.sets_made + 1) 255);
+            last_attempt = 0;
+          };
         } }
     {
-        self.sets = self.sets.saturating_add(1);
-        let octets = make(&self.facts, self.cause, self.sets);
-        self.octets = octets;
-        self.served = request.number();
-        self.attempt = 0;
-        self.enters(Stage::Sending(request));
+        self.sets_made = self.sets_made.saturating_add(1);
+        let octets = make(&self.facts, self.cause, self.sets_made);
+        self.call.set = octets;
+        self.call.greatest_obeyed = request.number();
+        self.call.last_attempt = 0;
+        self.enters(CallStage::Sending(request));
         self.sends(Frame::Content {
             request,
             attempt: 0,
@@ -99,38 +106,42 @@ impl Ivs {
 
     /// The next attempt to send the set made last.
     pub(super) fn sends_again(&mut self, request: Request) -> Note
-        ensures sent { result ≡ note.Send «end».Vehicle self.old.call
-            (frame.Content request (min (self.old.attempt + 1) 255) self.old.octets) }
-        ensures new { self.new ≡ record self.old { attempt = min (self.old.attempt + 1) 255 } }
+        ensures sent { result ≡ note.Send «end».Vehicle self.old.call.number
+            (frame.Content request (min (self.old.call.last_attempt + 1) 255) self.old.call.set) }
+        ensures new { self.new ≡ record self.old {
+          call = record self.old.call { last_attempt = min (self.old.call.last_attempt + 1) 255 };
+        } }
     {
-        self.attempt = self.attempt.saturating_add(1);
-        let octets = self.octets;
+        self.call.last_attempt = self.call.last_attempt.saturating_add(1);
+        let octets = self.call.set;
         self.sends(Frame::Content {
             request,
-            attempt: self.attempt,
+            attempt: self.call.last_attempt,
             octets,
         })
     }
 
     /// Counts the acknowledgement of a request.
     pub(super) fn counts_as(&mut self, request: Request) -> Note
-        ensures item { result ≡ note.Acked self.old.call request self.old.octets }
-        ensures new { self.new ≡ record self.old { counted = self.new.counted; counts = true } }
-        ensures counted { (rs : List ℕ) → RequestsStandFor self.old.counted rs →
-            RequestsStandFor self.new.counted (request ∷ rs) }
+        ensures item { result ≡ note.Acked self.old.call.number request self.old.call.set }
+        ensures new { self.new ≡ record self.old {
+          call = record self.old.call { counted = self.new.call.counted; has_counted = true };
+        } }
+        ensures counted { (rs : List ℕ) → RequestsStandFor self.old.call.counted rs →
+            RequestsStandFor self.new.call.counted (request ∷ rs) }
     {
-        self.counted.add(request);
-        self.counts = true;
+        self.call.counted.add(request);
+        self.call.has_counted = true;
         Note::Acked {
-            call: self.call,
+            call: self.call.number,
             request,
-            octets: self.octets,
+            octets: self.call.set,
         }
     }
 
     /// The point lets the vehicle go.
     pub(super) fn is_released(&mut self, items: &mut Items)
-        ensures items { items.new.items ≡ note.Down «end».Vehicle self.old.call why.Release ∷ note.Standby ∷ [] }
+        ensures items { items.new.items ≡ note.Down «end».Vehicle self.old.call.number why.Release ∷ note.Standby ∷ [] }
         ensures new { self.new ≡ record self.old { phase = Phase.Standby; standby = 0 } }
     {
         let down = self.goes_down(Why::Release);
@@ -140,51 +151,51 @@ impl Ivs {
     // The items of a call.
 
     pub(super) fn up(&self) -> Note
-        ensures { result ≡ note.Up «end».Vehicle self.now.call }
+        ensures { result ≡ note.Up «end».Vehicle self.now.call.number }
     {
         Note::Up {
             end: End::Vehicle,
-            call: self.call,
+            call: self.call.number,
         }
     }
 
     pub(super) fn goes_down(&self, why: Why) -> Note
-        ensures { result ≡ note.Down «end».Vehicle self.now.call why }
+        ensures { result ≡ note.Down «end».Vehicle self.now.call.number why }
     {
         Note::Down {
             end: End::Vehicle,
-            call: self.call,
+            call: self.call.number,
             why,
         }
     }
 
     pub(super) fn sends(&self, frame: Frame) -> Note
-        ensures { result ≡ note.Send «end».Vehicle self.now.call frame }
+        ensures { result ≡ note.Send «end».Vehicle self.now.call.number frame }
     {
         Note::Send {
             end: End::Vehicle,
-            call: self.call,
+            call: self.call.number,
             frame,
         }
     }
 
     pub(super) fn ends(&self, timer: Timer) -> Note
-        ensures { result ≡ note.Ended «end».Vehicle self.now.call timer }
+        ensures { result ≡ note.Ended «end».Vehicle self.now.call.number timer }
     {
         Note::Ended {
             end: End::Vehicle,
-            call: self.call,
+            call: self.call.number,
             timer,
         }
     }
 
     /// Both directions are opened, or both muted.
     pub(super) fn voices(&self, opened: bool) -> Note
-        ensures { result ≡ note.Voice «end».Vehicle self.now.call opened opened }
+        ensures { result ≡ note.Voice «end».Vehicle self.now.call.number opened opened }
     {
         Note::Voice {
             end: End::Vehicle,
-            call: self.call,
+            call: self.call.number,
             up: opened,
             down: opened,
         }

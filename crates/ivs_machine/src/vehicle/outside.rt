@@ -2,7 +2,7 @@
 ghost use Rattle.std.specs.Prelude.{◌≡◌};
 ghost use Rattle.link_frames.specs.declared.note.Note.TheVariants as note;
 
-use super::{Ivs, Left, MOST_MUTED, Phase, Stage};
+use super::{CallStage, Ivs, Left, MOST_MUTED, Phase};
 use audio_switch::Switch;
 use link_frames::{Frame, Items, Note, Requests, Why, fill};
 use msd_fit::Cause;
@@ -65,10 +65,10 @@ impl Ivs {
     /// A dial series begins for this cause.
     fn begins_for(&mut self, cause: Cause, items: &mut Items)
         ensures items { items.new.items ≡ move_items None (begins self.old.network).next }
-        ensures begun { self.new ≡ begun (record self.old { cause = cause; sets = 0 }) }
+        ensures begun { self.new ≡ begun (record self.old { cause = cause; sets_made = 0 }) }
     {
         self.cause = cause;
-        self.sets = 0;
+        self.sets_made = 0;
         self.begins(&[], items)
     }
 
@@ -142,7 +142,12 @@ impl Ivs {
     {
         match self.phase {
             Phase::InSeries if self.redial.dialling() => {
-                self.enters_call(call, Stage::Initiating, Switch::muted(MOST_MUTED), false);
+                self.enters_call(
+                    call,
+                    CallStage::Initiating,
+                    Switch::muted(MOST_MUTED),
+                    false,
+                );
                 fill(
                     items,
                     &[self.up(), self.voices(false), self.sends(Frame::Init)],
@@ -158,7 +163,7 @@ impl Ivs {
     {
         match self.phase {
             Phase::Standby if self.network => {
-                self.enters_call(call, Stage::Talking, Switch::opened(MOST_MUTED), true);
+                self.enters_call(call, CallStage::Talking, Switch::opened(MOST_MUTED), true);
                 fill(items, &[self.up(), self.voices(true)])
             }
             _ => fill(items, &[Note::Nothing]),
@@ -166,30 +171,32 @@ impl Ivs {
     }
 
     /// A call of this number is up, and nothing was made, counted or sent in it.
-    fn enters_call(&mut self, call: u32, stage: Stage, voice: Switch, marked: bool)
+    fn enters_call(&mut self, call: u32, stage: CallStage, voice: Switch, settled: bool)
         ensures entered { self.new ≡ record self.old {
           phase = Phase.InCall stage;
           in_phase = 0;
-          call = call;
-          attempt = 0;
-          in_call = 0;
-          voice = voice;
-          marked = marked;
-          served = 0;
-          counted = self.new.counted;
-          counts = false;
+          call = record self.old.call {
+            number = call;
+            ticks = 0;
+            voice = voice;
+            settled_without_data = settled;
+            greatest_obeyed = 0;
+            last_attempt = 0;
+            counted = self.new.call.counted;
+            has_counted = false;
+          };
         } }
-        ensures counted { RequestsStandFor self.new.counted [] }
+        ensures counted { RequestsStandFor self.new.call.counted [] }
     {
         self.enters(stage);
-        self.call = call;
-        self.attempt = 0;
-        self.in_call = 0;
-        self.voice = voice;
-        self.marked = marked;
-        self.served = 0;
-        self.counted = Requests::none();
-        self.counts = false;
+        self.call.number = call;
+        self.call.last_attempt = 0;
+        self.call.ticks = 0;
+        self.call.voice = voice;
+        self.call.settled_without_data = settled;
+        self.call.greatest_obeyed = 0;
+        self.call.counted = Requests::none();
+        self.call.has_counted = false;
     }
 
     /// The vehicle leaves its standby, where that lasted long enough.

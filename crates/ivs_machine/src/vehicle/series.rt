@@ -30,8 +30,8 @@ impl Ivs {
         self.moves(before, None, next, items)
     }
 
-    /// What follows in the series, behind an attempt that failed, if one was under way. Items are those before, and then
-    /// what follows.
+    /// What follows in the series, behind an attempt that failed, if one was under way. Items are those before, and
+    /// then what follows.
     fn moves(
         &mut self,
         before: &[Note],

@@ -4,8 +4,8 @@ ghost use Rattle.redial.specs.SeriesRows as series;
 
 use super::moves::ended;
 use super::{
-    CANCEL_PERIOD, INITIATES_EVERY, INITIATION, Ivs, LONGEST_AWAITING, LONGEST_CALL,
-    LONGEST_CONFIRMING, LONGEST_SENDING, Left, MOST_MUTED, Phase, SENDS_EVERY, Stage,
+    CANCEL_PERIOD, CallStage, INITIATES_EVERY, INITIATION, Ivs, LONGEST_AWAITING, LONGEST_CALL,
+    LONGEST_CONFIRMING, LONGEST_SENDING, Left, MOST_MUTED, Phase, SENDS_EVERY,
 };
 use link_frames::{Frame, Items, Note, Request, Timer, Why, fill};
 use msd_fit::Cause;
@@ -32,7 +32,7 @@ impl Ivs {
             Phase::Arming(_) => Some(CANCEL_PERIOD.saturating_sub(self.in_phase)),
             Phase::InSeries => self.left_in_series(),
             Phase::InCall(stage) => {
-                let call = LONGEST_CALL.saturating_sub(self.in_call);
+                let call = LONGEST_CALL.saturating_sub(self.call.ticks);
                 Some(call.min(self.left_in(stage)))
             }
         }
@@ -50,23 +50,23 @@ impl Ivs {
     }
 
     /// The least ticks that a timer or a repeat of this stage has left.
-    fn left_in(&self, stage: Stage) -> u32
+    fn left_in(&self, stage: CallStage) -> u32
         ensures { result ≡ stage_left self.now stage }
     {
-        let muted = MOST_MUTED.saturating_sub(self.voice.muted_for());
+        let muted = MOST_MUTED.saturating_sub(self.call.voice.muted_for());
         let ticks = self.in_phase;
         match stage {
-            Stage::Initiating => {
+            CallStage::Initiating => {
                 let repeat = INITIATES_EVERY - ticks % INITIATES_EVERY;
                 muted.min(INITIATION.saturating_sub(ticks)).min(repeat)
             }
-            Stage::Awaiting => muted.min(LONGEST_AWAITING.saturating_sub(ticks)),
-            Stage::Sending(_) => {
+            CallStage::Awaiting => muted.min(LONGEST_AWAITING.saturating_sub(ticks)),
+            CallStage::Sending(_) => {
                 let repeat = SENDS_EVERY - ticks % SENDS_EVERY;
                 muted.min(LONGEST_SENDING.saturating_sub(ticks)).min(repeat)
             }
-            Stage::Confirming(_) => muted.min(LONGEST_CONFIRMING.saturating_sub(ticks)),
-            Stage::Talking => u32::MAX,
+            CallStage::Confirming(_) => muted.min(LONGEST_CONFIRMING.saturating_sub(ticks)),
+            CallStage::Talking => u32::MAX,
         }
     }
 
@@ -107,7 +107,7 @@ impl Ivs {
         self.in_phase = self.in_phase.saturating_add(n);
         if self.in_phase >= CANCEL_PERIOD {
             self.cause = Cause::Manual;
-            self.sets = 0;
+            self.sets_made = 0;
             self.begins(&[ended(Timer::T1)], items)
         } else {
             items.clear()
@@ -115,7 +115,7 @@ impl Ivs {
     }
 
     /// Lets ticks of a call pass.
-    fn call_passes(&mut self, stage: Stage, n: u32, items: &mut Items)
+    fn call_passes(&mut self, stage: CallStage, n: u32, items: &mut Items)
         requires { self.old.phase ≡ Phase.InCall stage }
         ensures { Does (IvsMayPass n) IvsIs self.old self.new items.new.items (λ v. acts (aged n v)) }
     {
@@ -127,14 +127,14 @@ impl Ivs {
     fn age(&mut self, n: u32)
         ensures { self.new ≡ call_aged n self.old }
     {
-        self.in_call = self.in_call.saturating_add(n);
+        self.call.ticks = self.call.ticks.saturating_add(n);
         self.in_phase = self.in_phase.saturating_add(n);
-        let room = self.voice.room().unwrap_or(n);
-        self.voice.pass(n.min(room));
+        let room = self.call.voice.room().unwrap_or(n);
+        self.call.voice.pass(n.min(room));
     }
 
     /// What the timers and repeats of a call do that have no ticks left; mostly all have some.
-    fn acts(&mut self, stage: Stage, items: &mut Items)
+    fn acts(&mut self, stage: CallStage, items: &mut Items)
         requires { self.old.phase ≡ Phase.InCall stage }
         ensures { Does IvsIsDue IvsIs self.old self.new items.new.items acts }
     {
@@ -150,64 +150,64 @@ impl Ivs {
         ensures { IsTrue result → (v : Vehicle) → IvsIsDue self.now v → acts v ≡ silent v }
     {
         match self.phase {
-            Phase::InCall(stage) => self.in_call < LONGEST_CALL && self.is_quiet_in(stage),
+            Phase::InCall(stage) => self.call.ticks < LONGEST_CALL && self.is_quiet_in(stage),
             _ => false,
         }
     }
 
     /// Whether no timer of this stage is at its end and nothing is repeated.
-    fn is_quiet_in(&self, stage: Stage) -> bool
+    fn is_quiet_in(&self, stage: CallStage) -> bool
         requires { self.now.phase ≡ Phase.InCall stage }
-        ensures { IsTrue result → self.now.in_call < LONGEST_CALL →
+        ensures { IsTrue result → self.now.call.ticks < LONGEST_CALL →
             (v : Vehicle) → IvsIsDue self.now v → acts v ≡ silent v }
     {
         let ticks = self.in_phase;
         let is_within = match stage {
-            Stage::Initiating => ticks < INITIATION && !ticks.is_multiple_of(INITIATES_EVERY),
-            Stage::Awaiting => ticks < LONGEST_AWAITING,
-            Stage::Sending(_) => ticks < LONGEST_SENDING && !ticks.is_multiple_of(SENDS_EVERY),
-            Stage::Confirming(_) => ticks < LONGEST_CONFIRMING,
-            Stage::Talking => true,
+            CallStage::Initiating => ticks < INITIATION && !ticks.is_multiple_of(INITIATES_EVERY),
+            CallStage::Awaiting => ticks < LONGEST_AWAITING,
+            CallStage::Sending(_) => ticks < LONGEST_SENDING && !ticks.is_multiple_of(SENDS_EVERY),
+            CallStage::Confirming(_) => ticks < LONGEST_CONFIRMING,
+            CallStage::Talking => true,
         };
-        is_within && self.voice.muted_for() < MOST_MUTED
+        is_within && self.call.voice.muted_for() < MOST_MUTED
     }
 
     /// The timers and repeats of a call, by rank.
     #[inline(never)]
-    fn acts_now(&mut self, stage: Stage, items: &mut Items)
+    fn acts_now(&mut self, stage: CallStage, items: &mut Items)
         requires { self.old.phase ≡ Phase.InCall stage }
         ensures { Does IvsIsDue IvsIs self.old self.new items.new.items acts }
     {
-        if self.in_call >= LONGEST_CALL {
+        if self.call.ticks >= LONGEST_CALL {
             let ended = self.ends(Timer::T2);
             let down = self.goes_down(Why::Release);
             return fill(items, &[ended, down, self.rests()]);
         }
-        if self.voice.muted_for() >= MOST_MUTED {
+        if self.call.voice.muted_for() >= MOST_MUTED {
             return self.times_out(Timer::Sum, true, items);
         }
         match stage {
-            Stage::Initiating => self.acts_initiating(items),
-            Stage::Awaiting if self.in_phase >= LONGEST_AWAITING => {
+            CallStage::Initiating => self.acts_initiating(items),
+            CallStage::Awaiting if self.in_phase >= LONGEST_AWAITING => {
                 self.times_out(Timer::T5, true, items)
             }
-            Stage::Sending(request) => self.acts_sending(request, items),
-            Stage::Confirming(_) if self.in_phase >= LONGEST_CONFIRMING => {
+            CallStage::Sending(request) => self.acts_sending(request, items),
+            CallStage::Confirming(_) if self.in_phase >= LONGEST_CONFIRMING => {
                 self.times_out(Timer::T6, false, items)
             }
-            Stage::Awaiting | Stage::Confirming(_) | Stage::Talking => items.clear(),
+            CallStage::Awaiting | CallStage::Confirming(_) | CallStage::Talking => items.clear(),
         }
     }
 
     /// The end of the initiation, or its repeat.
     fn acts_initiating(&mut self, items: &mut Items)
-        requires phase { self.old.phase ≡ Phase.InCall Stage.Initiating }
-        requires call { self.old.in_call < LONGEST_CALL }
-        requires sum { muted_ticks self.old.voice.stretch < MOST_MUTED }
+        requires phase { self.old.phase ≡ Phase.InCall CallStage.Initiating }
+        requires call { self.old.call.ticks < LONGEST_CALL }
+        requires sum { muted_ticks self.old.call.voice.stretch < MOST_MUTED }
         ensures { Does IvsIsDue IvsIs self.old self.new items.new.items acts }
     {
         if self.in_phase >= INITIATION {
-            self.enters(Stage::Awaiting);
+            self.enters(CallStage::Awaiting);
             fill(items, &[self.ends(Timer::T3)])
         } else if self.in_phase.is_multiple_of(INITIATES_EVERY) {
             fill(items, &[self.sends(Frame::Init)])
@@ -218,9 +218,9 @@ impl Ivs {
 
     /// The end of sending a set, or the next attempt.
     fn acts_sending(&mut self, request: Request, items: &mut Items)
-        requires phase { self.old.phase ≡ Phase.InCall (Stage.Sending request) }
-        requires call { self.old.in_call < LONGEST_CALL }
-        requires sum { muted_ticks self.old.voice.stretch < MOST_MUTED }
+        requires phase { self.old.phase ≡ Phase.InCall (CallStage.Sending request) }
+        requires call { self.old.call.ticks < LONGEST_CALL }
+        requires sum { muted_ticks self.old.call.voice.stretch < MOST_MUTED }
         ensures { Does IvsIsDue IvsIs self.old self.new items.new.items acts }
     {
         if self.in_phase >= LONGEST_SENDING {
