@@ -1,5 +1,5 @@
 -- What a turn of a run comes to, by how the line was read and played.
-use Rattle.std.specs.Prelude.{◌≡◌, ℕ, ◌+◌, ◌<◌, ◌≤◌, true, List, [], Option, Some, None, Result, Ok, Err, false}
+use Rattle.std.specs.Prelude.{◌≡◌, ℕ, ◌<◌, List, [], Option, Some, None, Result, Ok, Err}
 use Rattle.std.proofs.Common.{sym, ap, refl, subst, arith, ◌∙◌, inl, inr}
 use Rattle.std.proofs.lemmas.List.{append-nil}
 use Rattle.call_io.specs.Bytes.{Grew}
@@ -7,12 +7,9 @@ use Rattle.trace_model.specs.declared.entry.Entry.{Entry}
 use Rattle.trace_model.specs.declared.event.Event.{Event}
 use Rattle.line_input.specs.declared.reason.Reason.{Reason}
 use Rattle.line_input.specs.declared.reason.BadLine.{BadLine}
-use Rattle.line_input.specs.declared.fault.LineFault.{LineFault}
-use Rattle.line_input.specs.declared.fault.LineFault.TheVariants as fault
 use Rattle.trace_text.specs.declared.script.ScriptLine.{ScriptLine}
 use Rattle.line_input.specs.Lines.{Numbered}
-use Rattle.line_input.specs.Reading.{Reading, ReadsLine}
-use Rattle.trace_text.specs.Script.{Said, judged, placed, placed_line, script_line}
+use Rattle.trace_text.specs.Script.{Said, placed, placed_line, script_line}
 use Rattle.line_input.specs.Lines.{line_answer}
 use Rattle.script_commands.specs.declared.stage.Stage.{Stage}
 use Rattle.command_base.specs.declared.status.Status.{Status}
@@ -20,7 +17,7 @@ use Rattle.command_base.specs.declared.status.Status.TheVariants as status
 use Rattle.command_base.specs.Refusals.{refusal_line}
 use Rattle.command_base.specs.declared.refusal.Refused.{Refused}
 use Rattle.command_base.specs.declared.refusal.Refused.TheVariants as refused
-use Rattle.script_commands.specs.inner.Stage.{IsEarly, IsNext, StageStandsFor, Obeys}
+use Rattle.script_commands.specs.inner.Stage.{IsEarly, IsNext, Obeys}
 use Rattle.script_commands.specs.declared.stage.Halt.{Halt}
 use Rattle.script_commands.specs.declared.stage.Halt.TheVariants as halt
 use Rattle.trace_text.specs.declared.text_out.TextOut.{TextOut}

@@ -1,5 +1,5 @@
 -- What a line of `register` comes to, as for every command over lines.
-use Rattle.std.specs.Prelude.{◌≡◌, ℕ, ◌+◌, ◌<◌, ◌≤◌, true, List, [], ◌∷◌, ◌++◌, Option, Some, None, Result, Ok, Err}
+use Rattle.std.specs.Prelude.{◌≡◌, ℕ, ◌+◌, ◌<◌, ◌≤◌, true, List, [], ◌∷◌, ◌++◌, Option, Some, None, Result}
 use Rattle.std.proofs.Common.{◌∙◌, ap, sym, refl, subst, inl, inr, arith}
 use Rattle.call_io.specs.Bytes.{Grew}
 use Rattle.call_io.proofs.BytesLemmas.{Grew-nothing}
@@ -11,21 +11,20 @@ use Rattle.line_input.specs.declared.reason.Reason.{Reason}
 use Rattle.trace_text.specs.declared.script.ScriptLine.{ScriptLine}
 use Rattle.call_register.specs.Rows.{Rows}
 use Rattle.call_register.specs.Table.{table}
-use Rattle.command_base.specs.LineCommands.{Begins, IsQuietLine, Ends, EndsInput, EndsLine, TakesLine}
-use Rattle.command_base.specs.Refusals.{Reply, refusal_line, refusal_reply, in_front_of}
+use Rattle.command_base.specs.LineCommands.{Begins, IsQuietLine, Ends, EndsInput, TakesLine}
+use Rattle.command_base.specs.Refusals.{refusal_line, refusal_reply}
 use Rattle.command_base.specs.Outcome.{Outcome, Streams}
 use Rattle.script_commands.specs.Register.{register_reply, table_line}
 use Rattle.script_commands.specs.Run.{played, script_passes}
 use Rattle.command_base.specs.declared.refusal.Refused.{Refused}
-use Rattle.command_base.specs.declared.refusal.Refused.TheVariants as refused
 use Rattle.script_commands.specs.declared.stage.Stage.{Stage}
 use Rattle.command_base.specs.declared.status.Status.{Status}
 use Rattle.command_base.specs.declared.status.Status.TheVariants as status
-use Rattle.script_commands.specs.inner.Progress.{entries_of, event_of, passes_by}
+use Rattle.script_commands.specs.inner.Progress.{event_of}
 use Rattle.script_commands.specs.inner.RegisterTurns.{RegisteredFrom, Registers, RegisterStands, WritesRows, registered_script}
 use Rattle.script_commands.specs.inner.ScriptSeen.{ScriptSeen, passes_behind_lines, passes_from, script_behind}
 use Rattle.script_commands.specs.inner.ScriptLaws.{behind_none, behind_refused, judged-line}
-use Rattle.script_commands.specs.inner.ScriptTurns.{RefusedLine, Told}
+use Rattle.script_commands.specs.inner.ScriptTurns.{RefusedLine}
 use Rattle.script_commands.specs.inner.Stage.{IsEarly, StageStandsFor}
 use Rattle.command_base.proofs.LineEnds as ends
 use Rattle.script_commands.proofs.ScriptSoFar.{passes_said, passes_whole, played-nothing, script_said, tidy_behind, trace_behind}

@@ -1,12 +1,11 @@
 -- What a line of `run` comes to, as for every command over lines.
-use Rattle.std.specs.Prelude.{◌≡◌, ℕ, ◌+◌, ◌<◌, ◌≤◌, true, List, [], ◌∷◌, ◌++◌, Option, Some, None, Result, Ok, Err}
-use Rattle.std.proofs.Common.{◌∙◌, ap, sym, refl, subst, append_assoc, inl, inr, arith}
+use Rattle.std.specs.Prelude.{◌≡◌, ℕ, ◌+◌, ◌<◌, ◌≤◌, true, List, [], ◌++◌, Option, Some, None, Result, Ok}
+use Rattle.std.proofs.Common.{◌∙◌, ap, sym, refl, append_assoc, inl, inr, arith}
 use Rattle.trace_text.specs.EntryLine.{text_of}
 use Rattle.trace_text.specs.inner.TextListenerLaws.{text_of-append}
 use Rattle.trace_text.specs.Facts.{facts_in}
 use Rattle.line_input.specs.Lines.{IsLine, Numbered, lines_of}
-use Rattle.trace_text.specs.Script.{Said, judged, nothing_said, placed_line, said_after, script_line, script_of}
-use Rattle.trace_model.specs.declared.event.Event.{Event}
+use Rattle.trace_text.specs.Script.{judged, nothing_said, placed_line, said_after, script_line, script_of}
 use Rattle.line_input.specs.declared.reason.Reason.{Reason}
 use Rattle.trace_text.specs.declared.script.ScriptLine.{ScriptLine}
 use Rattle.command_base.specs.LineCommands.{Ends, GoesOn, TakesLine}
@@ -14,12 +13,11 @@ use Rattle.command_base.specs.Outcome.{Outcome, Streams}
 use Rattle.command_base.specs.Refusals.{Reply, refusal_line, refusal_reply, in_front_of}
 use Rattle.script_commands.specs.Run.{played, run_reply, script_passes}
 use Rattle.command_base.specs.declared.refusal.Refused.{Refused}
-use Rattle.command_base.specs.declared.refusal.Refused.TheVariants as refused
 use Rattle.script_commands.specs.declared.stage.Stage.{Stage}
 use Rattle.command_base.specs.declared.status.Status.{Status}
 use Rattle.command_base.specs.declared.status.Status.TheVariants as status
-use Rattle.script_commands.specs.inner.Progress.{entries_of, event_of, passes_by}
-use Rattle.script_commands.specs.inner.ScriptSeen.{ScriptSeen, passes_behind_lines, passes_from, script_behind}
+use Rattle.script_commands.specs.inner.Progress.{entries_of, event_of}
+use Rattle.script_commands.specs.inner.ScriptSeen.{ScriptSeen, passes_behind_lines, passes_from}
 use Rattle.script_commands.specs.inner.RunLaws.{RunFrom, RunStands, run_lined, run_refused, script_reply, text_so_far}
 use Rattle.script_commands.specs.inner.ScriptLaws.{judged-line}
 use Rattle.script_commands.specs.inner.ScriptTurns.{Plays, RefusedLine}

@@ -1,6 +1,6 @@
 -- The trace and the bound of passes of the lines so far, with one more line.
-use Rattle.std.specs.Prelude.{◌≡◌, ℕ, ◌+◌, true, List, [], ◌∷◌, ◌++◌, Option, Some, None, Result, Ok, Err}
-use Rattle.std.proofs.Common.{sym, ◌∙◌, ap, refl, subst, arith, add_assoc, add-zero, zero-add, append_assoc, inl, inr}
+use Rattle.std.specs.Prelude.{◌≡◌, ℕ, ◌+◌, List, [], ◌∷◌, ◌++◌, Option, Some, None, Result, Ok, Err}
+use Rattle.std.proofs.Common.{sym, ◌∙◌, ap, refl, subst, arith, add_assoc, add-zero, zero-add, inl, inr}
 use Rattle.std.proofs.lemmas.List.{append-nil}
 use Rattle.msd_fit.specs.declared.facts.Facts.{Facts}
 use Rattle.trace_model.specs.declared.event.Event.{Event}
@@ -9,7 +9,7 @@ use Rattle.line_input.specs.declared.reason.Reason.{Reason}
 use Rattle.trace_text.specs.declared.script.ScriptLine.{ScriptLine}
 use Rattle.trace_text.specs.declared.script.ScriptLine.TheVariants as line
 use Rattle.trace_text.specs.Facts.{facts_in}
-use Rattle.trace_text.specs.Script.{Said, Script, judged, said_after, script_from}
+use Rattle.trace_text.specs.Script.{Said, judged, said_after, script_from}
 use Rattle.channel_sim.specs.Lines.{bound_from, passes_within, step, trace_from, world_after}
 use Rattle.channel_sim.specs.World.{World, first_world}
 use Rattle.script_commands.specs.Run.{most_passes, played, script_passes}

@@ -1,6 +1,6 @@
 -- How far a run has come: what the lines so far said, and what is told of them. This project's profile. Cited by the
 -- contracts of the functions that play a script line by line.
-use Rattle.std.specs.Prelude.{◌≡◌, ℕ, ◌+◌, List, [], ◌∷◌, ◌++◌, Option, Some, None}
+use Rattle.std.specs.Prelude.{ℕ, List, [], ◌∷◌, ◌++◌, Option, Some, None}
 use Rattle.msd_fit.specs.declared.facts.Facts.{Facts}
 use Rattle.trace_model.specs.declared.entry.Entry.{Entry}
 use Rattle.trace_model.specs.declared.event.Event.{Event}

@@ -1,6 +1,6 @@
 -- What `run` has come to behind some lines of its script, its reply to the others, and its law as a command over lines,
 -- proved. Cited by that command.
-use Rattle.std.specs.Prelude.{◌≡◌, ℕ, ◌+◌, ◌≤◌, Bool, true, false, cond, List, [], ◌∷◌, ◌++◌, Option, Some, None, Result, Ok, Err}
+use Rattle.std.specs.Prelude.{◌≡◌, ℕ, ◌+◌, Bool, true, false, cond, List, [], ◌∷◌, ◌++◌, Option, Some, None, Result, Ok, Err}
 use Rattle.std.proofs.Common.{sym, ◌∙◌, ap, refl, arith, subst, append_assoc, inl, inr}
 use Rattle.std.proofs.lemmas.List.{append-nil}
 use Rattle.msd_fit.specs.declared.facts.Facts.{Facts}
@@ -13,7 +13,7 @@ use Rattle.line_input.specs.declared.reason.Reason.TheVariants as reason
 use Rattle.trace_text.specs.declared.script.ScriptLine.{ScriptLine}
 use Rattle.trace_text.specs.declared.script.ScriptLine.TheVariants as line
 use Rattle.trace_text.specs.Facts.{facts_in}
-use Rattle.line_input.specs.Lines.{line_fault, is_comment, IsPassedOver}
+use Rattle.line_input.specs.Lines.{line_fault, is_comment}
 use Rattle.trace_text.specs.Script.{Said, Script, judged, placed, placed_fact, placed_event, placed_line, said_after, script_from, script_line}
 use Rattle.channel_sim.specs.Lines.{step, trace_from, world_after}
 use Rattle.channel_sim.specs.World.{World, first_world}
@@ -23,7 +23,7 @@ use Rattle.script_commands.specs.Run.{ended, played, script_trace}
 use Rattle.command_base.specs.declared.refusal.Refused.TheVariants as refused
 use Rattle.script_commands.specs.declared.stage.Stage.{Stage}
 use Rattle.command_base.specs.declared.status.Status.TheVariants as status
-use Rattle.script_commands.specs.inner.Progress.{event_of, events_before}
+use Rattle.script_commands.specs.inner.Progress.{events_before}
 use Rattle.script_commands.specs.inner.ScriptSeen.{IsTidy, ScriptSeen, passes_from, passes_behind_lines, script_behind}
 use Rattle.script_commands.specs.inner.ScriptLaws.{behind_none, behind_passed, judged-fault, judged-passed, passes_passed, script_from-bad, script_from-comment, script_from-line, script_from-none}
 use Rattle.script_commands.specs.inner.Stage.{IsEarly, StageStandsFor}

@@ -1,20 +1,18 @@
 -- The script that lines say, one after another, and the law of `register` as a command over lines, proved. Cited by
 -- that command.
-use Rattle.std.specs.Prelude.{◌≡◌, ℕ, ◌+◌, ◌≤◌, Bool, true, false, cond, List, [], ◌∷◌, ◌++◌, Option, Some, None, Result, Ok, Err}
-use Rattle.std.proofs.Common.{sym, ◌∙◌, ap, refl, arith, subst, append_assoc}
+use Rattle.std.specs.Prelude.{◌≡◌, ℕ, ◌+◌, List, [], ◌∷◌, ◌++◌, Some, None, Ok, Err}
+use Rattle.std.proofs.Common.{sym, ◌∙◌, ap, refl, arith, append_assoc}
 use Rattle.std.proofs.lemmas.List.{append-nil}
 use Rattle.trace_model.specs.declared.event.Event.{Event}
 use Rattle.line_input.specs.declared.reason.Reason.{Reason}
-use Rattle.line_input.specs.declared.reason.Reason.TheVariants as reason
 use Rattle.trace_text.specs.declared.script.ScriptLine.{ScriptLine}
 use Rattle.trace_text.specs.declared.script.ScriptLine.TheVariants as line
 use Rattle.trace_text.specs.Facts.{facts_in}
-use Rattle.line_input.specs.Lines.{line_fault, is_comment, IsPassedOver, IsLine}
+use Rattle.line_input.specs.Lines.{line_fault, IsPassedOver, IsLine}
 use Rattle.trace_text.specs.Script.{Said, Script, script_from, script_line, judged, placed_line, said_after, in_front}
 use Rattle.command_base.specs.LineCommands.{IsLined}
-use Rattle.command_base.specs.Refusals.{Reply, refusal_reply}
+use Rattle.command_base.specs.Refusals.{refusal_reply}
 use Rattle.command_base.specs.declared.refusal.Refused.TheVariants as refused
-use Rattle.command_base.specs.declared.status.Status.TheVariants as status
 use Rattle.script_commands.specs.inner.Progress.{events_before, event_of}
 use Rattle.script_commands.specs.inner.RegisterTurns.{RegisteredFrom, registered_script}
 use Rattle.script_commands.specs.inner.ScriptSeen.{ScriptSeen, passes_from, passes_behind_lines, script_behind}

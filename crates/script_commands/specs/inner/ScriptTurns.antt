@@ -1,6 +1,6 @@
 -- What playing one line of a script comes to. This project's profile. Cited by the contracts of the functions that play
 -- a script, each by the part of the line that it sees.
-use Rattle.std.specs.Prelude.{◌≡◌, ℕ, ◌<◌, ◌≤◌, ◌⊎◌, List, ◌++◌, Option, Some, None, Result, Ok, Err}
+use Rattle.std.specs.Prelude.{◌≡◌, ℕ, ◌⊎◌, List, ◌++◌, Option, Some, None, Result, Ok, Err}
 use Rattle.call_io.specs.Bytes.{Grew, GrewPartly}
 use Rattle.trace_model.specs.declared.entry.Entry.{Entry}
 use Rattle.trace_model.specs.declared.event.Event.{Event}
@@ -15,7 +15,7 @@ use Rattle.command_base.specs.declared.status.Status.{Status}
 use Rattle.command_base.specs.declared.status.Status.TheVariants as status
 use Rattle.command_base.specs.Refusals.{refusal_line}
 use Rattle.script_commands.specs.inner.Progress.{event_of, entries_of, passes_by}
-use Rattle.script_commands.specs.inner.Stage.{IsEarly, IsNext, StageStandsFor}
+use Rattle.script_commands.specs.inner.Stage.{IsNext, StageStandsFor}
 
 -- What a line says in its place, and what was told of it.
 pub record Told (place : Result (Option ScriptLine) Reason) (said : Said) (events : List Event)
