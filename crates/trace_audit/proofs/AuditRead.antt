@@ -28,7 +28,7 @@ use Rattle.trace_audit.specs.Judged.{Judges}
 use Rattle.trace_audit.specs.Outcome.{Answered, IsSettled, Outcome}
 use Rattle.trace_audit.specs.RulesStand.{RulesStandFor}
 use Rattle.trace_audit.specs.inner.AuditTurns.{HeardStandsFor, Hears, HearsLine, Standing, TakenSoFar, Turn, verdict_of}
-use Rattle.trace_audit.proofs.RulesLemmas.{last_one}
+use Rattle.trace_model.proofs.LegsHeard.{last_one}
 use Rattle.trace_audit.proofs.Takings.{AtHand, at_end, at_hand, front_follows, front_whole, front_within, taken_behind, taken_first, taken_whole, too_many_follow, too_many_whole, whole_end}
 
 -- What a line says.

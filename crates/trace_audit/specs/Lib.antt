@@ -1,7 +1,6 @@
 pub mod Audit
 pub mod inner
 pub mod Judged
-pub mod LegsStand
 pub mod Outcome
 pub mod RulesStand
 pub mod ShownStands

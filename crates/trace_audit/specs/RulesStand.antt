@@ -5,10 +5,10 @@ use Rattle.link_frames.specs.declared.frame.End.{End}
 use Rattle.link_frames.specs.declared.frame.End.TheVariants as «end»
 use Rattle.trace_model.specs.declared.entry.Entry.{Entry}
 use Rattle.trace_model.specs.Safety.{OwesOpening, Safe, first_leg}
-use Rattle.trace_audit.specs.declared.rules.LegOf.{LegOf}
+use Rattle.trace_model.specs.declared.moved.LegOf.{LegOf}
 use Rattle.trace_audit.specs.declared.rules.Rules.{Rules}
 use Rattle.trace_model.specs.Tallies.{last_tick}
-use Rattle.trace_audit.specs.LegsStand.{LegsStandFor}
+use Rattle.trace_model.specs.LegsStand.{LegsStandFor}
 use Rattle.trace_audit.specs.ShownStands.{ShownStandsFor}
 
 -- the opening of this leg's voice is owed

@@ -1,3 +1,2 @@
 pub mod AuditTurns
-pub mod Legs
 pub mod Owed

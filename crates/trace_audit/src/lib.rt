@@ -5,14 +5,12 @@ mod audit_lines;
 #[cfg(test)]
 mod audit_tests;
 mod laws;
-mod legs;
 mod rule;
 mod rules;
 #[cfg(test)]
 mod rules_tests;
 mod shown;
 mod verdict;
-mod voice;
 
 pub use audit_lines::audit;
 pub use laws::audit_laws;

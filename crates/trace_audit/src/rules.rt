@@ -9,20 +9,18 @@ ghost use Rattle.trace_model.specs.Safety.{Bounded, IsShownFirst, Safe};
 ghost use Rattle.trace_model.specs.declared.entry.Entry.{Entry as EntryOf};
 ghost use Rattle.trace_model.specs.Tallies.{last_tick};
 ghost use Rattle.trace_audit.specs.Judged.{Judges};
-ghost use Rattle.trace_audit.specs.LegsStand.{LegsStandFor};
+ghost use Rattle.trace_model.specs.LegsStand.{LegsStandFor};
 ghost use Rattle.trace_audit.specs.RulesStand.{IsOwed, RulesStandFor};
 ghost use Rattle.trace_audit.specs.ShownStands.{ShownStandsFor};
-ghost use Rattle.trace_audit.specs.inner.Legs.{IsMoved, Moves};
+ghost use Rattle.trace_model.specs.LegsMoved.{IsMoved, Moves};
 ghost use Rattle.trace_audit.specs.inner.Owed.{is_too_soon, is_fresh, owed_behind, owed_if_muted, voice_of};
 
-use crate::legs::Legs;
 use crate::rule::Rule;
 use crate::shown::Shown;
-use crate::voice::{Voice, both};
 use call_io::Memory;
 use link_frames::{End, Note, Timer};
 use std::alloc::Global;
-use trace_model::Entry;
+use trace_model::{Entry, LegOf, Legs, Voice, leg_of};
 
 /// The most ticks for which the voice of the vehicle's leg is muted without a break.
 const VEHICLE_LIMIT: u64 = 320;
@@ -32,13 +30,6 @@ const POINT_LIMIT: u64 = 275;
 
 /// The least ticks for which a voice is open before it is muted again.
 const LEAST_OPENING: u64 = 20;
-
-/// The leg of an end in a call.
-#[derive(Clone, Copy, Debug, PartialEq, Eq)]
-pub(crate) struct LegOf {
-    of: End,
-    call: u32,
-}
 
 /// What the rules need of a trace so far: the legs that are up, the sets that were shown, and the leg whose voice must
 /// open next. An entry takes a bounded number of look-ups, all entries together.
@@ -149,7 +140,7 @@ impl Rules {
                 up,
                 down,
             } => {
-                if both(*up, *down) {
+                if *up && *down {
                     false
                 } else {
                     is_new(self.voice(*end, *call), now)
@@ -295,22 +286,4 @@ fn owed_of(voice: Option<Voice>, of: End, call: u32) -> Option<LegOf>
     } else {
         Some(LegOf { of, call })
     }
-}
-
-/// The leg that an item raises or ends, or whose voice it turns.
-fn leg_of(note: &Note) -> Option<LegOf>
-    ensures { IsMoved result note.now }
-{
-    match note {
-        Note::Up { end, call } => Some(leg(*end, *call)),
-        Note::Down { end, call, .. } => Some(leg(*end, *call)),
-        Note::Voice { end, call, .. } => Some(leg(*end, *call)),
-        _ => None,
-    }
-}
-
-fn leg(of: End, call: u32) -> LegOf
-    ensures { result ≡ record { of = of; call = call } }
-{
-    LegOf { of, call }
 }

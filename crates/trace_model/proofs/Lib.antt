@@ -1,4 +1,6 @@
 pub mod Folds
 pub mod Fronts
 mod HandTraces
+pub mod LegsHeard
+pub mod LegsLemmas
 pub mod TallyLemmas

@@ -1,2 +1,3 @@
 pub mod ListenerLaws
+pub mod Mutings
 pub mod Tallying

@@ -5,12 +5,18 @@ mod entry;
 mod event;
 mod kept;
 mod laws;
+mod legs;
 mod listener;
+mod moved;
 mod tally;
+mod voice;
 
 pub use entry::Entry;
 pub use event::{Delay, Event, LONGEST_DELAY, Positive};
 pub use kept::Kept;
 pub use laws::safe_traces;
+pub use legs::Legs;
 pub use listener::{Deaf, Listener};
+pub use moved::{LegOf, leg_of};
 pub use tally::Tally;
+pub use voice::Voice;

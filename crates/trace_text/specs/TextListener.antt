@@ -1,5 +1,5 @@
--- What it means that the text of a trace grew by the lines of some entries, or by a part of them. This project's profile.
--- Cited by the listener `TextOut`.
+-- What it means that the text of a trace grew by the lines of some entries, or by a part of them. This project's
+-- profile. Cited by the listener `TextOut`.
 use Rattle.std.specs.Prelude.{◌≡◌, ℕ, List, Option}
 use Rattle.std.specs.Borrow.{GName}
 use Rattle.call_io.specs.Bytes.{Grew, GrewPartly}

@@ -25,53 +25,52 @@ pub enum ScriptLine {
 pub fn read_script(line: &Line<'_>) -> Result<ScriptLine, BadLine>
     ensures { result ≡ line_answer line.now (script_line line.now.text) }
 {
-    let (first, rest) = split_word(line.text());
+    match read_text(line.text()) {
+        Ok(says) => Ok(says),
+        Err(reason) => Err(BadLine {
+            line: line.number(),
+            reason,
+        }),
+    }
+}
+
+/// What the text of a script's line says by itself, or why it is refused.
+pub fn read_text(text: &[u8]) -> Result<ScriptLine, Reason>
+    ensures { result ≡ script_line text.now }
+{
+    let (first, rest) = split_word(text);
     if names_own_fact(first) {
-        read_fact(line, first, rest)
+        read_fact(first, rest)
     } else {
-        read_other(line, first, rest)
+        read_other(first, rest)
     }
 }
 
 // Never inlined: a call has room for every fact, which a line of another kind would pay for, too.
 #[inline(never)]
-fn read_fact(line: &Line<'_>, first: &[u8], rest: Option<&[u8]>) -> Result<ScriptLine, BadLine>
-    ensures { result ≡ line_answer line.now (line_by_word first.now (words_behind (option_copied rest.entry))) }
+fn read_fact(first: &[u8], rest: Option<&[u8]>) -> Result<ScriptLine, Reason>
+    ensures { result ≡ line_by_word first.now (words_behind (option_copied rest.entry)) }
 {
     match read_own_fact(first, rest) {
-        Some(says) => told(line, says),
-        None => read_other(line, first, rest),
+        Some(says) => told(says),
+        None => read_other(first, rest),
     }
 }
 
 /// A line that tells no fact which the vehicle knows of itself.
-fn read_other(line: &Line<'_>, first: &[u8], rest: Option<&[u8]>) -> Result<ScriptLine, BadLine>
-    ensures { result ≡ line_answer line.now (other_by_word first.now (words_behind (option_copied rest.entry))) }
+fn read_other(first: &[u8], rest: Option<&[u8]>) -> Result<ScriptLine, Reason>
+    ensures { result ≡ other_by_word first.now (words_behind (option_copied rest.entry)) }
 {
     if is_word(first, "set") {
-        return told(line, read_set(rest));
+        return told(read_set(rest));
     }
-    match read_event(first, rest) {
-        Ok(event) => Ok(ScriptLine::Event(event)),
-        Err(reason) => Err(refused(line, reason)),
-    }
+    let event = read_event(first, rest)?;
+    Ok(ScriptLine::Event(event))
 }
 
-fn told(line: &Line<'_>, says: Result<FactLine, Reason>) -> Result<ScriptLine, BadLine>
-    ensures { result ≡ line_answer line.now (fact_says says) }
+fn told(says: Result<FactLine, Reason>) -> Result<ScriptLine, Reason>
+    ensures { result ≡ fact_says says }
 {
-    match says {
-        Ok(fact) => Ok(ScriptLine::Fact(fact)),
-        Err(reason) => Err(refused(line, reason)),
-    }
-}
-
-/// A line that is refused, by its number.
-fn refused(line: &Line<'_>, reason: Reason) -> BadLine
-    ensures { result ≡ record { line = line.now.number; reason = reason } }
-{
-    BadLine {
-        line: line.number(),
-        reason,
-    }
+    let fact = says?;
+    Ok(ScriptLine::Fact(fact))
 }

@@ -6,10 +6,10 @@ use Rattle.link_frames.specs.declared.frame.End.TheVariants as «end»
 use Rattle.link_frames.specs.declared.note.Note.{Note}
 use Rattle.link_frames.specs.declared.note.Note.TheVariants as note
 use Rattle.link_frames.specs.Legs.{is_data_timer}
-use Rattle.trace_audit.specs.declared.rules.LegOf.{LegOf}
+use Rattle.trace_model.specs.declared.moved.LegOf.{LegOf}
 use Rattle.trace_audit.specs.declared.rules.Rules.{Rules}
-use Rattle.trace_audit.specs.declared.voice.Voice.{Voice}
-use Rattle.trace_audit.specs.LegsStand.{voice_at}
+use Rattle.trace_model.specs.declared.voice.Voice.{Voice}
+use Rattle.trace_model.specs.LegsStand.{voice_at}
 
 -- the voice that is kept of an end's leg of a call
 abbrev pub voice_of : Rules → End → ℕ → Option Voice

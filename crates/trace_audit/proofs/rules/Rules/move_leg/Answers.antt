@@ -1,5 +1,5 @@
 use Rattle.link_frames.specs.declared.frame.End.TheVariants as «end»
-use Rattle.trace_audit.proofs.RulesLemmas.{legs_quiet}
+use Rattle.trace_model.proofs.LegsHeard.{legs_quiet}
 use Rattle.trace_audit.proofs.rules.Rules.move_leg.Goals as goal
 
 pub returns-in-None-clause-vehicle : goal.returns-in-None-clause-vehicle

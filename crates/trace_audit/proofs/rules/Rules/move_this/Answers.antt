@@ -1,8 +1,9 @@
 use Rattle.std.proofs.Common.{refl, subst}
 use Rattle.link_frames.specs.declared.frame.End.{End}
 use Rattle.link_frames.specs.declared.frame.End.TheVariants as «end»
-use Rattle.trace_audit.specs.inner.Legs.{Moves}
-use Rattle.trace_audit.proofs.RulesLemmas.{legs_heard, legs_others, on_both, on_ok}
+use Rattle.trace_model.specs.LegsMoved.{Moves}
+use Rattle.trace_model.proofs.LegsHeard.{legs_heard, legs_others}
+use Rattle.trace_audit.proofs.RulesLemmas.{on_both, on_ok}
 use Rattle.trace_audit.proofs.rules.Rules.move_this.Goals as goal
 
 pub returns-in-Vehicle-clause-vehicle : goal.returns-in-Vehicle-clause-vehicle

@@ -1,12 +1,13 @@
 use Rattle.std.proofs.Common.{[], ◌++◌, ◌∙◌, ◌∷◌, refl, subst, sym, ℕ}
 use Rattle.link_frames.specs.declared.frame.End.TheVariants as «end»
 use Rattle.trace_model.specs.Safety.{Safe}
-use Rattle.trace_audit.specs.declared.legs.Legs.{Legs}
+use Rattle.trace_model.specs.declared.legs.Legs.{Legs}
 use Rattle.trace_audit.specs.declared.shown.Shown.{Shown}
-use Rattle.trace_audit.specs.LegsStand.{LegsStandFor}
+use Rattle.trace_model.specs.LegsStand.{LegsStandFor}
 use Rattle.trace_audit.specs.ShownStands.{ShownStandsFor}
-use Rattle.trace_audit.proofs.LegsLemmas.{on_map}
-use Rattle.trace_audit.proofs.RulesLemmas.{last_one, owed_taken}
+use Rattle.trace_model.proofs.LegsLemmas.{on_map}
+use Rattle.trace_model.proofs.LegsHeard.{last_one}
+use Rattle.trace_audit.proofs.RulesLemmas.{owed_taken}
 use Rattle.trace_audit.proofs.rules.Rules.take.Goals as goal
 
 pub returns : goal.returns

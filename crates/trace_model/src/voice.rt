@@ -1,16 +1,17 @@
 //! The voice of a leg that is up, and what an item does to it.
 
-ghost use Rattle.std.specs.Prelude.{◌≡◌, ◌&&◌};
-ghost use Rattle.trace_audit.specs.inner.Legs.{raised, turned, voice_behind, is_muted_since};
+ghost use Rattle.std.specs.Prelude.{◌≡◌};
+ghost use Rattle.trace_model.specs.LegsMoved.{raised, turned, voice_behind};
+ghost use Rattle.trace_model.specs.inner.Mutings.{is_muted_since};
 
 use link_frames::Note;
 
 /// The voice of a leg that is up: whether it is open both ways, and the tick at which this stretch of an open or a
 /// muted voice began.
 #[derive(Clone, Copy, Debug, PartialEq, Eq)]
-pub(crate) struct Voice {
-    pub(crate) talks: bool,
-    pub(crate) since: u64,
+pub struct Voice {
+    pub talks: bool,
+    pub since: u64,
 }
 
 /// What an item of its leg makes of a voice at this tick; None is a leg that isn't up.
@@ -20,16 +21,9 @@ pub(crate) fn behind(voice: Option<Voice>, note: &Note, now: u64) -> Option<Voic
     match note {
         Note::Up { .. } => Some(raise(voice, now)),
         Note::Down { .. } => None,
-        Note::Voice { up, down, .. } => turn(voice, both(*up, *down), now),
+        Note::Voice { up, down, .. } => turn(voice, *up && *down, now),
         _ => voice,
     }
-}
-
-/// Whether both directions are open.
-pub(crate) fn both(up: bool, down: bool) -> bool
-    ensures { result ≡ (up && down) }
-{
-    up && down
 }
 
 fn raise(voice: Option<Voice>, now: u64) -> Voice

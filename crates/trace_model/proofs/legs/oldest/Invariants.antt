@@ -1,8 +1,8 @@
 use Rattle.std.specs.Prelude.{ℕ, nat_eq}
 use Rattle.std.specs.HashMap.{get}
 use Rattle.std.specs.VecDeque.{deque_len}
-use Rattle.trace_audit.specs.LegsStand.{Keeps}
-use Rattle.trace_audit.proofs.legs.oldest.Given as goal
+use Rattle.trace_model.specs.LegsStand.{Keeps}
+use Rattle.trace_model.proofs.legs.oldest.Given as goal
 
 abbrev pub invariant-loop-first : goal.invariant-loop-first
 invariant-loop-first l =

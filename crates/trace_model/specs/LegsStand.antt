@@ -6,9 +6,9 @@ use Rattle.std.specs.HashMap.{get}
 use Rattle.link_frames.specs.declared.frame.End.{End}
 use Rattle.trace_model.specs.declared.entry.Entry.{Entry}
 use Rattle.trace_model.specs.Safety.{Leg, leg_at}
-use Rattle.trace_audit.specs.declared.legs.Legs.{Legs}
-use Rattle.trace_audit.specs.declared.legs.Muting.{Muting}
-use Rattle.trace_audit.specs.declared.voice.Voice.{Voice}
+use Rattle.trace_model.specs.declared.legs.Legs.{Legs}
+use Rattle.trace_model.specs.declared.legs.Muting.{Muting}
+use Rattle.trace_model.specs.declared.voice.Voice.{Voice}
 use Rattle.trace_model.specs.Tallies.{last_tick}
 
 -- the voice that is kept of a call's leg; there is none where the leg isn't up

@@ -1,9 +1,9 @@
 use Rattle.std.proofs.Common.{◌∷◌, ◌∙◌, ap, nat_eq, subst, sym}
 use Rattle.std.specs.HashMap.{get}
-use Rattle.trace_audit.specs.LegsStand.{Keeps}
-use Rattle.trace_audit.specs.inner.Legs.{is_muted_since}
-use Rattle.trace_audit.proofs.LegsLemmas.{first_item, front_oldest}
-use Rattle.trace_audit.proofs.legs.oldest.Goals as goal
+use Rattle.trace_model.specs.LegsStand.{Keeps}
+use Rattle.trace_model.specs.inner.Mutings.{is_muted_since}
+use Rattle.trace_model.proofs.LegsLemmas.{first_item, front_oldest}
+use Rattle.trace_model.proofs.legs.oldest.Goals as goal
 
 pub returns-then-is_muted-clause-least : goal.returns-then-is_muted-clause-least
 returns-then-is_muted-clause-least c =

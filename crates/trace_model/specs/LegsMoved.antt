@@ -1,13 +1,12 @@
--- What an item does to the voice that is kept of its leg, and what the stretches of muting say of all voices. This
--- project's profile. Cited by the contracts of `Legs`.
-use Rattle.std.specs.Prelude.{◌≡◌, ◌+◌, ◌≤◌, ◌&&◌, ◌||◌, ◌==◌, ◌++◌, ℕ, Bool, true, false, not, List, [], ◌∷◌, Option, Some, None, if◌then◌else◌}
+-- What an item does to the voice that is kept of its leg, and which leg it moves. This project's profile. Cited by the
+-- contracts of `Legs` and `leg_of`.
+use Rattle.std.specs.Prelude.{◌≡◌, ◌+◌, ◌≤◌, ◌&&◌, ◌==◌, ℕ, Bool, false, Option, Some, None, if◌then◌else◌}
 use Rattle.std.specs.Bool.{beq}
 use Rattle.link_frames.specs.declared.frame.End.{End}
 use Rattle.link_frames.specs.declared.note.Note.{Note}
 use Rattle.link_frames.specs.declared.note.Note.TheVariants as note
-use Rattle.trace_audit.specs.declared.legs.Muting.{Muting}
-use Rattle.trace_audit.specs.declared.rules.LegOf.{LegOf}
-use Rattle.trace_audit.specs.declared.voice.Voice.{Voice}
+use Rattle.trace_model.specs.declared.moved.LegOf.{LegOf}
+use Rattle.trace_model.specs.declared.voice.Voice.{Voice}
 
 -- a leg that comes up is muted at first; one that is up stays as it is
 abbrev pub raised : Option Voice → (now : ℕ) → Voice
@@ -49,25 +48,6 @@ IsMoved (Some l) n = Moves l.of l.call n
 abbrev pub changed : (ℕ → Option Voice) → ℕ → Option Voice → ℕ → Option Voice
 changed voices c v q = if c == q then v else voices q
 
--- the voice is muted since this tick
-abbrev pub is_muted_since : Option Voice → ℕ → Bool
-is_muted_since None since = false
-is_muted_since (Some v) since = not v.talks && (v.since == since)
-
--- no voice is muted, or it is muted since this tick at the earliest, and one is
-abbrev pub IsOldest : (ℕ → Option Voice) → Option ℕ → Type 0
-IsOldest voices None = (c : ℕ) (v : Voice) → voices c ≡ Some v → v.talks ≡ false → ⊥
-IsOldest voices (Some since) =
-    ((c : ℕ) × (v : Voice) × (voices c ≡ Some v) × (v.talks ≡ false) × (v.since ≡ since))
-    × ((c : ℕ) (v : Voice) → voices c ≡ Some v → v.talks ≡ false → since ≤ v.since)
-
 -- no voice is muted for longer than the limit
 abbrev pub AreWithin : (ℕ → Option Voice) → (now limit : ℕ) → Type 0
 AreWithin voices now limit = (c : ℕ) (v : Voice) → voices c ≡ Some v → v.talks ≡ false → now ≤ v.since + limit
-
--- what is noted where the voice of a call becomes this one: nothing where it talks, or was muted since that tick; else
--- that it is muted
-pub record NotesMuting (call : ℕ) (before : Option Voice) (v : Voice) (old new : List Muting) : Type 0 where
-  pub still : v.talks || is_muted_since before v.since ≡ true → new ≡ old
-  pub noted : v.talks || is_muted_since before v.since ≡ false
-      → new ≡ old ++ (record { call = call; since = v.since }) ∷ []

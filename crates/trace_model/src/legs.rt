@@ -3,8 +3,11 @@
 ghost use Rattle.std.specs.Prelude.{◌≡◌, ◌≤◌, ◌↔◌, ◌++◌, [], ◌∷◌, ℕ, IsTrue, List, nat_eq, None, OnOk, Some};
 ghost use Rattle.std.specs.HashMap.{get};
 ghost use Rattle.link_frames.specs.declared.frame.End.{End};
-ghost use Rattle.trace_audit.specs.LegsStand.{Keeps, LegsStandFor, voice_at};
-ghost use Rattle.trace_audit.specs.inner.Legs.{AreWithin, IsOldest, NotesMuting, changed, voice_behind};
+ghost use Rattle.trace_model.specs.Tallies.{last_tick};
+ghost use Rattle.trace_model.specs.declared.entry.Entry.{Entry};
+ghost use Rattle.trace_model.specs.LegsStand.{Keeps, LegsStandFor, voice_at};
+ghost use Rattle.trace_model.specs.LegsMoved.{AreWithin, Moves, changed, voice_behind};
+ghost use Rattle.trace_model.specs.inner.Mutings.{IsOldest, NotesMuting};
 
 use crate::voice::{Voice, behind, is_muted};
 use call_io::Memory;
@@ -22,14 +25,14 @@ struct Muting {
 /// The voices of the legs that are up, by call, and the stretches of muting in the order in which they began. A stretch
 /// whose voice has opened, or whose leg went down, stays until it is the first.
 #[derive(Drop)]
-pub(crate) struct Legs {
+pub struct Legs {
     up: HashMap<u32, Voice>,
     muted: VecDeque<Muting>,
 }
 
 impl Legs {
     /// No leg is up.
-    pub(crate) fn new(alloc: Global) -> Legs
+    pub fn new(alloc: Global) -> Legs
         ensures { (e : End) → LegsStandFor e result [] }
     {
         Legs {
@@ -39,18 +42,22 @@ impl Legs {
     }
 
     /// The voice of the leg of this call; None where it isn't up.
-    pub(crate) fn voice(&self, call: u32) -> Option<Voice>
+    pub fn voice(&self, call: u32) -> Option<Voice>
         ensures { result ≡ voice_at self.now call }
     {
         self.up.get(&call).copied()
     }
 
-    /// An item moves the leg of this call. The condition on order is that no tick falls.
-    pub(crate) fn hear(&mut self, call: u32, note: &Note, now: u64) -> Result<(), Memory>
+    /// An item moves the leg of this call. Behind it the legs stand for the entries with this one, if they stood for those
+    /// before, whose ticks aren't above this one.
+    pub fn hear(&mut self, call: u32, note: &Note, now: u64) -> Result<(), Memory>
         ensures voices { OnOk result ((q : ℕ) → voice_at self.new q
             ≡ changed (voice_at self.old) call (voice_behind (voice_at self.old call) note.now now) q) }
         ensures keeps { (before : ℕ) → before ≤ now → Keeps (voice_at self.old) self.old.muted.items before →
             OnOk result (Keeps (voice_at self.new) self.new.muted.items now) }
+        ensures stands { (e : End) (before : List Entry) → Moves e call note.now → last_tick before ≤ now →
+            LegsStandFor e self.old before →
+            OnOk result (LegsStandFor e self.new (before ++ (record { tick = now; note = note.now }) ∷ [])) }
     {
         let before = self.voice(call);
         match behind(before, note, now) {
@@ -103,7 +110,7 @@ impl Legs {
     }
 
     /// Whether no leg that is up has been muted for longer than this limit.
-    pub(crate) fn are_within(&mut self, now: u64, limit: u64) -> bool
+    pub fn are_within(&mut self, now: u64, limit: u64) -> bool
         ensures up { self.new.up ≡ self.old.up }
         ensures keeps { (before : ℕ) → Keeps (voice_at self.old) self.old.muted.items before →
             Keeps (voice_at self.new) self.new.muted.items before }

@@ -10,11 +10,12 @@ use Rattle.std.proofs.Common.{refl, sym, ap, subst, ◌∙◌, inl, inr, arith}
 use Rattle.std.proofs.lemmas.Bool.{false≢true, true≢false, eq-eqb, eqb-true}
 use Rattle.link_frames.specs.declared.note.Note.{Note}
 use Rattle.link_frames.specs.declared.note.Note.TheVariants as note
-use Rattle.trace_audit.specs.declared.legs.Legs.{Legs}
-use Rattle.trace_audit.specs.declared.legs.Muting.{Muting}
-use Rattle.trace_audit.specs.declared.voice.Voice.{Voice}
-use Rattle.trace_audit.specs.LegsStand.{AreInOrder, IsQueued, Keeps, voice_at}
-use Rattle.trace_audit.specs.inner.Legs.{AreWithin, IsOldest, NotesMuting, changed, is_muted_since, voice_behind}
+use Rattle.trace_model.specs.declared.legs.Legs.{Legs}
+use Rattle.trace_model.specs.declared.legs.Muting.{Muting}
+use Rattle.trace_model.specs.declared.voice.Voice.{Voice}
+use Rattle.trace_model.specs.LegsStand.{AreInOrder, IsQueued, Keeps, voice_at}
+use Rattle.trace_model.specs.LegsMoved.{AreWithin, changed, voice_behind}
+use Rattle.trace_model.specs.inner.Mutings.{IsOldest, NotesMuting, is_muted_since}
 
 -- Stretches of muting in order.
 
