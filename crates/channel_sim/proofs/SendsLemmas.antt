@@ -5,7 +5,7 @@ use Rattle.std.specs.Option.{option_map}
 use Rattle.link_frames.specs.declared.frame.Frame.{Frame}
 use Rattle.channel_sim.specs.declared.kept.KeptFrame.{KeptFrame}
 use Rattle.channel_sim.specs.declared.sends.KeptSent.{KeptSent}
-use Rattle.channel_sim.specs.inner.Sends.{sent_of}
+use Rattle.channel_sim.specs.Sends.{sent_of}
 use Rattle.channel_sim.specs.Handing.{full}
 
 -- one frame more, in all that is kept

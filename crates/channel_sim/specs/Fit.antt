@@ -1,7 +1,7 @@
 -- When a trace fits a world: what ties the state of both ends, and each frame in flight, to the entries written so far.
 -- It holds at first and each step keeps it; from it follows that every trace is safe. It names no row of either end.
 -- This project's profile. Cited by the laws of this crate and the contract of `World::step`.
-use Rattle.std.specs.Prelude.{◌≡◌, ◌≤◌, ◌<◌, ℕ, ◌+◌, true, false, List, [], ◌∷◌, ◌++◌, ◌⊎◌, ◌||◌, Option, Some, None, IfSome, if◌then◌else◌}
+use Rattle.std.specs.Prelude.{◌≡◌, ◌≤◌, ℕ, ◌+◌, true, false, List, [], ◌∷◌, ◌++◌, ◌⊎◌, Option, Some, None, IfSome, if◌then◌else◌}
 use Rattle.std.specs.List.{AllByRecursion}
 use Rattle.std.specs.Option.{is_some}
 use Rattle.link_frames.specs.declared.frame.End.{End}

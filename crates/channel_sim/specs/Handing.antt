@@ -1,7 +1,7 @@
--- Frames as they are kept, and which frames a flow hands over: those of one call, up or down. A reader of `ecall` need not
--- believe it: neither `step` nor `advance` cites it. Cited by the parts of elapsed time that a `World` gives away, and by
--- private functions.
-use Rattle.std.specs.Prelude.{ℕ, Bool, true, false, List, [], ◌∷◌, Option, Some, None, if◌then◌else◌}
+-- Frames as they are kept, and which frames a flow hands over: those of one call, up or down. A reader of `ecall` need
+-- not believe it: neither `step` nor `advance` cites it. Cited by the parts of elapsed time that a `World` gives away,
+-- and by private functions.
+use Rattle.std.specs.Prelude.{ℕ, Bool, true, false, List, [], ◌∷◌, Option, Some, None}
 use Rattle.link_frames.specs.declared.frame.Frame.{Frame}
 use Rattle.link_frames.specs.declared.frame.Frame.TheVariants as frame
 use Rattle.trace_model.specs.History.{Sent}

@@ -5,6 +5,7 @@ pub mod Lag
 pub mod Lines
 pub mod Passes
 pub mod Quiet
+pub mod Sends
 pub mod SimFault
 pub mod Tidy
 pub mod World

@@ -1,6 +1,6 @@
 -- Why a step of the world fails: the listener's own fault, or want of memory, and what the listener's count of faults
--- says of it. This project's profile. Cited by `World::step`, by the parts of elapsed time that a `World` gives away, by
--- what they call, and by the conversions into `SimFault`.
+-- says of it. This project's profile. Cited by `World::step`, by the parts of elapsed time that a `World` gives away,
+-- by what they call, and by the conversions into `SimFault`.
 use Rattle.std.specs.Prelude.{◌≡◌, ◌≤◌, ℕ, Result, OnOk, IfErr}
 use Rattle.call_io.specs.Counts.{Rose}
 use Rattle.trace_model.specs.declared.listener.Deaf.{Deaf}

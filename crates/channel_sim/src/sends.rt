@@ -30,7 +30,7 @@ pub(crate) struct Sends {
 impl Model for Sends {
     ghost use Rattle.std.specs.Prelude.{List, map};
     ghost use Rattle.trace_model.specs.History.{Sent};
-    ghost use Rattle.channel_sim.specs.inner.Sends.{sent_of};
+    ghost use Rattle.channel_sim.specs.Sends.{sent_of};
 
     ghost Value = { List Sent };
 

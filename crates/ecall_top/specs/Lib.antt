@@ -1,16 +1,3 @@
 pub mod Commands
-pub mod Conform
-pub mod CutTraces
-pub mod Decode
-pub mod Encode
-pub mod Frames
-pub mod Make
-pub mod Outcome
-pub mod Refusals
-pub mod Replay
-pub mod Register
 pub mod Replies
-pub mod Run
-pub mod Status
-pub mod Trial
 pub mod inner

@@ -5,17 +5,20 @@ use Rattle.line_input.specs.Characters.{newline}
 use Rattle.trace_text.specs.Script.{script_of}
 use Rattle.ecall_top.specs.declared.command.Command.{Command}
 use Rattle.ecall_top.specs.declared.command.Command.TheVariants as command
-use Rattle.ecall_top.specs.declared.status.Status.TheVariants as status
-use Rattle.ecall_top.specs.Conform.{IsConformed}
-use Rattle.ecall_top.specs.Decode.{IsDecoded}
-use Rattle.ecall_top.specs.Encode.{encode_reply}
-use Rattle.ecall_top.specs.Frames.{IsFrames}
-use Rattle.ecall_top.specs.Make.{made_script}
-use Rattle.ecall_top.specs.Refusals.{Reply}
-use Rattle.ecall_top.specs.Replay.{IsReplayed}
-use Rattle.ecall_top.specs.Register.{register_reply}
-use Rattle.ecall_top.specs.Run.{run_reply, script_passes}
-use Rattle.ecall_top.specs.Trial.{trial_reply}
+use Rattle.command_base.specs.declared.status.Status.{Status}
+use Rattle.command_base.specs.declared.status.Status.TheVariants as status
+use Rattle.ecall_top.specs.Commands.{reads}
+use Rattle.set_commands.specs.Conform.{IsConformed}
+use Rattle.set_commands.specs.Decode.{IsDecoded}
+use Rattle.set_commands.specs.Encode.{encode_reply}
+use Rattle.set_commands.specs.Frames.{IsFrames}
+use Rattle.script_commands.specs.Make.{made_script}
+use Rattle.command_base.specs.Outcome.{Outcome, Streams}
+use Rattle.command_base.specs.Refusals.{Reply}
+use Rattle.script_commands.specs.Replay.{IsReplayed}
+use Rattle.script_commands.specs.Register.{register_reply}
+use Rattle.script_commands.specs.Run.{run_reply, script_passes}
+use Rattle.script_commands.specs.Trial.{trial_reply}
 
 abbrev pub usage_line : List ℕ
 usage_line = codes "usage: ecall run|register|decode|encode|frames|replay|trial N|make N|conform" ++ newline ∷ []
@@ -39,3 +42,8 @@ passes_of (Some command.Run) input = script_passes (script_of input)
 passes_of (Some command.Register) input = script_passes (script_of input)
 passes_of (Some (command.Trial number)) input = script_passes (script_of (made_script number))
 passes_of _ input = 0
+
+-- what an answer to a command says of the bytes that it took and wrote, and of how often it passed the ends
+abbrev pub CommandOutcome : Option Command → (old new : Streams) → Status → Type 0
+CommandOutcome asked old new answer =
+    Outcome (λ input r. Replies asked input r) (λ input. passes_of asked input) (reads asked) old new answer

@@ -2,12 +2,11 @@
 
 ghost use Rattle.std.specs.Prelude.{None};
 
-use crate::Status;
-use crate::decode_tests::{PETROL, PETROL_SAYS};
-use crate::tests::{bad, call, same_status};
+use crate::tests::{call, same_status};
+use crate::{Refused, Status};
 use call_io::{Failed, MemSource, Sink, Source};
-use line_input::Reason;
-use std::alloc::{AllocError, Global};
+use line_input::{BadLine, Reason};
+use std::alloc::Global;
 use std::cell::Cell;
 use std::process::Abort;
 use std::test::Fail;
@@ -109,7 +108,11 @@ fn same_seen(rt: &impl Abort, seen: Seen, want: Seen) {
 #[test]
 fn answers_each_line_before_the_next_is_read(rt: HostRuntime) -> Result<(), Fail> {
     let (answer, seen) = typed(rt.alloc())?;
-    same_status(&rt, "a person", answer, bad(5, Reason::Word));
+    let bad = BadLine {
+        line: 5,
+        reason: Reason::Word,
+    };
+    same_status(&rt, "a person", answer, Status::Refused(Refused::Line(bad)));
     // `0 dial 1`, `0 nothing` and `refused 5 1`, each with its newline.
     let want = Seen {
         saw: [0, 0, 9, 9, 9, 19, 0, 0],
@@ -120,18 +123,12 @@ fn answers_each_line_before_the_next_is_read(rt: HostRuntime) -> Result<(), Fail
     Ok(())
 }
 
-/// So many lines with the set of the petrol car.
-fn petrol_lines(alloc: Global, count: usize) -> Result<Vec<u8>, AllocError> {
+/// How `frames` ends over so many lines with a start, and how many bytes it shows in how many writes.
+fn started(alloc: Global, count: usize) -> Result<(Status, usize, usize), Fail> {
     let mut lines = Vec::new(alloc);
     for _ in 0..count {
-        lines.extend_from_slice(PETROL.as_bytes())?;
-        lines.push(b'\n')?;
+        lines.extend_from_slice(b"02\n")?;
     }
-    Ok(lines)
-}
-
-/// Decodes these lines, and says how many bytes were shown in how many writes.
-fn decoded(alloc: Global, lines: Vec<u8>) -> Result<(Status, usize, usize), Fail> {
     let mut input = MemSource::new(lines, 4096, Vec::new(alloc));
     let shown = Cell::new(0);
     let writes = Cell::new(0);
@@ -139,20 +136,17 @@ fn decoded(alloc: Global, lines: Vec<u8>) -> Result<(Status, usize, usize), Fail
         shown: &shown,
         writes: &writes,
     };
-    let answer = call(alloc, "decode", &mut input, &mut screen)?;
+    let answer = call(alloc, "frames", &mut input, &mut screen)?;
     Ok((answer, shown.get(), writes.get()))
 }
 
 #[test]
 fn writes_in_blocks(rt: HostRuntime) -> Result<(), Fail> {
-    let alloc = rt.alloc();
-    let lines = petrol_lines(alloc, 100)?;
-    let (answer, shown, writes) = decoded(alloc, lines)?;
-    same_status(&rt, "a hundred sets", answer, Status::Done);
-    assert_eq!(rt; shown, 100 * PETROL_SAYS.len());
-    // Two reads of at most 4096 bytes give 65 whole lines and then 35.
-    let blocks = (65 * PETROL_SAYS.len()).div_ceil(8192) + (35 * PETROL_SAYS.len()).div_ceil(8192);
-    assert_eq!(rt; writes, blocks);
-    assert!(rt; blocks < 10);
+    let (answer, shown, writes) = started(rt.alloc(), 4096)?;
+    same_status(&rt, "many frames", answer, Status::Done);
+    // Each line gives `start 1`, and the end `rest 0`, each with its newline. Three reads of 4096 bytes give 1365 lines,
+    // 1365, and 1366, each a full block of 8192 bytes and a part of one, which is written before the next read.
+    assert_eq!(rt; shown, 4096 * 8 + 7);
+    assert_eq!(rt; writes, 7);
     Ok(())
 }

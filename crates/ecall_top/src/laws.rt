@@ -1,7 +1,7 @@
 //! What holds of all replies. The function here does nothing: its contract is the laws.
 
 ghost use Rattle.std.specs.Prelude.{◌≡◌, ℕ, List, Option};
-ghost use Rattle.ecall_top.specs.Refusals.{Reply};
+ghost use Rattle.command_base.specs.Refusals.{Reply};
 ghost use Rattle.ecall_top.specs.Replies.{Replies};
 
 use crate::command::Command;

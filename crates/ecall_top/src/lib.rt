@@ -1,64 +1,36 @@
 //! The commands of `ecall`: words and a whole input in, text and a status out.
 #![tactic(auto)]
 
-ghost use Rattle.std.specs.Prelude.{true, false, ◌≡◌, ◌≤◌, ◌⊎◌, ◌++◌, [], List, ℕ, Some, None, map};
+ghost use Rattle.std.specs.Prelude.{true, false, ◌≡◌, ◌≤◌, ◌⊎◌, ◌++◌, [], List, ℕ, Some, None, length, map};
 ghost use Rattle.std.specs.String.{string_bytes};
 ghost use Rattle.call_io.specs.Blocks.{held, pending, sink, sink_name, way};
 ghost use Rattle.call_io.specs.Ways.{Onward};
+ghost use Rattle.line_input.specs.Lines.{most_bytes};
 ghost use Rattle.trace_model.specs.Safety.{Agreed, Bounded, Finished, Opened};
 ghost use Rattle.trace_text.specs.Script.{script_of};
 ghost use Rattle.ecall_top.specs.Commands.{command_of, plays, reads, takes_memory};
-ghost use Rattle.ecall_top.specs.CutTraces.{IsSafelyCut};
-ghost use Rattle.ecall_top.specs.Outcome.{EndsUnread, Outcome, ReadCause, WriteCause, streams_of};
-ghost use Rattle.ecall_top.specs.Replies.{usage_line};
-ghost use Rattle.ecall_top.specs.Run.{script_tick, script_trace};
-ghost use Rattle.ecall_top.specs.inner.Ends.{EndsWithText, HandsOver};
+ghost use Rattle.script_commands.specs.CutTraces.{IsSafelyCut};
+ghost use Rattle.command_base.specs.Ends.{EndsWithText};
+ghost use Rattle.command_base.specs.Outcome.{EndsUnread, IsUncut, IsWholeReply, ReadCause, WriteCause, streams_of};
+ghost use Rattle.ecall_top.specs.Replies.{CommandOutcome, Replies, usage_line};
+ghost use Rattle.script_commands.specs.Run.{script_tick, script_trace};
+ghost use Rattle.ecall_top.specs.inner.Ends.{HandsOver};
 
 #[cfg(test)]
 mod block_tests;
 mod command;
-mod conform;
-#[cfg(test)]
-mod conform_tests;
-mod decode;
-#[cfg(test)]
-mod decode_tests;
-mod encode;
-#[cfg(test)]
-mod encode_tests;
-mod frames;
-#[cfg(test)]
-mod frames_tests;
 mod laws;
-mod make;
-#[cfg(test)]
-mod make_tests;
-mod reading;
-mod refusal;
-#[cfg(test)]
-mod refusal_tests;
-mod register;
-#[cfg(test)]
-mod register_tests;
-mod replay;
-#[cfg(test)]
-mod replay_tests;
-mod run;
-mod stage;
-mod status;
 #[cfg(test)]
 mod tests;
-#[cfg(test)]
-mod time_tests;
-mod trial;
 
 use crate::command::read_command;
 use call_io::{Block, Sink, Source, write_all};
 pub use command::Command;
+pub use command_base::{Refused, Status};
 pub use laws::reply_laws;
 use link_frames::Steps;
-pub use refusal::Refused;
-pub use status::Status;
+use script_commands::{keep_register, make_script, replay_trace, run_script, try_script};
+use set_commands::{decode_sets, encode_sets, read_frames, write_vectors};
 use std::alloc::Global;
 use std::sync::ledger::Ledger;
 
@@ -96,9 +68,14 @@ pub fn ecall<I: Source, O: Sink, L: Ledger>(
 ) -> Status
     // What was taken, what was written, and that it is the reply to the words and the input; and that ends were passed
     // no more often than the input gives reason for.
-    ensures outcome { Outcome (command_of (map string_bytes words.now))
+    ensures outcome { CommandOutcome (command_of (map string_bytes words.now))
         (streams_of I.left O.held input.old output.old moments.old)
         (streams_of I.left O.held input.new output.new moments.new) result }
+    // Where the input tells its bytes, and they are no more than it may have, an answer that isn't cut short is the
+    // whole reply to the words and all of them.
+    ensures complete { (bytes : List ℕ) → I.left input.old ≡ Some bytes → length bytes ≤ most_bytes → IsUncut result →
+        IsWholeReply (λ input r. Replies (command_of (map string_bytes words.now)) input r) bytes
+        (O.held output.old) (O.held output.new) result }
     // In the trace of every script, every acknowledged set was shown earlier by the point for that call, octet for
     // octet.
     ensures agreed { (script : List ℕ) → Agreed (script_trace (script_of script)) }
@@ -141,7 +118,7 @@ fn carry_out<I: Source, O: Sink, L: Ledger>(
     moments: &mut Steps<L>,
 ) -> Status
     requires { pending output.old ≡ [] }
-    ensures outcome { Outcome (command_of (map string_bytes words.now))
+    ensures outcome { CommandOutcome (command_of (map string_bytes words.now))
         (streams_of I.left (λ block. O.held (sink block)) input.old output.old moments.old)
         (streams_of I.left (λ block. O.held (sink block)) input.new output.new moments.new) result }
     ensures usage { command_of (map string_bytes words.now) ≡ None →
@@ -168,7 +145,7 @@ fn reply<I: Source, O: Sink, L: Ledger>(
     output: &mut Block<'_, O>,
     moments: &mut Steps<L>,
 ) -> Status
-    ensures outcome { Outcome (command_of (map string_bytes words.now))
+    ensures outcome { CommandOutcome (command_of (map string_bytes words.now))
         (streams_of I.left (held O.held) input.old output.old moments.old)
         (streams_of I.left (held O.held) input.new output.new moments.new) result }
     ensures usage { command_of (map string_bytes words.now) ≡ None →
@@ -184,15 +161,15 @@ fn reply<I: Source, O: Sink, L: Ledger>(
     ensures onward { Onward (way O.held output.old) (way O.held output.new) }
 {
     match read_command(words) {
-        Some(Command::Run) => run::run(alloc, input, output, moments),
-        Some(Command::Register) => register::register(alloc, input, output, moments),
-        Some(Command::Decode) => decode::decode_sets(input, output),
-        Some(Command::Encode) => encode::encode_sets(input, output),
-        Some(Command::Frames) => frames::read_frames(input, output),
-        Some(Command::Replay) => replay::replay(alloc, input, output),
-        Some(Command::Make(number)) => make::make(number, output),
-        Some(Command::Trial(number)) => trial::trial(alloc, number, output, moments),
-        Some(Command::Conform) => conform::conform(output),
+        Some(Command::Run) => run_script(alloc, input, output, moments),
+        Some(Command::Register) => keep_register(alloc, input, output, moments),
+        Some(Command::Decode) => decode_sets(input, output),
+        Some(Command::Encode) => encode_sets(input, output),
+        Some(Command::Frames) => read_frames(input, output),
+        Some(Command::Replay) => replay_trace(alloc, input, output),
+        Some(Command::Make(number)) => make_script(number, output),
+        Some(Command::Trial(number)) => try_script(alloc, number, output, moments),
+        Some(Command::Conform) => write_vectors(output),
         None => usage(output),
     }
 }

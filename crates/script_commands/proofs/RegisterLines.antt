@@ -22,7 +22,8 @@ use Rattle.script_commands.specs.declared.stage.Stage.{Stage}
 use Rattle.command_base.specs.declared.status.Status.{Status}
 use Rattle.command_base.specs.declared.status.Status.TheVariants as status
 use Rattle.script_commands.specs.inner.Progress.{entries_of, event_of, passes_by}
-use Rattle.script_commands.specs.inner.RegisterTurns.{RegisteredFrom, Registers, RegisterStands, ScriptSeen, WritesRows, passes_behind_lines, passes_from, registered_script, script_behind}
+use Rattle.script_commands.specs.inner.RegisterTurns.{RegisteredFrom, Registers, RegisterStands, WritesRows, registered_script}
+use Rattle.script_commands.specs.inner.ScriptSeen.{ScriptSeen, passes_behind_lines, passes_from, script_behind}
 use Rattle.script_commands.specs.inner.ScriptLaws.{behind_none, behind_refused, judged-line}
 use Rattle.script_commands.specs.inner.ScriptTurns.{RefusedLine, Told}
 use Rattle.script_commands.specs.inner.Stage.{IsEarly, StageStandsFor}

@@ -19,7 +19,7 @@ use Rattle.script_commands.specs.declared.stage.Stage.{Stage}
 use Rattle.command_base.specs.declared.status.Status.{Status}
 use Rattle.command_base.specs.declared.status.Status.TheVariants as status
 use Rattle.script_commands.specs.inner.Progress.{entries_of, event_of, passes_by}
-use Rattle.script_commands.specs.inner.RegisterTurns.{ScriptSeen, passes_behind_lines, passes_from, script_behind}
+use Rattle.script_commands.specs.inner.ScriptSeen.{ScriptSeen, passes_behind_lines, passes_from, script_behind}
 use Rattle.script_commands.specs.inner.RunLaws.{RunFrom, RunStands, run_lined, run_refused, script_reply, text_so_far}
 use Rattle.script_commands.specs.inner.ScriptLaws.{judged-line}
 use Rattle.script_commands.specs.inner.ScriptTurns.{Plays, RefusedLine}

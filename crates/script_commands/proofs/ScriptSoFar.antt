@@ -14,7 +14,7 @@ use Rattle.channel_sim.specs.Lines.{bound_from, passes_within, step, trace_from,
 use Rattle.channel_sim.specs.World.{World, first_world}
 use Rattle.script_commands.specs.Run.{most_passes, played, script_passes}
 use Rattle.script_commands.specs.inner.Progress.{event_of, events_before, entries_in, entries_of, passes_by, passes_in, world_left}
-use Rattle.script_commands.specs.inner.RegisterTurns.{IsTidy, ScriptSeen, passes_behind_lines, script_behind}
+use Rattle.script_commands.specs.inner.ScriptSeen.{IsTidy, ScriptSeen, passes_behind_lines, script_behind}
 use Rattle.script_commands.specs.inner.RunLaws.{IsNoFact, no_fact_judged, trace_from-append}
 use Rattle.script_commands.specs.inner.ScriptLaws.{behind_none, events_before-in_front, passes_passed, script_from-bad, script_from-comment, script_from-line}
 

@@ -1,5 +1,5 @@
-//! What no clause says: the first lines of a script as they were worked out by hand, the five counts that another program
-//! gave which was written from the same description, and that neither command gives up while memory is at hand.
+//! What no clause says: the first lines of a script as they were worked out by hand, the five counts that another
+//! program gave which was written from the same description, and that neither command gives up while memory is at hand.
 
 use crate::tests::{Asked, FACTS, call, same_status, same_text};
 use call_io::{MemSink, MemSource};

@@ -7,7 +7,8 @@ ghost use Rattle.trace_text.specs.Script.{Said, script_of, script_line, placed, 
 ghost use Rattle.trace_model.specs.declared.event.Event.{Event};
 ghost use Rattle.command_base.specs.LineCommands.{IsQuietTurn};
 ghost use Rattle.command_base.specs.Outcome.{Outcome, ReadCause, WriteCause, streams_of};
-ghost use Rattle.script_commands.specs.inner.RegisterTurns.{RegisteredFrom, Registers, RegisterStands, ScriptSeen, WritesRows, passes_from};
+ghost use Rattle.script_commands.specs.inner.RegisterTurns.{RegisteredFrom, Registers, RegisterStands, WritesRows};
+ghost use Rattle.script_commands.specs.inner.ScriptSeen.{ScriptSeen, passes_from};
 ghost use Rattle.script_commands.specs.Register.{register_reply};
 ghost use Rattle.script_commands.specs.Run.{script_passes};
 ghost use Rattle.script_commands.specs.inner.ScriptLaws.{register_lined};

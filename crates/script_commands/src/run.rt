@@ -9,7 +9,7 @@ ghost use Rattle.trace_text.specs.Script.{Said, script_of, script_line, placed, 
 ghost use Rattle.trace_model.specs.declared.event.Event.{Event};
 ghost use Rattle.command_base.specs.Outcome.{Outcome, ReadCause, WriteCause, streams_of};
 ghost use Rattle.script_commands.specs.Run.{run_reply, script_passes};
-ghost use Rattle.script_commands.specs.inner.RegisterTurns.{ScriptSeen, passes_from};
+ghost use Rattle.script_commands.specs.inner.ScriptSeen.{ScriptSeen, passes_from};
 ghost use Rattle.script_commands.specs.inner.RunLaws.{RunFrom, RunStands, run_lined};
 ghost use Rattle.script_commands.specs.inner.ScriptTurns.{Plays};
 ghost use Rattle.script_commands.specs.inner.Stage.{HaltWriteCause, StageStandsFor, Obeys, calls_in, ticks_in};

@@ -109,12 +109,29 @@ pub(crate) fn source(
     Ok(MemSource::new(bytes, most, fails))
 }
 
-/// Carries it out over a block, with a count of its own.
+/// Carries it out over a block.
 fn reply<L: Ledger>(
     alloc: Global,
     asked: Asked,
     input: &mut MemSource,
     output: &mut Block<'_, MemSink>,
+    moments: &mut Steps<L>,
+) -> Status {
+    match asked {
+        Asked::Run => run_script(alloc, input, output, moments),
+        Asked::Register => keep_register(alloc, input, output, moments),
+        Asked::Replay => replay_trace(alloc, input, output),
+        Asked::Make(number) => make_script(number, output),
+        Asked::Trial(number) => try_script(alloc, number, output, moments),
+    }
+}
+
+/// Carries it out with a count of its own, and hands over what is pending at the end.
+fn carry_out<L: Ledger>(
+    alloc: Global,
+    asked: Asked,
+    input: &mut MemSource,
+    output: &mut MemSink,
     blank: Blank,
 ) -> Status
     requires name { blank.name ≡ L.name }
@@ -122,24 +139,8 @@ fn reply<L: Ledger>(
     requires some { 0 < blank.parts }
 {
     let mut moments = Steps::<L>::start(blank);
-    match asked {
-        Asked::Run => run_script(alloc, input, output, &mut moments),
-        Asked::Register => keep_register(alloc, input, output, &mut moments),
-        Asked::Replay => replay_trace(alloc, input, output),
-        Asked::Make(number) => make_script(number, output),
-        Asked::Trial(number) => try_script(alloc, number, output, &mut moments),
-    }
-}
-
-/// Carries it out, and hands over what is pending at the end.
-pub(crate) fn call(
-    alloc: Global,
-    asked: Asked,
-    input: &mut MemSource,
-    output: &mut MemSink,
-) -> Status {
     let mut block = Block::over(output);
-    let status = reply::<Brand>(alloc, asked, input, &mut block, Blank::new(1));
+    let status = reply(alloc, asked, input, &mut block, &mut moments);
     match status {
         Status::ReadFault | Status::WriteFault => status,
         _ => match block.empty() {
@@ -147,6 +148,16 @@ pub(crate) fn call(
             Err(_) => Status::WriteFault,
         },
     }
+}
+
+/// Carries it out.
+pub(crate) fn call(
+    alloc: Global,
+    asked: Asked,
+    input: &mut MemSource,
+    output: &mut MemSink,
+) -> Status {
+    carry_out::<Brand>(alloc, asked, input, output, Blank::new(1))
 }
 
 /// The status of a refused line.

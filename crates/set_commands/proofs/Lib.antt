@@ -5,5 +5,5 @@ mod FramesTaken
 mod FramesLines
 mod Shortest
 mod ConformTold
-mod Conformed
+pub mod Conformed
 pub mod OneReply

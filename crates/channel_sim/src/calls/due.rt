@@ -36,8 +36,8 @@ fn add_frame(due: &mut Vec<Due>, number: u32, frame: Option<&KeptFrame>) -> Resu
     Ok(())
 }
 
-/// Adds the frames of a call that were sent at this tick, the first of which is at this place, and gives the place behind
-/// them. Out of line, so that a call in which nothing is due is soon passed over.
+/// Adds the frames of a call that were sent at this tick, the first of which is at this place, and gives the place
+/// behind them. Out of line, so that a call in which nothing is due is soon passed over.
 #[inline(never)]
 fn add_from(
     due: &mut Vec<Due>,

@@ -7,7 +7,7 @@ use Rattle.ecall_top.proofs.carry_out.Goals as goal
 
 pub returns-clause-outcome : goal.returns-clause-outcome
 returns-clause-outcome g c =
-    handed_over g.O.Sink.held (command_of (map string_bytes c.args.words.now)) (g.I.Source.left c.args.input.now)
+    handed_over (command_of (map string_bytes c.args.words.now)) g.O.Sink.held (g.I.Source.left c.args.input.now)
     (g.I.Source.left c.reply-status.new.input) c.args.moments.now c.reply-status.new.moments c.args.output.now
     c.reply-status.new.output c.hand_over.new.output c.requires
     (Onward-append _ _ _ c.reply-status.ensures.onward c.hand_over.ensures.onward) c.hand_over.ensures.kept

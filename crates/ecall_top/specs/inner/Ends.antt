@@ -1,38 +1,8 @@
--- How a command ends with a text, and how reading one more line ends. This project's profile. Cited by the functions
--- that end a command and by the one that reads its next line.
-use Rattle.std.specs.Prelude.{◌≡◌, ℕ, ◌⊎◌, Bool, List, [], Option, Result, Ok, Err}
-use Rattle.call_io.specs.Bytes.{Grew, GrewPartly}
-use Rattle.line_input.specs.Reading.{Reading, ReadsLine}
-use Rattle.line_input.specs.declared.fault.LineFault.{LineFault}
-use Rattle.line_input.specs.declared.fault.LineFault.TheVariants as fault
-use Rattle.ecall_top.specs.declared.refusal.Refused.TheVariants as refused
-use Rattle.ecall_top.specs.declared.status.Status.{Status}
-use Rattle.ecall_top.specs.declared.status.Status.TheVariants as status
-use Rattle.ecall_top.specs.Refusals.{refusal_line}
-
--- a text was written and this is the answer to that, or a part of it and writing failed
-abbrev pub EndsWithText : (held held' : Option (List ℕ)) → List ℕ → (wanted answer : Status) → Type 0
-EndsWithText held held' text wanted answer =
-    ((answer ≡ wanted) × Grew held held' text) ⊎ ((answer ≡ status.WriteFault) × GrewPartly held held' text)
-
--- what an answer says where a line couldn't be read: it is refused, or nothing more is written
-abbrev pub FailsWith : LineFault → (held held' : Option (List ℕ)) → (answer : Status) → Type 0
-FailsWith (fault.Bad bad) held held' answer =
-    EndsWithText held held' (refusal_line (refused.Line bad)) (status.Refused (refused.Line bad)) answer
-FailsWith fault.ReadFault held held' answer = (answer ≡ status.ReadFault) × (held' ≡ held)
-FailsWith fault.TooLong held held' answer = (answer ≡ status.TooLong) × (held' ≡ held)
-
--- The next line wasn't read, which ends the command: it can't be, or what was pending in front of it couldn't be
--- written.
-pub data EndsReading (old new : Reading) (left left' held held' : Option (List ℕ)) (answer : Status) : Type 0 where
-  by_line : (f : LineFault) → ReadsLine old new left left' (Err f) → FailsWith f held held' answer
-      → EndsReading old new left left' held held' answer
-  in_front : answer ≡ status.WriteFault → left' ≡ left → held' ≡ held → EndsReading old new left left' held held' answer
-
--- what reading one more line comes to: true is a line, false the end of the input, and an answer ends the command
-abbrev pub ReadsOn : (old new : Reading) → (left left' held held' : Option (List ℕ)) → Result Bool Status → Type 0
-ReadsOn old new left left' held held' (Ok found) = ReadsLine old new left left' (Ok found) × (held' ≡ held)
-ReadsOn old new left left' held held' (Err answer) = EndsReading old new left left' held held' answer
+-- What an answer becomes where what was written is handed over. This project's profile. Cited by the function that
+-- hands it over.
+use Rattle.std.specs.Prelude.{◌≡◌, ℕ, ◌⊎◌, List, []}
+use Rattle.command_base.specs.declared.status.Status.{Status}
+use Rattle.command_base.specs.declared.status.Status.TheVariants as status
 
 -- a read or a write failed
 abbrev pub IsFault : Status → Type 0

@@ -1,8 +1,8 @@
 -- What `register` has come to behind some lines of its script, what it replies to the others, and what one more line
 -- comes to. Cited by the command and by the functions that keep the register.
-use Rattle.std.specs.Prelude.{◌≡◌, ℕ, ◌+◌, ◌⊎◌, List, [], ◌∷◌, ◌++◌, true, Option, Some, None, Result, Ok, Err}
+use Rattle.std.specs.Prelude.{◌≡◌, ℕ, ◌⊎◌, List, Option, Result}
 use Rattle.trace_text.specs.Facts.{facts_in}
-use Rattle.trace_text.specs.Script.{Said, Script, judged, said_after, script_from}
+use Rattle.trace_text.specs.Script.{Said, Script}
 use Rattle.trace_model.specs.declared.event.Event.{Event}
 use Rattle.line_input.specs.declared.reason.Reason.{Reason}
 use Rattle.trace_text.specs.declared.script.ScriptLine.{ScriptLine}
@@ -16,22 +16,9 @@ use Rattle.command_base.specs.Refusals.{Reply}
 use Rattle.script_commands.specs.Register.{registered, table_line}
 use Rattle.script_commands.specs.Run.{played, script_trace}
 use Rattle.command_base.specs.Ends.{EndsWithText}
-use Rattle.script_commands.specs.inner.Progress.{event_of, events_before, passes_by}
+use Rattle.script_commands.specs.inner.ScriptSeen.{IsTidy, ScriptSeen, script_behind}
 use Rattle.script_commands.specs.inner.ScriptTurns.{PlaysTo}
 use Rattle.script_commands.specs.inner.Stage.{IsEarly, StageStandsFor}
-
--- what the lines so far said, and the events that they brought
-pub record ScriptSeen : Type 0 where
-  pub said : Said
-  pub events : List Event
-
--- events come behind the first event line alone
-abbrev pub IsTidy : Said → List Event → Type 0
-IsTidy said events = (said.eventful ≡ true) ⊎ (events ≡ [])
-
--- the script of the lines so far and of these
-abbrev pub script_behind : ScriptSeen → ℕ → List (List ℕ) → Script
-script_behind seen number texts = events_before seen.events (script_from seen.said number texts)
 
 abbrev pub registered_script : Script → Reply
 registered_script script = registered (script_trace script) script.refused
@@ -39,19 +26,6 @@ registered_script script = registered (script_trace script) script.refused
 -- the reply to lines behind what was said
 abbrev pub RegisteredFrom : ScriptSeen → ℕ → List (List ℕ) → Reply → Type 0
 RegisteredFrom seen number texts r = r ≡ registered_script (script_behind seen number texts)
-
--- how often lines pass the ends at most, behind what was said
-unfoldable pub passes_behind_lines : Said → List Event → List (List ℕ) → ℕ
-passes_behind_lines said events [] = 0
-passes_behind_lines said events (text ∷ texts) = elim (judged said text) [
-  | Ok None ↦ passes_behind_lines said events texts
-  | Ok (Some says) ↦
-      passes_by said events says + passes_behind_lines (said_after said says) (events ++ event_of says) texts
-  | Err why ↦ 0
-]
-
-abbrev pub passes_from : ScriptSeen → ℕ → List (List ℕ) → ℕ
-passes_from seen number texts = passes_behind_lines seen.said seen.events texts
 
 -- The stage stands for what the lines said, and the rows are those of its trace so far.
 pub record RegisterStands (before : ℕ) (seen : ScriptSeen) (stage : Stage) (rows : Rows) : Type 0 where

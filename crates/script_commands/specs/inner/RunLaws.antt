@@ -24,7 +24,7 @@ use Rattle.command_base.specs.declared.refusal.Refused.TheVariants as refused
 use Rattle.script_commands.specs.declared.stage.Stage.{Stage}
 use Rattle.command_base.specs.declared.status.Status.TheVariants as status
 use Rattle.script_commands.specs.inner.Progress.{event_of, events_before}
-use Rattle.script_commands.specs.inner.RegisterTurns.{IsTidy, ScriptSeen, passes_from, passes_behind_lines, script_behind}
+use Rattle.script_commands.specs.inner.ScriptSeen.{IsTidy, ScriptSeen, passes_from, passes_behind_lines, script_behind}
 use Rattle.script_commands.specs.inner.ScriptLaws.{behind_none, behind_passed, judged-fault, judged-passed, passes_passed, script_from-bad, script_from-comment, script_from-line, script_from-none}
 use Rattle.script_commands.specs.inner.Stage.{IsEarly, StageStandsFor}
 

@@ -1,5 +1,5 @@
--- The script that lines say, one after another, and the law of `register` as a command over lines, proved. Cited by that
--- command.
+-- The script that lines say, one after another, and the law of `register` as a command over lines, proved. Cited by
+-- that command.
 use Rattle.std.specs.Prelude.{◌≡◌, ℕ, ◌+◌, ◌≤◌, Bool, true, false, cond, List, [], ◌∷◌, ◌++◌, Option, Some, None, Result, Ok, Err}
 use Rattle.std.proofs.Common.{sym, ◌∙◌, ap, refl, arith, subst, append_assoc}
 use Rattle.std.proofs.lemmas.List.{append-nil}
@@ -16,7 +16,8 @@ use Rattle.command_base.specs.Refusals.{Reply, refusal_reply}
 use Rattle.command_base.specs.declared.refusal.Refused.TheVariants as refused
 use Rattle.command_base.specs.declared.status.Status.TheVariants as status
 use Rattle.script_commands.specs.inner.Progress.{events_before, event_of}
-use Rattle.script_commands.specs.inner.RegisterTurns.{RegisteredFrom, ScriptSeen, passes_from, passes_behind_lines, registered_script, script_behind}
+use Rattle.script_commands.specs.inner.RegisterTurns.{RegisteredFrom, registered_script}
+use Rattle.script_commands.specs.inner.ScriptSeen.{ScriptSeen, passes_from, passes_behind_lines, script_behind}
 
 pub judged-passed : (said : Said) (text : List ℕ) → IsPassedOver text → judged said text ≡ Ok None
 judged-passed said text h = rw (judged, h.0, h.1) refl

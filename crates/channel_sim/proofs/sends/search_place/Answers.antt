@@ -1,4 +1,4 @@
-use Rattle.std.proofs.Common.{rules, of_calls, ◌≡◌, ◌≤◌, ◌-◌, ltb, true, false, length, length-drop, take, drop, subst, arith}
+use Rattle.std.proofs.Common.{rules, of_calls, ◌≡◌, ◌-◌, ltb, true, false, length, length-drop, take, drop, subst, arith}
 use Rattle.std.proofs.lemmas.List.Sorted.{IsPartitionPoint-from_clause, IsPartitionedBy-ltb, IsNonDecreasingBy-drop, IsNonDecreasingBy-take}
 use Rattle.std.specs.List.Sorted.{IsPartitionedBy, IsPartitionPoint}
 use Rattle.channel_sim.specs.declared.sends.KeptSent.{KeptSent}

@@ -1,4 +1,4 @@
 use Rattle.script_commands.proofs.tests.call.Given as goal
 
-abbrev pub ghosts-reply : goal.ghosts-reply
-ghosts-reply g a = record { name = a.blank.name; parts = a.blank.parts }
+abbrev pub ghosts-carry_out : goal.ghosts-carry_out
+ghosts-carry_out a = record { name = a.blank.name; parts = a.blank.parts }

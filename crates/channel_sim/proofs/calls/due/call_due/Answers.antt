@@ -1,5 +1,5 @@
-use Rattle.std.proofs.Common.{◌≡◌, ◌≤◌, ◌+◌, ◌-◌, ◌++◌, ◌∷◌, [], suc, map, ap, sym, ◌∙◌, subst, arith, append-nil}
-use Rattle.channel_sim.specs.World.{due_in, due_frames}
+use Rattle.std.proofs.Common.{◌-◌, ◌++◌, ◌∷◌, [], map, ap, sym, ◌∙◌, subst, arith, append-nil}
+use Rattle.channel_sim.specs.World.{due_in}
 use Rattle.channel_sim.specs.Handing.{due_of, sent_way}
 use Rattle.channel_sim.specs.Tidy.{AreFrom, ticks_of}
 use Rattle.channel_sim.proofs.DueLemmas.{call_none, one_at, way_kept, way_rises}

@@ -1,6 +1,6 @@
-use Rattle.std.proofs.Common.{◌≡◌, ◌++◌, [], OnOk, map, ap, sym, ◌∙◌, subst, append-nil, Some, None, refl}
+use Rattle.std.proofs.Common.{◌≡◌, ◌++◌, OnOk, map, ap, sym, ◌∙◌, subst, append-nil, Some, refl}
 use Rattle.std.specs.List.{AllByRecursion}
-use Rattle.channel_sim.specs.World.{Due, due_in}
+use Rattle.channel_sim.specs.World.{due_in}
 use Rattle.channel_sim.specs.Handing.{alone, due_of, flow_way, sent_way}
 use Rattle.channel_sim.specs.Lag.{CallLags, CallsLag}
 use Rattle.channel_sim.specs.Tidy.{CallInTime}
