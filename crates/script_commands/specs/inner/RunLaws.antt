@@ -168,9 +168,10 @@ run_lined seen tidy =
     record {
       done = λ number. (record { text = []; status = status.Done }, run_done seen number, refl);
       some = λ number texts.
-          let begins = text_begins seen.said seen.events tidy texts number in (
-            record { text = begins.rest; status = (script_reply (script_behind seen number texts)).status },
-            ap (λ t. record { text = t; status = (script_reply (script_behind seen number texts)).status }) begins.whole,
+          let begins = text_begins seen.said seen.events tidy texts number in
+          let answer = (script_reply (script_behind seen number texts)).status in (
+            record { text = begins.rest; status = answer },
+            ap (λ t. record { text = t; status = answer }) begins.whole,
           );
       passed = λ number text texts r passed is.
           is ∙ ap script_reply (sym (behind_passed seen number text texts passed));

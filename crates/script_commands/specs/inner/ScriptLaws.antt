@@ -81,7 +81,8 @@ behind_none seen number =
     ∙ ap (λ es. record { facts = facts_in seen.said.facts; events = es; refused = None }) (append-nil seen.events)
 
 pub passes_passed : (said : Said) (events : List Event) (text : List ℕ) (texts : List (List ℕ))
-    → judged said text ≡ Ok None → passes_behind_lines said events (text ∷ texts) ≡ passes_behind_lines said events texts
+    → judged said text ≡ Ok None
+    → passes_behind_lines said events (text ∷ texts) ≡ passes_behind_lines said events texts
 unfolding passes_behind_lines
 passes_passed said events text texts h = rw (passes_behind_lines, h) refl
 
