@@ -123,11 +123,11 @@ fn answers_each_line_before_the_next_is_read(rt: HostRuntime) -> Result<(), Fail
     Ok(())
 }
 
-/// How `frames` ends over so many lines with a start, and how many bytes it shows in how many writes.
+/// How `frames` ends over so many lines of ten octets, and how many bytes it shows in how many writes.
 fn started(alloc: Global, count: usize) -> Result<(Status, usize, usize), Fail> {
     let mut lines = Vec::new(alloc);
     for _ in 0..count {
-        lines.extend_from_slice(b"02\n")?;
+        lines.extend_from_slice(b"01010101010101010101\n")?;
     }
     let mut input = MemSource::new(lines, 4096, Vec::new(alloc));
     let shown = Cell::new(0);
@@ -142,11 +142,12 @@ fn started(alloc: Global, count: usize) -> Result<(Status, usize, usize), Fail> 
 
 #[test]
 fn writes_in_blocks(rt: HostRuntime) -> Result<(), Fail> {
-    let (answer, shown, writes) = started(rt.alloc(), 4096)?;
+    let (answer, shown, writes) = started(rt.alloc(), 585)?;
     same_status(&rt, "many frames", answer, Status::Done);
-    // Each line gives `start 1`, and the end `rest 0`, each with its newline. Three reads of 4096 bytes give 1365 lines,
-    // 1365, and 1366, each a full block of 8192 bytes and a part of one, which is written before the next read.
-    assert_eq!(rt; shown, 4096 * 8 + 7);
+    // Each line has 21 bytes and gives `init` ten times, and the end gives `rest 0`, each with its newline. Three reads of
+    // 4096 bytes give 195 lines each, and so a full block of 8192 bytes and a part of one, which is written before the
+    // next read.
+    assert_eq!(rt; shown, 585 * 50 + 7);
     assert_eq!(rt; writes, 7);
     Ok(())
 }
