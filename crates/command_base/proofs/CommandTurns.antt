@@ -1,6 +1,8 @@
 -- What a turn of the loop over lines comes to, by what the command does with a line and at the end.
-use Rattle.std.specs.Prelude.{◌≡◌, ℕ, ◌+◌, ◌<◌, ◌≤◌, true, false, List, Option, Some, None, Ok, MatchOption, length}
+use Rattle.std.specs.Prelude.{◌≡◌, ℕ, ◌+◌, ◌<◌, ◌≤◌, true, false, List, [], Option, Some, None, Ok, MatchOption, length}
 use Rattle.std.proofs.Common.{◌∙◌, arith, subst, sym, inl, inr}
+use Rattle.call_io.proofs.BytesLemmas.{Grew-nothing}
+use Rattle.line_input.proofs.LinesSoFar.{lines_counted, lines_first}
 use Rattle.line_input.specs.Lines.{Numbered, most_bytes}
 use Rattle.line_input.specs.Reading.{Reading, ReadsLine, first_reading}
 use Rattle.command_base.specs.LineCommands.{IsLined, IsQuietLine, IsQuietTurn, TakesLine, EndsInput}
@@ -24,8 +26,14 @@ module _ {Seen : Type 0} (Rest : Seen → ℕ → List (List ℕ) → Reply → 
         seen = first;
         stands = stands;
         lines =
-            lines.first_standing (RepliesFrom Rest most first) (most_from Rest most first) (Rest first) (most first)
-            (λ input r replied. replied) (λ input. omega arith) start;
+            record {
+              lines = [];
+              so_far = lines_first start.left;
+              text = [];
+              read = λ texts r replied. replied;
+              wrote = Grew-nothing start.held;
+              counted = λ texts. omega arith;
+            };
       }
 
   -- a line was read, with all as it was written, and the command took it
@@ -51,9 +59,7 @@ module _ {Seen : Type 0} (Rest : Seen → ℕ → List (List ℕ) → Reply → 
       is_lined = lined old.lines s.seen s.stands
 
       counted : (old.lines < new.lines) × (new.lines ≤ most_bytes)
-      counted =
-          lines.counted (RepliesFrom Rest most first) (most_from Rest most first) (Rest s.seen) (most s.seen) is_lined
-          start now old new left s.lines reads
+      counted = lines_counted start.left now.left left old new s.lines.lines s.lines.so_far reads
 
       by_answer : (answer : Option Status)
           → TakesLine Rest most (Stands' new.lines) s.seen new.lines new.text now.passes passes now.held held answer
@@ -63,16 +69,15 @@ module _ {Seen : Type 0} (Rest : Seen → ℕ → List (List ℕ) → Reply → 
           seen = t.next;
           stands = t.stands;
           lines =
-              lines.goes_on (RepliesFrom Rest most first) (most_from Rest most first) (Rest s.seen) (most s.seen)
-              is_lined (Rest t.next) (most t.next) start now passes old new left held s.lines t.text reads t.goes
-              t.counted t.wrote;
+              lines.goes_on (Rest first 1) (most first 1) (Rest s.seen) (most s.seen) is_lined start now old s.lines new
+              left reads (Rest t.next) (most t.next) passes held t.text t.goes t.counted t.wrote;
         },
         counted.0,
         counted.1,
       )
       by_answer (Some answer) t =
-          endings.ends_line (RepliesFrom Rest most first) (most_from Rest most first) (Rest s.seen) (most s.seen) is_lined
-          start now passes old new left held s.lines reads answer t.0 t.1
+          endings.ends_line (Rest first 1) (most first 1) (Rest s.seen) (most s.seen) is_lined start now old s.lines
+          passes new left held reads answer t.0 t.1
 
   -- the end of the input was read, with all as it was written, and the command ended there
   pub finished : (Stands : ℕ → Seen → Type 0)
@@ -85,8 +90,8 @@ module _ {Seen : Type 0} (Rest : Seen → ℕ → List (List ℕ) → Reply → 
       → Outcome (RepliesFrom Rest most first) (most_from Rest most first) true start
       (record now { left = left; held = held }) answer
   finished Stands lined start now old new left between held same reads answer ends s =
-      endings.ended (RepliesFrom Rest most first) (most_from Rest most first) (Rest s.seen) (most s.seen)
-      (lined old.lines s.seen s.stands) start now old new left held s.lines reads answer
+      endings.ended (Rest first 1) (most first 1) (Rest s.seen) (most s.seen) (lined old.lines s.seen s.stands) start now
+      old s.lines new left held reads answer
       (subst (λ (h : Option (List ℕ)).
       EndsInput (Rest s.seen) (old.lines + 1 + length reads.finds.0.passed) h held answer) same
       (ends old.lines s.seen s.stands (old.lines + 1 + length reads.finds.0.passed)))
@@ -99,8 +104,8 @@ module _ {Seen : Type 0} (Rest : Seen → ℕ → List (List ℕ) → Reply → 
       → Outcome (RepliesFrom Rest most first) (most_from Rest most first) true start
       (record now { left = left; held = held }) answer
   unread Stands lined start now old new left held answer ends s =
-      endings.unread (RepliesFrom Rest most first) (most_from Rest most first) (Rest s.seen) (most s.seen)
-      (lined old.lines s.seen s.stands) start now old new left held answer ends s.lines
+      endings.unread (Rest first 1) (most first 1) (Rest s.seen) (most s.seen) (lined old.lines s.seen s.stands) start now
+      old s.lines new left held answer ends
 
   -- no read fails where a line was taken
   pub line_reads : (Stands : Seen → Type 0) (seen : Seen) (number : ℕ) (line : List ℕ) (passes passes' : ℕ)

@@ -1,4 +1,3 @@
-mod Takings
 mod LinesRead
 mod LinesEnded
 mod CommandTurns

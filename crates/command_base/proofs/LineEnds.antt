@@ -1,7 +1,9 @@
 -- How a line ends a command over lines, by what was written of its reply.
-use Rattle.std.specs.Prelude.{ℕ, ◌+◌, ◌≤◌, true, List, [], ◌∷◌, ◌++◌, Option}
+use Rattle.std.specs.Prelude.{ℕ, ◌+◌, ◌≤◌, ◌⊎◌, true, List, [], ◌∷◌, ◌++◌, Option}
 use Rattle.std.proofs.Common.{◌∙◌, sym, subst, ap, refl, append_assoc, inl, inr, arith}
-use Rattle.call_io.specs.Bytes.{GrewPartly}
+use Rattle.call_io.specs.Bytes.{Grew, GrewPartly, Took}
+use Rattle.line_input.specs.Inputs.{IsSettledBy}
+use Rattle.line_input.specs.Lines.{IsWhole}
 use Rattle.command_base.specs.LineCommands.{GoesOn, Ends, CountsEnd, EndsLine}
 use Rattle.command_base.specs.Outcome.{Answered, CutShort, Outcome, Streams}
 use Rattle.command_base.specs.Refusals.{Reply, in_front_of}
@@ -179,3 +181,30 @@ cut_partly replies old new input c = elim (c.begins) [
       ))
   | inr «end» ↦ (in_front_of c.text «end».1.0, «end».1.1, (c.text, «end».1.0.text, refl, c.wrote))
 ]
+
+-- a text with which a reply to what was taken begins was written, and that is settled, or the input is whole
+pub cut_settled : (replies : List ℕ → Reply → Type 0) (start : Streams) (passes : ℕ) (left held : Option (List ℕ))
+    (input text : List ℕ)
+    → Took start.left left input → Grew start.held held text → ((r : Reply) × replies input (in_front_of text r))
+    → IsSettledBy (λ bytes. (r : Reply) × replies bytes (in_front_of text r)) input ⊎ IsWhole left input
+    → CutShort replies start (record { left = left; held = held; passes = passes }) input
+cut_settled replies start passes left held input text took wrote all (inl s) =
+    record {
+      took = took;
+      front = s.front;
+      rest = s.rest;
+      split = s.split;
+      text = text;
+      wrote = wrote;
+      begins = inl s.holds;
+    }
+cut_settled replies start passes left held input text took wrote all (inr w) =
+    record {
+      took = took;
+      front = [];
+      rest = input;
+      split = refl;
+      text = text;
+      wrote = wrote;
+      begins = inr (w.«end», all);
+    }

@@ -5,8 +5,9 @@ use Rattle.std.specs.Io.KnownBytes.{IsAtEnd, prepend_known}
 use Rattle.std.proofs.Common.{sym, ◌∙◌, ap, refl, subst, append_assoc, inl, inr, arith, length-append}
 use Rattle.std.proofs.lemmas.List.{append-nil}
 use Rattle.std.proofs.lemmas.Bool.{false≢true}
+use Rattle.line_input.specs.Inputs.{RunsOver}
 use Rattle.line_input.specs.Lines.{IsWhole, most_bytes}
-use Rattle.command_base.specs.Outcome.{IsRead, IsSettled, IsUncut, IsWholeReply, Outcome, RunsOver, Streams}
+use Rattle.command_base.specs.Outcome.{IsRead, IsSettled, IsUncut, IsUnrefused, IsWholeReply, Outcome, Streams}
 use Rattle.command_base.specs.Refusals.{Reply}
 use Rattle.command_base.specs.declared.status.Status.{Status}
 use Rattle.command_base.specs.declared.status.Status.TheVariants as status
@@ -38,12 +39,12 @@ module _ (replies : List ℕ → Reply → Type 0) (most : List ℕ → ℕ) (ol
   decided input r took replied (inl s) =
       let l : Left new.left bytes input = left_of new.left bytes input (sym told ∙ took) in
       subst (λ (b : List ℕ). replies b r)
-      (sym (l.whole ∙ ap (λ b. b ++ l.rest) s.split ∙ append_assoc s.front s.rest l.rest)) (s.replied (s.rest ++ l.rest))
+      (sym (l.whole ∙ ap (λ b. b ++ l.rest) s.split ∙ append_assoc s.front s.rest l.rest)) (s.holds (s.rest ++ l.rest))
   decided input r took replied (inr w) =
       subst (λ (b : List ℕ). replies b r) (all_of new.left bytes input (sym told ∙ took) w.«end») replied
 
   -- an input that is too long isn't within what it may have
-  too_many : (input : List ℕ) → old.left ≡ prepend_known input new.left → RunsOver replies input → ⊥
+  too_many : (input : List ℕ) → old.left ≡ prepend_known input new.left → RunsOver (IsUnrefused replies) input → ⊥
   too_many input took over =
       let l : Left new.left bytes input = left_of new.left bytes input (sym told ∙ took) in
       let taken : length bytes ≡ length input + length l.rest = ap length l.whole ∙ length-append input l.rest in

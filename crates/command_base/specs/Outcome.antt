@@ -2,13 +2,12 @@
 -- passed the ends of its calls, and of the reads and writes that failed. `replies` is what the command replies to an
 -- input, `most` how often it passes the ends for one at most, and `reads` whether it reads one at all. This project's
 -- profile. Where a source or a sink doesn't tell its bytes, nothing is said of them.
-use Rattle.std.specs.Prelude.{◌≡◌, ℕ, ◌+◌, ◌<◌, ◌≤◌, ◌⊎◌, Bool, false, List, [], ◌++◌, length, Option}
+use Rattle.std.specs.Prelude.{◌≡◌, ℕ, ◌+◌, ◌≤◌, ◌⊎◌, Bool, false, List, [], ◌++◌, Option}
 use Rattle.std.specs.Io.KnownBytes.{IsAtEnd}
-use Rattle.std.specs.List.{AllByRecursion}
 use Rattle.call_io.specs.Bytes.{Took, Grew}
 use Rattle.call_io.specs.Counts.{Rose}
-use Rattle.line_input.specs.Feed.{IsInner}
-use Rattle.line_input.specs.Lines.{AreWholeLines, IsWhole, most_bytes, most_in_line}
+use Rattle.line_input.specs.Inputs.{IsSettledBy, RunsOver}
+use Rattle.line_input.specs.Lines.{IsWhole}
 use Rattle.command_base.specs.declared.status.Status.{Status}
 use Rattle.command_base.specs.declared.status.Status.TheVariants as status
 use Rattle.command_base.specs.Refusals.{Reply, in_front_of}
@@ -45,28 +44,13 @@ pub record CutShort (replies : List ℕ → Reply → Type 0) (old new : Streams
   pub begins : ((more : List ℕ) → (r : Reply) × replies (front ++ more) (in_front_of text r))
       ⊎ (IsAtEnd new.left × ((r : Reply) × replies input (in_front_of text r)))
 
--- The reply is settled by a front of the input, within the bytes that an input may have: whatever comes behind that
--- front, the reply is this one.
-pub record IsSettled (replies : List ℕ → Reply → Type 0) (input : List ℕ) (r : Reply) : Type 0 where
-  pub front : List ℕ
-  pub rest : List ℕ
-  pub split : input ≡ front ++ rest
-  pub within : length front ≤ most_bytes
-  pub replied : (more : List ℕ) → replies (front ++ more) r
+-- the reply is settled by a front of the input: whatever comes behind that front, it is this one
+abbrev pub IsSettled : (replies : List ℕ → Reply → Type 0) → (input : List ℕ) → Reply → Type 0
+IsSettled replies input r = IsSettledBy (λ bytes. replies bytes r) input
 
--- The input has more bytes than it may have, and no line that ended, or was too long, within these was refused: they
--- are whole lines, none of them refused, and a line that neither ended nor is too long; and at least one byte follows.
-pub record RunsOver (replies : List ℕ → Reply → Type 0) (input : List ℕ) : Type 0 where
-  pub front : List ℕ
-  pub unended : List ℕ
-  pub rest : List ℕ
-  pub split : input ≡ front ++ (unended ++ rest)
-  pub full : length (front ++ unended) ≡ most_bytes
-  pub beyond : 0 < length rest
-  pub lines : AreWholeLines front
-  pub inner : AllByRecursion IsInner unended
-  pub short : length unended ≤ most_in_line
-  pub unrefused : (r : Reply) × replies front r × (r.status ≡ status.Done)
+-- none of the lines of these bytes is refused
+abbrev pub IsUnrefused : (replies : List ℕ → Reply → Type 0) → List ℕ → Type 0
+IsUnrefused replies bytes = (r : Reply) × replies bytes r × (r.status ≡ status.Done)
 
 -- The input was read to its end, or the command reads none, and took nothing.
 abbrev pub IsRead : (reads : Bool) → (left : Option (List ℕ)) → (input : List ℕ) → Type 0
@@ -91,7 +75,8 @@ Outcome replies most reads old new status.ReadFault =
 Outcome replies most reads old new status.WriteFault = (input : List ℕ) × CutShort replies old new input
 Outcome replies most reads old new status.Memory = (input : List ℕ) × CutShort replies old new input
 Outcome replies most reads old new status.TooLong =
-    (input : List ℕ) × CutShort replies old new input × RunsOver replies input × (new.passes ≤ old.passes + most input)
+    (input : List ℕ) × CutShort replies old new input × RunsOver (IsUnrefused replies) input
+    × (new.passes ≤ old.passes + most input)
 
 -- what an answer says of the source's count of faults: a read failed, or else none did
 abbrev pub ReadCause : Status → (old new : ℕ) → Type 0

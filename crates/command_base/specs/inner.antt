@@ -2,4 +2,3 @@
 -- between two lines. No public contract rests on them.
 pub mod ReadEnds
 pub mod Standing
-pub mod Taken

@@ -4,7 +4,7 @@ ghost use Rattle.std.specs.Prelude.{◌≡◌};
 ghost use Rattle.command_base.specs.Status.{status_code};
 
 use crate::refusal::Refused;
-use trace_audit::Rule;
+use trace_model::Rule;
 
 /// How a call of `ecall` ended. The program's exit status is its number.
 #[derive(Clone, Copy, Debug, PartialEq, Eq)]

@@ -9,7 +9,7 @@ use per_bits::{Reason as SetReason, Refusal};
 use std::alloc::Global;
 use std::process::Abort;
 use std::test::Fail;
-use trace_audit::Rule;
+use trace_model::Rule;
 
 /// A line that is refused.
 const BAD: Refused = Refused::Line(BadLine {

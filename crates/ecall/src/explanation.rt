@@ -3,7 +3,6 @@
 use ecall_top::{Refused, Status};
 use line_input::{BadLine, Reason as LineReason};
 use link_frames::{Fault, FrameFault};
-use msd_values::FORMAT;
 use per_bits::{Reason as SetReason, Refusal};
 use std::fmt;
 use trace_audit::Rule;
@@ -184,7 +183,7 @@ fn write_set_fault<W: fmt::Write>(
         SetReason::EmptyOpen => write!(f, "an addition without octets"),
         SetReason::BadOid if value == 0 => write!(f, "an object identifier without octets"),
         SetReason::BadOid => write!(f, "an octet {value} that no object identifier has there"),
-        SetReason::Version => write!(f, "the format {value}, where {FORMAT} is the only one"),
+        SetReason::Version => write!(f, "the format {value}, where 1 and 2 are the only ones"),
         SetReason::PadBits => write!(f, "a bit 1 where zero bits fill the last octet"),
         SetReason::Trailing => write!(f, "an octet {value} behind the set, where each has to be 0"),
         SetReason::Size if value == 0 => write!(f, "there are no octets"),

@@ -130,7 +130,7 @@ fn explains_what_else_a_set_has(rt: HostRuntime) -> Result<(), Fail> {
         (
             SetReason::Version,
             3,
-            "the format 3, where 2 is the only one, at bit 237 from 0 (reason 8)",
+            "the format 3, where 1 and 2 are the only ones, at bit 237 from 0 (reason 8)",
         ),
         (
             SetReason::PadBits,

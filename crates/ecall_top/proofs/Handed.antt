@@ -1,6 +1,6 @@
 -- What a command that wrote through a block says of the sink, once all that was pending is handed over.
 use Rattle.std.specs.Prelude.{◌≡◌, ℕ, ◌⊎◌, Bool, false, List, [], ◌++◌, Option}
-use Rattle.std.proofs.Common.{sym, ◌∙◌, ap, refl, subst, append_assoc, inl, inr}
+use Rattle.std.proofs.Common.{sym, ◌∙◌, ap, refl, subst, append_assoc, inl, inr, arith}
 use Rattle.std.proofs.lemmas.List.{append-nil}
 use Rattle.call_io.specs.Blocks.{sink, pending, held, way}
 use Rattle.call_io.specs.Bytes.{GrewPartly}
@@ -9,6 +9,8 @@ use Rattle.call_io.specs.declared.block.Block.{Block}
 use Rattle.call_io.proofs.BlockLemmas.{Grew_through, GrewPartly_through}
 use Rattle.call_io.proofs.BytesLemmas.{GrewPartly-whole}
 use Rattle.line_input.specs.Lines.{IsWhole}
+use Rattle.line_input.proofs.LinesSoFar.{settled_as}
+use Rattle.command_base.proofs.LineEnds.{cut_settled}
 use Rattle.command_base.specs.declared.status.Status.{Status}
 use Rattle.command_base.specs.declared.status.Status.TheVariants as status
 use Rattle.command_base.specs.Outcome.{Streams, Answered, CutShort, EndsUnread, IsRead, IsSettled, Outcome, ReadCause}
@@ -26,56 +28,37 @@ module _ (replies : List ℕ → Reply → Type 0) (most : List ℕ → ℕ) (re
   all_of input r replied =
       subst (λ (t : List ℕ). replies input (record { text = t; status = r.status })) (sym (append-nil r.text)) replied
 
-  -- what a front of the input settles was written whole, so in part
-  settled_cut : (old new : Streams) (input : List ℕ) (r : Reply) → Answered replies most old new input r
-      → (front rest : List ℕ) → input ≡ front ++ rest → ((more : List ℕ) → replies (front ++ more) r)
-      → CutShort replies old new input
-  settled_cut old new input r a front rest split replied =
-      record {
-        took = a.took;
-        front = front;
-        rest = rest;
-        split = split;
-        text = r.text;
-        wrote = a.wrote;
-        begins =
-            inl (λ more. (record { text = []; status = r.status }, all_of (front ++ more) r (replied more)));
-      }
-
-  -- so was the reply to an input that was read to its end
-  whole_cut : (old new : Streams) (input : List ℕ) (r : Reply) → Answered replies most old new input r
-      → IsWhole new.left input → CutShort replies old new input
-  whole_cut old new input r a w =
-      record {
-        took = a.took;
-        front = [];
-        rest = input;
-        split = refl;
-        text = r.text;
-        wrote = a.wrote;
-        begins = inr (w.«end», (record { text = []; status = r.status }, all_of input r a.replied));
-      }
-
+  -- a reply that was written whole was written in part
   ended_cut : (old new : Streams) (input : List ℕ) (r : Reply) → Answered replies most old new input r
       → IsSettled replies input r ⊎ IsWhole new.left input → CutShort replies old new input
-  ended_cut old new input r a (inl s) = settled_cut old new input r a s.front s.rest s.split s.replied
-  ended_cut old new input r a (inr w) = whole_cut old new input r a w
+  ended_cut old new input r a s =
+      cut_settled replies old new.passes new.left new.held input r.text a.took a.wrote (part input a.replied)
+      (settled_as (λ bytes. replies bytes r) (λ bytes. (q : Reply) × replies bytes (in_front_of r.text q)) new.left
+      input part s)
+    where
+      part : (bytes : List ℕ) → replies bytes r → (q : Reply) × replies bytes (in_front_of r.text q)
+      part bytes replied = (record { text = []; status = r.status }, all_of bytes r replied)
+
+  -- where the reply to nothing is that to any input, that settles it
+  by_nothing : (input : List ℕ) (r : Reply) → ((more : List ℕ) → replies more r) → IsSettled replies input r
+  by_nothing input r any =
+      record { front = []; rest = input; split = refl; within = omega arith; holds = λ more. any more }
 
   -- Where nothing is read, and where the words name no command, the reply to nothing is that to any input.
   module _ (unread : reads ≡ false → (r : Reply) → replies [] r → (more : List ℕ) → replies more r)
       (used : (r : Reply) → replies [] r → r.status ≡ status.Usage → (more : List ℕ) → replies more r) where
     done_cut : (old new : Streams) (input : List ℕ) (r : Reply) → Answered replies most old new input r
         → IsRead reads new.left input → CutShort replies old new input
-    done_cut old new input r a (inl w) = whole_cut old new input r a w
+    done_cut old new input r a (inl w) = ended_cut old new input r a (inr w)
     done_cut old new input r a (inr none) =
-        settled_cut old new input r a [] input refl
-        (unread none.0 r (subst (λ (b : List ℕ). replies b r) none.1 a.replied))
+        ended_cut old new input r a
+        (inl (by_nothing input r (unread none.0 r (subst (λ (b : List ℕ). replies b r) none.1 a.replied))))
 
     -- whatever was answered, a front of the reply was written
     cut_of : (old new : Streams) (answer : Status) → Outcome replies most reads old new answer
         → (input : List ℕ) × CutShort replies old new input
     cut_of old new status.Done o = (o.0, done_cut old new o.0 o.1 o.2 o.4)
-    cut_of old new status.Usage o = ([], settled_cut old new [] o.0 o.1 [] [] refl (used o.0 o.1.replied o.2))
+    cut_of old new status.Usage o = ([], ended_cut old new [] o.0 o.1 (inl (by_nothing [] o.0 (used o.0 o.1.replied o.2))))
     cut_of old new (status.Refused why) o = (o.0, ended_cut old new o.0 o.1 o.2 o.4)
     cut_of old new (status.Broken place rule) o = (o.0, ended_cut old new o.0 o.1 o.2 o.4)
     cut_of old new status.ReadFault o = (o.0, o.1)

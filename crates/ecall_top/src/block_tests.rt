@@ -2,9 +2,9 @@
 
 ghost use Rattle.std.specs.Prelude.{None};
 
-use crate::tests::{call, same_status};
+use crate::tests::{call, same_status, source};
 use crate::{Refused, Status};
-use call_io::{Failed, MemSource, Sink, Source};
+use call_io::{Failed, Sink, Source};
 use line_input::{BadLine, Reason};
 use std::alloc::Global;
 use std::cell::Cell;
@@ -125,11 +125,7 @@ fn answers_each_line_before_the_next_is_read(rt: HostRuntime) -> Result<(), Fail
 
 /// How `frames` ends over so many lines of ten octets, and how many bytes it shows in how many writes.
 fn started(alloc: Global, count: usize) -> Result<(Status, usize, usize), Fail> {
-    let mut lines = Vec::new(alloc);
-    for _ in 0..count {
-        lines.extend_from_slice(b"01010101010101010101\n")?;
-    }
-    let mut input = MemSource::new(lines, 4096, Vec::new(alloc));
+    let mut input = source(alloc, "01010101010101010101\n", count)?;
     let shown = Cell::new(0);
     let writes = Cell::new(0);
     let mut screen = Screen {
@@ -147,7 +143,6 @@ fn writes_in_blocks(rt: HostRuntime) -> Result<(), Fail> {
     // Each line has 21 bytes and gives `init` ten times, and the end gives `rest 0`, each with its newline. Three reads of
     // 4096 bytes give 195 lines each, and so a full block of 8192 bytes and a part of one, which is written before the
     // next read.
-    assert_eq!(rt; shown, 585 * 50 + 7);
-    assert_eq!(rt; writes, 7);
+    assert_eq!(rt; (shown, writes), (585 * 50 + 7, 7));
     Ok(())
 }

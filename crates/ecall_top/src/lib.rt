@@ -52,7 +52,7 @@ const USAGE: &[u8] =
 /// their muting, and the sets that were shown. `make N` writes the script of the number N, 0 to 4294967295 without
 /// leading zeros: two thousand calls under flows that change. `trial N` plays that script and writes five lines: how
 /// many entries its trace has, how many calls the point took, how many sets it showed and how many the vehicle counts as
-/// acknowledged, and the tick of the last entry. It takes memory as `run` does. `conform` decodes sixteen known vectors
+/// acknowledged, and the tick of the last entry. It takes memory as `run` does. `conform` decodes nineteen known vectors
 /// and writes for each its canonical octets, or why it is no set. Other words write the usage line. These four read
 /// nothing.
 ///

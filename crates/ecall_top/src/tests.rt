@@ -28,6 +28,15 @@ fn carry_out<I: Source, O: Sink, L: Ledger>(
     ecall(alloc, words, input, output, &mut moments)
 }
 
+/// These words, one by one behind single spaces.
+fn listed(alloc: Global, words: &str) -> Result<Vec<String>, AllocError> {
+    let mut list = Vec::new(alloc);
+    for word in words.split(' ') {
+        list.push(String::from_str(alloc, word)?)?;
+    }
+    Ok(list)
+}
+
 /// Carries out these words, one by one behind single spaces.
 pub(crate) fn call<I: Source, O: Sink>(
     alloc: Global,
@@ -35,10 +44,7 @@ pub(crate) fn call<I: Source, O: Sink>(
     input: &mut I,
     output: &mut O,
 ) -> Result<Status, AllocError> {
-    let mut list = Vec::new(alloc);
-    for word in words.split(' ') {
-        list.push(String::from_str(alloc, word)?)?;
-    }
+    let list = listed(alloc, words)?;
     Ok(carry_out::<I, O, Brand>(alloc, &list, input, output, Blank::new(1)))
 }
 
@@ -52,11 +58,18 @@ fn same_text(rt: &impl Abort, row: &str, written: &[u8], text: &str) {
     assert_eq!(rt; written, text.as_bytes(), "{row}");
 }
 
+/// A source of this text, so many times.
+pub(crate) fn source(alloc: Global, text: &str, count: usize) -> Result<MemSource, AllocError> {
+    let mut bytes = Vec::new(alloc);
+    for _ in 0..count {
+        bytes.extend_from_slice(text.as_bytes())?;
+    }
+    Ok(MemSource::new(bytes, 4096, Vec::new(alloc)))
+}
+
 /// How these words end over this input, and a sink that holds what they wrote.
 fn told(alloc: Global, words: &str, input: &str) -> Result<(Status, MemSink), Fail> {
-    let mut bytes = Vec::new(alloc);
-    bytes.extend_from_slice(input.as_bytes())?;
-    let mut source = MemSource::new(bytes, 4096, Vec::new(alloc));
+    let mut source = source(alloc, input, 1)?;
     let mut output = MemSink::new(alloc, 20_000, Vec::new(alloc))?;
     let answer = call(alloc, words, &mut source, &mut output)?;
     Ok((answer, output))
@@ -77,36 +90,40 @@ fn expect(
     Ok(())
 }
 
+/// Words that name no command.
+const OTHER_WORDS: [&str; 8] = [
+    "run fast",
+    "decode all",
+    "conform 1",
+    "make",
+    "make 01",
+    "trial 4294967296",
+    "--help",
+    "",
+];
+
 #[test]
 fn refuses_other_words(rt: HostRuntime) -> Result<(), Fail> {
     let usage = "usage: ecall run|register|decode|encode|frames|replay|trial N|make N|conform\n";
-    let table = [
-        "run fast",
-        "decode all",
-        "conform 1",
-        "make",
-        "make 01",
-        "trial 4294967296",
-        "--help",
-        "",
-    ];
-    for words in &table {
+    for words in &OTHER_WORDS {
         expect(&rt, rt.alloc(), words, "", Status::Usage, usage)?;
     }
     Ok(())
 }
 
+/// Words that name commands, an input, and what is written.
+const COMMANDS: [(&str, &str, &str); 6] = [
+    ("run", "set 02\ntrigger auto\n", "0 dial 1\n"),
+    ("register", "set 02\ntrigger auto\n", "[]\n"),
+    ("decode", "\n", ""),
+    ("encode", "# none\n", ""),
+    ("frames", "01\n", "init\nrest 0\n"),
+    ("replay", "0 dial 1\n", "sound 1\n"),
+];
+
 #[test]
 fn carries_out_what_words_name(rt: HostRuntime) -> Result<(), Fail> {
-    let table = [
-        ("run", "set 02\ntrigger auto\n", "0 dial 1\n"),
-        ("register", "set 02\ntrigger auto\n", "[]\n"),
-        ("decode", "\n", ""),
-        ("encode", "# none\n", ""),
-        ("frames", "01\n", "init\nrest 0\n"),
-        ("replay", "0 dial 1\n", "sound 1\n"),
-    ];
-    for (words, input, text) in &table {
+    for (words, input, text) in &COMMANDS {
         expect(&rt, rt.alloc(), words, input, Status::Done, text)?;
     }
     Ok(())

@@ -2,7 +2,9 @@ pub mod BlockLemmas
 pub mod FeedLemmas
 pub mod GatherLemmas
 pub mod LinesLemmas
+pub mod LinesSoFar
 pub mod NumberLemmas
 pub mod SkimLemmas
+pub mod Takings
 pub mod WholeLines
 pub mod WordsLemmas

@@ -1,9 +1,11 @@
 pub mod Arguments
 pub mod Characters
 pub mod Feed
+pub mod Inputs
 pub mod Lines
 pub mod Numbers
 pub mod Reading
 pub mod ReasonCode
+pub mod Taken
 pub mod Words
 pub mod inner

@@ -3,7 +3,10 @@ use Rattle.std.specs.Prelude.{◌≡◌, ℕ, ◌⊎◌, true, List, [], ◌++�
 use Rattle.std.proofs.Common.{sym, ◌∙◌, ap, refl, subst, inl, inr, arith}
 use Rattle.call_io.specs.Bytes.{Took, Grew, GrewPartly}
 use Rattle.call_io.proofs.BytesLemmas.{Grew-nothing}
+use Rattle.line_input.specs.Inputs.{IsSettledBy}
 use Rattle.line_input.specs.Lines.{IsWhole, lines_of}
+use Rattle.line_input.proofs.LinesSoFar.{over_as, settled_as}
+use Rattle.command_base.proofs.LineEnds.{cut_settled}
 use Rattle.trace_audit.specs.Audit.{Audits}
 use Rattle.trace_audit.specs.Outcome as audit
 use Rattle.trace_audit.specs.declared.verdict.Verdict.{Verdict}
@@ -13,7 +16,7 @@ use Rattle.trace_audit.proofs.AuditOne.{one_verdict}
 use Rattle.command_base.specs.declared.refusal.Refused.TheVariants as refused
 use Rattle.command_base.specs.declared.status.Status.{Status}
 use Rattle.command_base.specs.declared.status.Status.TheVariants as status
-use Rattle.command_base.specs.Outcome.{Streams, Answered, CutShort, IsSettled, Outcome, ReadCause, RunsOver}
+use Rattle.command_base.specs.Outcome.{Streams, Answered, CutShort, IsSettled, IsUnrefused, Outcome, ReadCause}
 use Rattle.command_base.specs.Refusals.{Reply, in_front_of}
 use Rattle.script_commands.specs.Replay.{IsReplayed, verdict_reply, verdict_status, verdict_text}
 use Rattle.script_commands.specs.inner.ReplayEnds.{EndsWithVerdict}
@@ -31,38 +34,12 @@ replayed_one input r s a b =
     a.says ∙ ap verdict_reply (one_verdict (lines_of input) a.verdict b.verdict a.audits b.audits) ∙ sym b.says
 
 -- what settles a verdict settles its reply
-settled : (v : Verdict) (input : List ℕ) → audit.IsSettled v input → IsSettled IsReplayed input (verdict_reply v)
-settled v input s =
-    record {
-      front = s.front;
-      rest = s.rest;
-      split = s.split;
-      within = s.within;
-      replied = λ more. by_verdict (s.front ++ more) v (s.audits more);
-    }
-
-settled_or_whole : (v : Verdict) (input : List ℕ) (left : Option (List ℕ))
-    → audit.IsSettled v input ⊎ IsWhole left input
+settled : (v : Verdict) (input : List ℕ) (left : Option (List ℕ))
+    → IsSettledBy (audit.IsAudited v) input ⊎ IsWhole left input
     → IsSettled IsReplayed input (verdict_reply v) ⊎ IsWhole left input
-settled_or_whole v input left (inl s) = inl (settled v input s)
-settled_or_whole v input left (inr w) = inr w
-
--- an input that is too long for an audit is too long for the command
-runs_over : (input : List ℕ) → audit.RunsOver input → RunsOver IsReplayed input
-runs_over input o =
-    record {
-      front = o.front;
-      unended = o.unended;
-      rest = o.rest;
-      split = o.split;
-      full = o.full;
-      beyond = o.beyond;
-      lines = o.lines;
-      inner = o.inner;
-      short = o.short;
-      unrefused =
-          (verdict_reply (verdict.Sound o.sound.0), by_verdict o.front (verdict.Sound o.sound.0) o.sound.1, refl);
-    }
+settled v input left s =
+    settled_as (audit.IsAudited v) (λ bytes. IsReplayed bytes (verdict_reply v)) left input
+    (λ bytes audits. by_verdict bytes v audits) s
 
 module _ (left left' held held' : Option (List ℕ)) (passes : ℕ) where
   abbrev old : Streams
@@ -89,39 +66,17 @@ module _ (left left' held held' : Option (List ℕ)) (passes : ℕ) where
 
   -- a part of it was written
   cut : (v : Verdict) (input : List ℕ) → audit.Answered left left' v input → GrewPartly held held' (verdict_text v)
-      → audit.IsSettled v input ⊎ IsWhole left' input → CutShort IsReplayed old new input
-  cut v input a grew (inl s) =
-      record {
-        took = a.took;
-        front = s.front;
-        rest = s.rest;
-        split = s.split;
-        text = grew.0;
-        wrote = grew.3;
-        begins =
-            inl
-            (λ more. (
-              record { text = grew.1; status = verdict_status v },
-              front_of v (s.front ++ more) grew.0 grew.1 grew.2 (by_verdict (s.front ++ more) v (s.audits more)),
-            ));
-      }
-  cut v input a grew (inr w) =
-      record {
-        took = a.took;
-        front = [];
-        rest = input;
-        split = refl;
-        text = grew.0;
-        wrote = grew.3;
-        begins =
-            inr (
-              w.«end»,
-              (
-                record { text = grew.1; status = verdict_status v },
-                front_of v input grew.0 grew.1 grew.2 (by_verdict input v a.audits),
-              ),
-            );
-      }
+      → IsSettledBy (audit.IsAudited v) input ⊎ IsWhole left' input → CutShort IsReplayed old new input
+  cut v input a grew s =
+      cut_settled IsReplayed old passes left' held' input grew.0 a.took grew.3 (part input a.audits)
+      (settled_as (audit.IsAudited v) (λ bytes. (r : Reply) × IsReplayed bytes (in_front_of grew.0 r)) left' input part
+      s)
+    where
+      part : (bytes : List ℕ) → Audits (lines_of bytes) v → (r : Reply) × IsReplayed bytes (in_front_of grew.0 r)
+      part bytes audits = (
+        record { text = grew.1; status = verdict_status v },
+        front_of v bytes grew.0 grew.1 grew.2 (by_verdict bytes v audits),
+      )
 
   -- nothing was written
   untold : (input : List ℕ) → Took left left' input → held' ≡ held → CutShort IsReplayed old new input
@@ -157,7 +112,7 @@ module _ (left left' held held' : Option (List ℕ)) (passes : ℕ) where
         verdict_reply (verdict.Broken place rule),
         answered (verdict.Broken place rule) o.0 o.1 ends.1,
         refl,
-        settled_or_whole (verdict.Broken place rule) o.0 left' o.2,
+        settled (verdict.Broken place rule) o.0 left' o.2,
       )
   replayed (verdict.Broken place rule) answer o (inr ends) =
       told answer status.WriteFault ends.0 (o.0, cut (verdict.Broken place rule) o.0 o.1 ends.1 o.2)
@@ -167,14 +122,21 @@ module _ (left left' held held' : Option (List ℕ)) (passes : ℕ) where
         verdict_reply (verdict.Bad bad),
         answered (verdict.Bad bad) o.0 o.1 ends.1,
         refl,
-        settled_or_whole (verdict.Bad bad) o.0 left' o.2,
+        settled (verdict.Bad bad) o.0 left' o.2,
       )
   replayed (verdict.Bad bad) answer o (inr ends) =
       told answer status.WriteFault ends.0 (o.0, cut (verdict.Bad bad) o.0 o.1 ends.1 o.2)
   replayed verdict.ReadFault answer o ends =
       told answer status.ReadFault ends.0 (o.0, untold o.0 o.1 ends.1, omega arith)
   replayed verdict.TooLong answer o ends =
-      told answer status.TooLong ends.0 (o.0, untold o.0 o.1 ends.1, runs_over o.0 o.2, omega arith)
+      told answer status.TooLong ends.0 (
+        o.0,
+        untold o.0 o.1 ends.1,
+        over_as audit.IsSound (IsUnrefused IsReplayed) o.0
+            (λ bytes sound. (verdict_reply (verdict.Sound sound.0), by_verdict bytes (verdict.Sound sound.0) sound.1, refl))
+            o.2,
+        omega arith,
+      )
   replayed verdict.Memory answer o ends =
       told answer status.Memory ends.0 (o.0, untold o.0 o.1 ends.1)
 

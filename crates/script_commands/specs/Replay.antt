@@ -2,8 +2,8 @@
 -- line that is refused or breaks a rule. This project's profile. Cited by the reply to words and an input.
 use Rattle.std.specs.Prelude.{◌≡◌, ℕ, List, [], ◌∷◌, ◌++◌, codes, decimal}
 use Rattle.trace_audit.specs.Audit.{Audits}
-use Rattle.trace_audit.specs.Judged.{rule_number}
-use Rattle.trace_audit.specs.declared.rule.Rule.{Rule}
+use Rattle.trace_model.specs.Rules.{rule_number}
+use Rattle.trace_model.specs.declared.rule.Rule.{Rule}
 use Rattle.trace_audit.specs.declared.verdict.Verdict.{Verdict}
 use Rattle.trace_audit.specs.declared.verdict.Verdict.TheVariants as verdict
 use Rattle.line_input.specs.Characters.{newline}

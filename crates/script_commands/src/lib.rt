@@ -12,7 +12,11 @@ mod register_tests;
 mod replay;
 #[cfg(test)]
 mod replay_tests;
+#[cfg(test)]
+mod restart_tests;
 mod run;
+#[cfg(test)]
+mod run_tests;
 mod stage;
 #[cfg(test)]
 mod tests;

@@ -1,7 +1,7 @@
 //! What no clause says: the first lines of a script as they were worked out by hand, the five counts that another
 //! program gave which was written from the same description, and that neither command gives up while memory is at hand.
 
-use crate::tests::{Asked, FACTS, call, same_status, same_text};
+use crate::tests::{Asked, FACTS, call, joined, lines_in, same_status, same_text};
 use call_io::{MemSink, MemSource};
 use command_base::Status;
 use std::alloc::{AllocError, Global};
@@ -30,16 +30,19 @@ fn written(
     alloc: Global,
     asked: Asked,
     row: &str,
-    input: &[u8],
+    input: Vec<u8>,
     room: usize,
 ) -> Result<MemSink, Fail> {
-    let mut bytes = Vec::new(alloc);
-    bytes.extend_from_slice(input)?;
-    let mut source = MemSource::new(bytes, 4096, Vec::new(alloc));
+    let mut source = MemSource::new(input, 4096, Vec::new(alloc));
     let mut output = MemSink::new(alloc, room, Vec::new(alloc))?;
     let answer = call(alloc, asked, &mut source, &mut output);
     same_status(rt, row, answer, Status::Done);
     Ok(output)
+}
+
+/// The script of the number 0.
+fn made(rt: &impl Abort, alloc: Global) -> Result<MemSink, Fail> {
+    written(rt, alloc, Asked::Make(0), "make", Vec::new(alloc), 400_000)
 }
 
 /// How many lines of a trace have this item.
@@ -67,42 +70,55 @@ fn counts_of(alloc: Global, trace: &[u8]) -> Result<String, AllocError> {
     format!(in alloc; "items {items}\ncalls {calls}\nshown {shown}\nacked {acked}\n")
 }
 
-/// Checks the first lines of a script, and how many it has.
-fn same_script(rt: &impl Abort, script: &[u8], first: &str, count: usize) {
+/// Checks how many lines a script has.
+fn same_lines(rt: &impl Abort, script: &[u8], count: usize) {
+    assert_eq!(rt; lines_in(script), count);
+}
+
+/// Checks the first lines of a script.
+fn starts_with(rt: &impl Abort, script: &[u8], first: &str) {
     assert!(rt; script.starts_with(first.as_bytes()));
-    let lines = script.iter().filter(|byte| **byte == b'\n').count();
-    assert_eq!(rt; lines, count);
 }
 
 #[test]
 fn makes_the_first_call(rt: HostRuntime) -> Result<(), Fail> {
-    let alloc = rt.alloc();
-    let mut first = String::from_str(alloc, FACTS)?;
-    first.push_str(FIRST_CALL)?;
-    let output = written(&rt, alloc, Asked::Make(0), "make", b"", 400_000)?;
-    same_script(&rt, output.bytes(), first.as_str(), 20_007);
+    let first = joined(rt.alloc(), &[FACTS, FIRST_CALL])?;
+    let output = made(&rt, rt.alloc())?;
+    starts_with(&rt, output.bytes(), first.as_str());
+    same_lines(&rt, output.bytes(), 20_007);
     Ok(())
 }
 
 /// Checks that the counts of the trial of the number 0 are these.
 fn expect_counts(rt: &impl Abort, alloc: Global) -> Result<(), Fail> {
-    let trial = written(rt, alloc, Asked::Trial(0), "trial", b"", 200)?;
+    let trial = written(rt, alloc, Asked::Trial(0), "trial", Vec::new(alloc), 200)?;
     same_text(rt, "trial", trial.bytes(), COUNTS);
     Ok(())
 }
 
-/// The counts of the trace of the script of the number 0, which is made and then run.
-fn told_of_run(rt: &impl Abort, alloc: Global) -> Result<String, Fail> {
-    let script = written(rt, alloc, Asked::Make(0), "make", b"", 400_000)?;
-    let trace = written(rt, alloc, Asked::Run, "run", script.bytes(), 33_554_432)?;
-    Ok(counts_of(alloc, trace.bytes())?)
+#[test]
+fn counts_alike_each_time(rt: HostRuntime) -> Result<(), Fail> {
+    expect_counts(&rt, rt.alloc())?;
+    expect_counts(&rt, rt.alloc())
+}
+
+/// The trace of this script.
+fn trace_of(rt: &impl Abort, alloc: Global, script: &[u8]) -> Result<MemSink, Fail> {
+    let bytes = Vec::from_slice(alloc, script)?;
+    written(rt, alloc, Asked::Run, "run", bytes, 33_554_432)
+}
+
+/// Checks the counts of a trace, but the last one.
+fn same_counts(rt: &impl Abort, alloc: Global, trace: &[u8]) -> Result<(), AllocError> {
+    let told = counts_of(alloc, trace)?;
+    assert!(rt; COUNTS.as_bytes().starts_with(told.as_bytes()));
+    Ok(())
 }
 
 #[test]
 fn counts_what_run_writes(rt: HostRuntime) -> Result<(), Fail> {
-    let alloc = rt.alloc();
-    let told = told_of_run(&rt, alloc)?;
-    assert!(rt; COUNTS.as_bytes().starts_with(told.as_bytes()));
-    expect_counts(&rt, alloc)?;
-    expect_counts(&rt, alloc)
+    let script = made(&rt, rt.alloc())?;
+    let trace = trace_of(&rt, rt.alloc(), script.bytes())?;
+    same_counts(&rt, rt.alloc(), trace.bytes())?;
+    Ok(())
 }

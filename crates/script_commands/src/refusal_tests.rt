@@ -21,95 +21,101 @@ fn expect_run(
     expect(rt, alloc, Asked::Run, script, input, status, text)
 }
 
-/// The facts are seven lines.
+/// Scripts behind the facts, which are seven lines: the line that is refused and why, and what is written.
+const BEHIND_THE_FACTS: [(&str, u32, Reason, &str); 6] = [
+    ("trigger soft", 8, Reason::Word, "refused 8 1\n"),
+    (
+        "trigger auto\nkind 2",
+        9,
+        Reason::Late,
+        "0 dial 1\nrefused 9 8\n",
+    ),
+    (
+        "trigger auto\nkind 14",
+        9,
+        Reason::Number,
+        "0 dial 1\nrefused 9 2\n",
+    ),
+    (
+        "trigger auto\nextra 01",
+        9,
+        Reason::Count,
+        "0 dial 1\nrefused 9 3\n",
+    ),
+    (
+        "extra 01 -\nextra 01 -\nextra 01 -\nextra 01 -\nextra 01 -",
+        12,
+        Reason::Many,
+        "refused 12 9\n",
+    ),
+    (
+        "extra 01 -\nextra 01 -\nextra 01 -\nextra 01 -\nextra 80 -",
+        12,
+        Reason::Hex,
+        "refused 12 6\n",
+    ),
+];
+
 #[test]
 fn judges_a_line_by_itself_and_then_its_place(rt: HostRuntime) -> Result<(), Fail> {
-    let table = [
-        ("trigger soft", bad(8, Reason::Word), "refused 8 1\n"),
-        (
-            "trigger auto\nkind 2",
-            bad(9, Reason::Late),
-            "0 dial 1\nrefused 9 8\n",
-        ),
-        (
-            "trigger auto\nkind 14",
-            bad(9, Reason::Number),
-            "0 dial 1\nrefused 9 2\n",
-        ),
-        (
-            "trigger auto\nextra 01",
-            bad(9, Reason::Count),
-            "0 dial 1\nrefused 9 3\n",
-        ),
-        (
-            "extra 01 -\nextra 01 -\nextra 01 -\nextra 01 -\nextra 01 -",
-            bad(12, Reason::Many),
-            "refused 12 9\n",
-        ),
-        (
-            "extra 01 -\nextra 01 -\nextra 01 -\nextra 01 -\nextra 80 -",
-            bad(12, Reason::Hex),
-            "refused 12 6\n",
-        ),
-    ];
-    for (script, status, text) in &table {
-        expect_run(&rt, rt.alloc(), FACTS, script, *status, text)?;
+    for (script, line, reason, text) in &BEHIND_THE_FACTS {
+        expect_run(&rt, rt.alloc(), FACTS, script, bad(*line, *reason), text)?;
     }
     Ok(())
 }
+
+/// A line of each fact.
+const EACH_FACT: [&str; 13] = [
+    "vin WM9VDSVDSYA123456",
+    "kind 1",
+    "format 2",
+    "fuel 0000000",
+    "time 0",
+    "place 0 0",
+    "heading 0",
+    "trusted no",
+    "before1 0 0",
+    "before2 0 0",
+    "passengers 0",
+    "extra 01 -",
+    "set 00",
+];
 
 #[test]
 fn refuses_each_fact_behind_an_event(rt: HostRuntime) -> Result<(), Fail> {
-    let facts = [
-        "vin WM9VDSVDSYA123456",
-        "kind 1",
-        "fuel 0000000",
-        "time 0",
-        "place 0 0",
-        "heading 0",
-        "trusted no",
-        "before1 0 0",
-        "before2 0 0",
-        "passengers 0",
-        "extra 01 -",
-        "set 00",
-    ];
-    for fact in &facts {
-        expect_run(
-            &rt,
-            rt.alloc(),
-            "set 02\nanswer\n",
-            fact,
-            bad(3, Reason::Late),
-            "0 nothing\nrefused 3 8\n",
-        )?;
+    let text = "0 nothing\nrefused 3 8\n";
+    for fact in &EACH_FACT {
+        let status = bad(3, Reason::Late);
+        expect_run(&rt, rt.alloc(), "set 02\nanswer\n", fact, status, text)?;
     }
     Ok(())
 }
+
+/// Two lines of facts that are too few.
+const TOO_FEW: [&str; 4] = [
+    "vin WM9VDSVDSYA123456\nkind 1\n",
+    "vin WM9VDSVDSYA123456\ntime 0\n",
+    "kind 1\ntime 0\n",
+    "extra 01 -\npassengers 2\n",
+];
 
 #[test]
 fn refuses_an_event_without_its_facts(rt: HostRuntime) -> Result<(), Fail> {
-    let alloc = rt.alloc();
-    let wanted = [
-        "vin WM9VDSVDSYA123456\nkind 1\n",
-        "vin WM9VDSVDSYA123456\ntime 0\n",
-        "kind 1\ntime 0\n",
-        "extra 01 -\npassengers 2\n",
-    ];
-    for facts in &wanted {
+    for facts in &TOO_FEW {
         let status = bad(3, Reason::Missing);
-        expect_run(&rt, alloc, facts, "answer", status, "refused 3 7\n")?;
+        expect_run(&rt, rt.alloc(), facts, "answer", status, "refused 3 7\n")?;
     }
     Ok(())
 }
 
+/// Lines of events.
+const EVENTS: [&str; 4] = ["trigger auto", "answer", "deliver up 1 1", "tick 1"];
+
 #[test]
 fn refuses_each_event_without_facts(rt: HostRuntime) -> Result<(), Fail> {
-    let alloc = rt.alloc();
-    let events = ["trigger auto", "answer", "deliver up 1 1", "tick 1"];
-    for event in &events {
+    for event in &EVENTS {
         let status = bad(1, Reason::Missing);
-        expect_run(&rt, alloc, "", event, status, "refused 1 7\n")?;
+        expect_run(&rt, rt.alloc(), "", event, status, "refused 1 7\n")?;
     }
     Ok(())
 }

@@ -2,8 +2,9 @@
 //! up while memory is at hand.
 
 use crate::tests::{
-    Asked, FACTS, bad, expand, expect, failing, same_status, same_text, source, told,
+    Asked, FACTS, bad, expand, expect, failing, joined, same_status, same_text, source, told,
 };
+use call_io::MemSink;
 use command_base::Status;
 use line_input::Reason;
 use std::alloc::Global;
@@ -25,15 +26,18 @@ fn expect_register(
     expect(rt, alloc, Asked::Register, script[1], input, status, text)
 }
 
+/// Its register in front of the digits of the set.
+const REGISTER: &str = "[{\"call\":1,\"from\":0,\"sets\":[{\"octets\":\"";
+
+/// Its register behind them.
+const BEHIND_THE_SET: &str =
+    "\",\"request\":1,\"tick\":9,\"vin\":\"WM9VDSVDSYA123456\"}],\"until\":null,\"why\":null}]\n";
+
 #[test]
 fn writes_the_register_of_a_call(rt: HostRuntime) -> Result<(), Fail> {
-    let alloc = rt.alloc();
-    let mut text = String::from_str(alloc, "[{\"call\":1,\"from\":0,\"sets\":[{\"octets\":\"")?;
-    text.push_str(expand(alloc, "H")?.as_str())?;
-    text.push_str(
-        "\",\"request\":1,\"tick\":9,\"vin\":\"WM9VDSVDSYA123456\"}],\"until\":null,\"why\":null}]\n",
-    )?;
-    expect_register(&rt, alloc, [FACTS, CALL], Status::Done, text.as_str())
+    let digits = expand(rt.alloc(), "H")?;
+    let text = joined(rt.alloc(), &[REGISTER, digits.as_str(), BEHIND_THE_SET])?;
+    expect_register(&rt, rt.alloc(), [FACTS, CALL], Status::Done, text.as_str())
 }
 
 #[test]
@@ -43,57 +47,61 @@ fn writes_the_register_of_nothing(rt: HostRuntime) -> Result<(), Fail> {
     expect_register(&rt, alloc, [FACTS, "trigger auto\n"], Status::Done, "[]\n")
 }
 
-/// The facts are seven lines.
+/// Scripts of two pieces, where the facts are seven lines: the line that is refused and why, and what is written.
+const REFUSED: [(&str, &str, u32, Reason, &str); 3] = [
+    (FACTS, "trigger soft", 8, Reason::Word, "refused 8 1\n"),
+    ("trigger auto", "", 1, Reason::Missing, "refused 1 7\n"),
+    (
+        FACTS,
+        "trigger auto\nkind 2",
+        9,
+        Reason::Late,
+        "refused 9 8\n",
+    ),
+];
+
 #[test]
 fn writes_a_refusal_alone(rt: HostRuntime) -> Result<(), Fail> {
-    let alloc = rt.alloc();
-    let table = [
-        (
-            [FACTS, "trigger soft"],
-            bad(8, Reason::Word),
-            "refused 8 1\n",
-        ),
-        (
-            ["trigger auto", ""],
-            bad(1, Reason::Missing),
-            "refused 1 7\n",
-        ),
-        (
-            [FACTS, "trigger auto\nkind 2"],
-            bad(9, Reason::Late),
-            "refused 9 8\n",
-        ),
-    ];
-    for (script, status, text) in &table {
-        expect_register(&rt, alloc, *script, *status, text)?;
+    for (facts, script, line, reason, text) in &REFUSED {
+        let status = bad(*line, *reason);
+        expect_register(&rt, rt.alloc(), [facts, script], status, text)?;
     }
     Ok(())
+}
+
+/// How `register` ends over that call, and a sink that holds what it wrote, where the read and the write of these
+/// numbers fail; 0 is none.
+fn stopped(alloc: Global, read: u64, write: u64) -> Result<(Status, MemSink), Fail> {
+    let input = source(alloc, &[FACTS, CALL], FACTS.len(), failing(alloc, read)?)?;
+    told(alloc, Asked::Register, input, failing(alloc, write)?)
 }
 
 /// Checks that nothing is written where the read or the write of this number fails; 0 is none.
 fn expect_stop(
     rt: &impl Abort,
     alloc: Global,
-    reads: u64,
-    writes: u64,
+    read: u64,
+    write: u64,
     status: Status,
 ) -> Result<(), Fail> {
-    let input = source(alloc, &[FACTS, CALL], FACTS.len(), failing(alloc, reads)?)?;
-    let (answer, output) = told(alloc, Asked::Register, input, failing(alloc, writes)?)?;
+    let (answer, output) = stopped(alloc, read, write)?;
     same_status(rt, "a failed call", answer, status);
     same_text(rt, "a failed call", output.bytes(), "");
     Ok(())
 }
 
+/// The number of the read or of the write that fails, and how the command ends. The third read comes behind all of the
+/// script.
+const FAULTS: [(u64, u64, Status); 3] = [
+    (1, 0, Status::ReadFault),
+    (3, 0, Status::ReadFault),
+    (0, 1, Status::WriteFault),
+];
+
 #[test]
 fn registering_stops_at_a_failed_write_or_read(rt: HostRuntime) -> Result<(), Fail> {
-    // The third read comes behind all of the script.
-    for (reads, writes, status) in [
-        (1u64, 0u64, Status::ReadFault),
-        (3, 0, Status::ReadFault),
-        (0, 1, Status::WriteFault),
-    ] {
-        expect_stop(&rt, rt.alloc(), reads, writes, status)?;
+    for (read, write, status) in &FAULTS {
+        expect_stop(&rt, rt.alloc(), *read, *write, *status)?;
     }
     Ok(())
 }

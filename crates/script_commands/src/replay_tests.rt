@@ -9,7 +9,7 @@ use std::test::Fail;
 use trace_audit::Rule;
 
 /// A call over delayed frames, in front of the line that shows its set.
-const SENT: &str = "0 dial 1
+pub(crate) const SENT: &str = "0 dial 1
 0 up vehicle 1
 0 voice vehicle 1 muted muted
 0 send vehicle 1 init
@@ -21,11 +21,11 @@ const SENT: &str = "0 dial 1
 8 send point 1 start 1
 ";
 
-const SHOWN: &str = "9 shown 1 1 H S
+pub(crate) const SHOWN: &str = "9 shown 1 1 H S
 ";
 
 /// The same call behind that line.
-const ACKNOWLEDGED: &str = "9 send point 1 ack 1
+pub(crate) const ACKNOWLEDGED: &str = "9 send point 1 ack 1
 9 send point 1 app 1 positive
 12 acked 1 1 H
 12 voice vehicle 1 open open
@@ -36,71 +36,52 @@ const ACKNOWLEDGED: &str = "9 send point 1 ack 1
 34 voice point 1 open open
 ";
 
-/// Checks what `replay` answers, and writes, for these pieces of a trace, where the reads of these numbers fail.
+/// Checks what `replay` answers, and writes, for these pieces of a trace, where the read of this number fails; 0 is
+/// none.
 fn expect_told(
     rt: &impl Abort,
     alloc: Global,
     pieces: &[&str],
-    fails: Vec<u64>,
+    read: u64,
     status: Status,
     text: &str,
 ) -> Result<(), Fail> {
     let trace = expand_all(alloc, pieces)?;
-    let input = source(alloc, &[trace.as_str()], 100, fails)?;
+    let input = source(alloc, &[trace.as_str()], 100, failing(alloc, read)?)?;
     expect(rt, alloc, Asked::Replay, text, input, status, text)
 }
 
 #[test]
 fn tells_of_a_worked_call(rt: HostRuntime) -> Result<(), Fail> {
-    let alloc = rt.alloc();
-    let none = Vec::new(alloc);
     let whole = [SENT, SHOWN, ACKNOWLEDGED];
-    expect_told(&rt, alloc, &whole, none, Status::Done, "sound 20\n")?;
+    expect_told(&rt, rt.alloc(), &whole, 0, Status::Done, "sound 20\n")
+}
+
+#[test]
+fn tells_of_a_call_that_is_not_shown(rt: HostRuntime) -> Result<(), Fail> {
     let unshown = Status::Broken {
         line: 13,
         rule: Rule::Agreed,
     };
-    let none = Vec::new(alloc);
-    expect_told(
-        &rt,
-        alloc,
-        &[SENT, ACKNOWLEDGED],
-        none,
-        unshown,
-        "broken 13 1\n",
-    )?;
-    expect_told(&rt, alloc, &[], Vec::new(alloc), Status::Done, "sound 0\n")
+    let pieces = [SENT, ACKNOWLEDGED];
+    expect_told(&rt, rt.alloc(), &pieces, 0, unshown, "broken 13 1\n")
+}
+
+#[test]
+fn tells_of_no_trace(rt: HostRuntime) -> Result<(), Fail> {
+    expect_told(&rt, rt.alloc(), &[], 0, Status::Done, "sound 0\n")
 }
 
 #[test]
 fn refuses_a_line_and_says_no_more(rt: HostRuntime) -> Result<(), Fail> {
-    let alloc = rt.alloc();
-    let late = "9 shown 1 1\n";
-    let status = bad(11, Reason::Count);
-    expect_told(
-        &rt,
-        alloc,
-        &[SENT, late],
-        Vec::new(alloc),
-        status,
-        "refused 11 3\n",
-    )?;
-    let fall = "7 nothing\n";
-    let status = bad(11, Reason::Number);
-    expect_told(
-        &rt,
-        alloc,
-        &[SENT, fall],
-        Vec::new(alloc),
-        status,
-        "refused 11 2\n",
-    )
+    let (late, count) = ([SENT, "9 shown 1 1\n"], bad(11, Reason::Count));
+    expect_told(&rt, rt.alloc(), &late, 0, count, "refused 11 3\n")?;
+    let (fall, number) = ([SENT, "7 nothing\n"], bad(11, Reason::Number));
+    expect_told(&rt, rt.alloc(), &fall, 0, number, "refused 11 2\n")
 }
 
 #[test]
 fn writes_nothing_behind_a_failed_read(rt: HostRuntime) -> Result<(), Fail> {
-    let alloc = rt.alloc();
-    let fails = failing(alloc, 2)?;
     let whole = [SENT, SHOWN, ACKNOWLEDGED];
-    expect_told(&rt, alloc, &whole, fails, Status::ReadFault, "")
+    expect_told(&rt, rt.alloc(), &whole, 2, Status::ReadFault, "")
 }

@@ -1,7 +1,9 @@
 //! What no clause says: that the definitions mean, on whole calls in time that were worked out by hand, what the
 //! protocol's description says.
 
-use crate::tests::{self, Asked, FACTS, UP, call, expand_all, same_status, source};
+use crate::tests::{
+    self, Asked, FACTS, UP, call, expand_all, joined, lines_in, same_status, source,
+};
 use call_io::MemSink;
 use command_base::Status;
 use std::alloc::{AllocError, Global};
@@ -28,13 +30,10 @@ const FLOWS_TRACE: &str = "3 send point 1 start 1
 34 voice point 1 open open
 ";
 
-/// The facts, and these pieces of a script behind them.
-fn behind_the_facts(alloc: Global, script: &[&str]) -> Result<String, AllocError> {
-    let mut lines = String::from_str(alloc, FACTS)?;
-    for piece in script {
-        lines.push_str(piece)?;
-    }
-    Ok(lines)
+/// Checks what is written for a script that stands behind the facts.
+fn expect_run(rt: &impl Abort, alloc: Global, script: &str, text: &str) -> Result<(), Fail> {
+    let input = source(alloc, &[FACTS, script], 4096, Vec::new(alloc))?;
+    tests::expect(rt, alloc, Asked::Run, text, input, Status::Done, text)
 }
 
 /// Checks what is written for a script that stands behind the facts: what a call that comes up gives, and then these
@@ -46,51 +45,44 @@ fn expect(
     first: &str,
     then: &str,
 ) -> Result<(), Fail> {
-    let lines = behind_the_facts(alloc, script)?;
-    let input = source(alloc, &[lines.as_str()], 4096, Vec::new(alloc))?;
+    let lines = joined(alloc, script)?;
     let text = expand_all(alloc, &[UP, first, then])?;
-    tests::expect(
-        rt,
-        alloc,
-        Asked::Run,
-        then,
-        input,
-        Status::Done,
-        text.as_str(),
-    )
+    expect_run(rt, alloc, lines.as_str(), text.as_str())
 }
 
 #[test]
 fn flows_carry_a_call(rt: HostRuntime) -> Result<(), Fail> {
-    let alloc = rt.alloc();
-    expect(&rt, alloc, &[FLOWS, "tick 100\n"], FLOWS_TRACE, "")?;
-    // The point lets the vehicle go.
-    expect(
-        &rt,
-        alloc,
-        &[FLOWS, "tick 100\nclear 1\ntick 10\n"],
-        FLOWS_TRACE,
-        "100 voice point 1 muted muted
+    expect(&rt, rt.alloc(), &[FLOWS, "tick 100\n"], FLOWS_TRACE, "")
+}
+
+/// What the trace has behind that, where the point lets the vehicle go.
+const CLEARED: &str = "100 voice point 1 muted muted
 100 send point 1 app 1 clear
 103 down vehicle 1 release
 103 standby
 103 down point 1 release
-",
-    )?;
-    // One line of more than a day: the call's longest time ends, and then the standby.
-    expect(
-        &rt,
-        alloc,
-        &[FLOWS, "tick 1000000\n"],
-        FLOWS_TRACE,
-        "36000 ended vehicle 1 T2
+";
+
+#[test]
+fn flows_carry_a_clearing(rt: HostRuntime) -> Result<(), Fail> {
+    let script = [FLOWS, "tick 100\nclear 1\ntick 10\n"];
+    expect(&rt, rt.alloc(), &script, FLOWS_TRACE, CLEARED)
+}
+
+/// What the trace has behind that, where one line lasts more than a day: the call's longest time ends, and then the
+/// standby.
+const LEFT_ALONE: &str = "36000 ended vehicle 1 T2
 36000 down vehicle 1 release
 36000 standby
 36000 down point 1 release
 468000 ended vehicle 0 T10
 468000 idle
-",
-    )
+";
+
+#[test]
+fn a_call_is_left_alone(rt: HostRuntime) -> Result<(), Fail> {
+    let script = [FLOWS, "tick 1000000\n"];
+    expect(&rt, rt.alloc(), &script, FLOWS_TRACE, LEFT_ALONE)
 }
 
 /// The acknowledgement comes with the tick in which the vehicle stops waiting for it, and behind that.
@@ -190,33 +182,47 @@ fn the_point_calls_back(rt: HostRuntime) -> Result<(), Fail> {
     )
 }
 
+/// Adds to a script the lines of a call.
+fn push_call(alloc: Global, script: &mut String, number: u32) -> Result<(), AllocError> {
+    let lines = format!(in alloc; "callback\nhangup {number}\ntick 431999\n")?;
+    script.push_str(lines.as_str())
+}
+
 /// The script of 300,001 calls.
 fn calls(alloc: Global) -> Result<String, AllocError> {
-    let mut script = String::from_str(alloc, FACTS)?;
-    script.push_str("trigger auto\nanswer\ntick 70\nhangup 1\n")?;
+    let first = "trigger auto\nanswer\ntick 70\nhangup 1\n";
+    let mut script = joined(alloc, &[FACTS, first])?;
     for number in 2..=300_001 {
-        let lines = format!(in alloc; "callback\nhangup {number}\ntick 431999\n")?;
-        script.push_str(lines.as_str())?;
+        push_call(alloc, &mut script, number)?;
     }
     Ok(script)
 }
 
-/// Checks the number of lines of the trace of those calls, and the last line.
-fn expect_quiet(rt: &impl Abort, trace: &[u8]) {
-    let lines = trace.iter().filter(|b| **b == b'\n').count();
-    assert_eq!(rt; lines, 2_100_017);
+/// What it writes.
+fn trace_of_calls(rt: &impl Abort, alloc: Global) -> Result<MemSink, Fail> {
+    let script = calls(alloc)?;
+    let mut input = source(alloc, &[script.as_str()], 65_536, Vec::new(alloc))?;
+    let mut output = MemSink::new(alloc, 100_000_000, Vec::new(alloc))?;
+    let answer = call(alloc, Asked::Run, &mut input, &mut output);
+    same_status(rt, "quiet calls", answer, Status::Done);
+    Ok(output)
+}
+
+/// Checks the number of lines of the trace of those calls.
+fn same_lines(rt: &impl Abort, trace: &[u8]) {
+    assert_eq!(rt; lines_in(trace), 2_100_017);
+}
+
+/// Checks the last line of the trace of those calls.
+fn same_end(rt: &impl Abort, trace: &[u8]) {
     assert!(rt; trace.ends_with(b"\n129599268071 standby\n"));
 }
 
 /// 300,001 calls over some 410 years: the time that this takes grows with the calls.
 #[test]
 fn time_is_no_work(rt: HostRuntime) -> Result<(), Fail> {
-    let alloc = rt.alloc();
-    let script = calls(alloc)?;
-    let mut input = source(alloc, &[script.as_str()], 65_536, Vec::new(alloc))?;
-    let mut output = MemSink::new(alloc, 100_000_000, Vec::new(alloc))?;
-    let answer = call(alloc, Asked::Run, &mut input, &mut output);
-    same_status(&rt, "quiet calls", answer, Status::Done);
-    expect_quiet(&rt, output.bytes());
+    let trace = trace_of_calls(&rt, rt.alloc())?;
+    same_lines(&rt, trace.bytes());
+    same_end(&rt, trace.bytes());
     Ok(())
 }

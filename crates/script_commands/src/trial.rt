@@ -24,7 +24,7 @@ use command_base::Status;
 use line_input::push_number;
 use link_frames::Steps;
 use msd_fit::{Cause, Facts, OwnFacts};
-use msd_values::{Marks, RootKind, Vin};
+use msd_values::{Format, Marks, RootKind, Vin};
 use std::alloc::Global;
 use std::sync::ledger::Ledger;
 use trace_model::{Event, Positive, Tally};
@@ -124,6 +124,7 @@ fn own_facts() -> OwnFacts
     ensures { result ≡ made_own }
 {
     OwnFacts {
+        format: Format::Two,
         vin: Vin::of(*b"WM9VDSVDSYA123456"),
         kind: RootKind::new(1).unwrap(),
         fuel: gasoline(),

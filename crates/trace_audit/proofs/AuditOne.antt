@@ -6,8 +6,8 @@ use Rattle.line_input.specs.declared.reason.BadLine.{BadLine}
 use Rattle.line_input.specs.declared.reason.Reason.{Reason}
 use Rattle.trace_model.specs.Safety.{Safe}
 use Rattle.trace_model.proofs.Fronts.{nothing_safe, safe_front}
-use Rattle.trace_audit.specs.declared.rule.Rule.{Rule}
-use Rattle.trace_audit.specs.declared.rule.Rule.TheVariants as rule
+use Rattle.trace_model.specs.declared.rule.Rule.{Rule}
+use Rattle.trace_model.specs.declared.rule.Rule.TheVariants as rule
 use Rattle.trace_audit.specs.declared.verdict.Verdict.{Verdict}
 use Rattle.trace_audit.specs.declared.verdict.Verdict.TheVariants as verdict
 use Rattle.trace_audit.specs.Audit.{Audits, IsBroken, IsFirst, IsRefused, IsSafeTrace, IsTrace, IsUnrefused, NeverFall, entries_of, in_front, line_says}

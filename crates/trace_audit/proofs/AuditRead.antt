@@ -1,11 +1,8 @@
 -- What the lines that were read say of the verdict of an audit, and how an audit ends.
-use Rattle.std.specs.Prelude.{◌≡◌, ◌≤◌, ◌+◌, ◌⊎◌, ℕ, Bool, true, false, List, [], ◌∷◌, ◌++◌, length, Option, Some, None, Result, Ok, Err}
+use Rattle.std.specs.Prelude.{◌≡◌, ◌≤◌, ◌+◌, ◌⊎◌, ℕ, true, false, List, [], ◌∷◌, ◌++◌, length, Option, Some, None, Result, Ok, Err}
 use Rattle.std.specs.List.{AllByRecursion}
-use Rattle.std.specs.Io.KnownBytes.{IsAtEnd}
-use Rattle.std.proofs.Common.{refl, sym, ap, subst, ◌∙◌, inl, inr, arith, append_assoc, length-append}
-use Rattle.std.proofs.lemmas.Bool.{false≢true}
+use Rattle.std.proofs.Common.{refl, sym, ap, subst, ◌∙◌, inl, inr, arith, length-append}
 use Rattle.std.proofs.lemmas.List.{append-nil}
-use Rattle.call_io.specs.Bytes.{Took}
 use Rattle.trace_model.specs.declared.entry.Entry.{Entry}
 use Rattle.line_input.specs.declared.fault.LineFault.{LineFault}
 use Rattle.line_input.specs.declared.fault.LineFault.TheVariants as fault
@@ -13,23 +10,25 @@ use Rattle.line_input.specs.declared.reason.BadLine.{BadLine}
 use Rattle.line_input.specs.declared.reason.Reason.{Reason}
 use Rattle.line_input.specs.declared.reason.Reason.TheVariants as reason
 use Rattle.trace_text.specs.EntryLines.{entry_of}
-use Rattle.line_input.specs.Feed.{IsDone}
-use Rattle.line_input.specs.Lines.{IsWhole, IsLine, IsPassedOver, Numbered, line_fault, lines_of, most_bytes}
-use Rattle.line_input.specs.Reading.{FindsBad, FindsEnd, FindsLine, FindsTooMany, MayFollow, Reading, ReadsLine, first_reading}
+use Rattle.line_input.specs.Feed.{Feed}
+use Rattle.line_input.specs.Inputs.{IsSettledBy}
+use Rattle.line_input.specs.Lines.{IsWhole, IsLine, IsPassedOver, Numbered, line_fault, most_bytes}
+use Rattle.line_input.specs.Reading.{FindsLine, Reading, ReadsLine, first_reading}
+use Rattle.line_input.specs.Taken.{LinesSoFar}
 use Rattle.trace_model.specs.Safety.{Safe}
 use Rattle.trace_audit.specs.declared.audit_lines.Heard.{Heard}
-use Rattle.trace_audit.specs.declared.rule.Rule.{Rule}
+use Rattle.trace_model.specs.declared.rule.Rule.{Rule}
 use Rattle.trace_audit.specs.declared.rules.Rules.{Rules}
 use Rattle.trace_audit.specs.declared.verdict.Verdict.{Verdict}
 use Rattle.trace_audit.specs.declared.verdict.Verdict.TheVariants as verdict
-use Rattle.trace_audit.specs.Audit.{Audits, IsRefused, IsSafeTrace, IsUnrefused, NeverFall, entries_of, in_front, line_says, some_entry}
+use Rattle.trace_audit.specs.Audit.{Audits, IsBroken, IsFirst, IsRefused, IsSafeTrace, IsTrace, IsUnrefused, NeverFall, entries_of, in_front, line_says, some_entry}
 use Rattle.trace_model.specs.Tallies.{last_tick}
 use Rattle.trace_audit.specs.Judged.{Judges}
-use Rattle.trace_audit.specs.Outcome.{Answered, IsSettled, Outcome}
+use Rattle.trace_audit.specs.Outcome.{Answered, IsAudited, Outcome}
 use Rattle.trace_audit.specs.RulesStand.{RulesStandFor}
-use Rattle.trace_audit.specs.inner.AuditTurns.{HeardStandsFor, Hears, HearsLine, Standing, TakenSoFar, Turn, verdict_of}
+use Rattle.trace_audit.specs.inner.AuditTurns.{HeardStandsFor, Hears, HearsLine, Standing, Turn, verdict_of}
+use Rattle.line_input.proofs.LinesSoFar.{StopsAt, bad_stops, ended_lines, ended_whole, found_lines, found_stops, lines_counted, lines_first, over_lines, stopped_all, stopped_by, stopped_input, taken_input, taken_took}
 use Rattle.trace_model.proofs.LegsHeard.{last_one}
-use Rattle.trace_audit.proofs.Takings.{AtHand, at_end, at_hand, front_follows, front_whole, front_within, taken_behind, taken_first, taken_whole, too_many_follow, too_many_whole, whole_end}
 
 -- What a line says.
 
@@ -110,218 +109,143 @@ sound_lines : (lines passed : List (List ℕ)) (heard : Heard) → AreUnrefused 
 sound_lines lines passed heard each over h =
     (safe_lines lines passed heard each over h, h.items ∙ ap length (sym (entries_behind lines passed over)))
 
+-- A line more that says an entry.
+
+pub more_entries : (front : List (List ℕ)) (text : List ℕ) (x : Entry) → line_says text ≡ Ok (Some x) →
+    entries_of (front ++ text ∷ []) ≡ entries_of front ++ x ∷ []
+more_entries front text x says = entries_append front (text ∷ []) ∙ ap (λ r. entries_of front ++ in_front r []) says
+
+pub trace_more : (front : List (List ℕ)) (text : List ℕ) (x : Entry) → line_says text ≡ Ok (Some x) → IsSafeTrace front →
+    last_tick (entries_of front) ≤ x.tick → IsTrace (front ++ text ∷ [])
+trace_more front text x says h le =
+    record {
+      each = unrefused_append front (text ∷ []) h.trace.each (subst IsUnrefused (sym says) tt, tt);
+      order = subst (λ (es : List Entry). NeverFall es) (sym (more_entries front text x says))
+          (fall_more (entries_of front) x h.trace.order le);
+    }
+
+pub judged_more : (front : List (List ℕ)) (text : List ℕ) (x : Entry) (o : Option Rule) → line_says text ≡ Ok (Some x) →
+    Judges (entries_of front ++ x ∷ []) x.tick o →
+    Judges (entries_of (front ++ text ∷ [])) (last_tick (entries_of (front ++ text ∷ []))) o
+judged_more front text x o says j =
+    subst (λ (es : List Entry). Judges es (last_tick es) o) (sym (more_entries front text x says))
+    (subst (λ (n : ℕ). Judges (entries_of front ++ x ∷ []) n o) (sym (last_one (entries_of front) x)) j)
+
 pub items_few : (start now : Option (List ℕ)) (reading : Reading) (heard : Heard) → Standing start now reading heard →
     heard.items ≤ reading.lines
-items_few start now reading heard s = omega (arith, s.stands.items, s.number, entries_few s.lines)
+items_few start now reading heard s = omega (arith, s.stands.items, s.so_far.number, entries_few s.lines)
 
 -- Nothing was read yet.
 pub audit_first : (start : Option (List ℕ)) (heard : Heard) → HeardStandsFor heard [] →
     Standing start start first_reading heard
-audit_first start heard h =
-    record {
-      front = [];
-      taken = taken_first start;
-      lines = [];
-      split = λ more follows. refl;
-      number = refl;
-      each = tt;
-      stands = h;
-    }
+audit_first start heard h = record { lines = []; so_far = lines_first start; each = tt; stands = h }
 
--- How an audit ends by a line: what is said of it stands, whatever may follow, or the input is whole.
-record Ended (start left : Option (List ℕ)) (reading : Reading) (v : Verdict) : Type 0 where
-  pub front : List ℕ
-  pub took : Took start left (front ++ reading.feed.pending)
-  pub done : IsDone reading.feed
-  pub at_end : reading.feed.ended ≡ true → IsAtEnd left
-  pub within : length front ≤ most_bytes
-  pub audits : (more : List ℕ) → MayFollow reading.feed more → Audits (lines_of (front ++ more)) v
+-- An audit ends where the reading stops.
 
 abbrev Ends : (start left : Option (List ℕ)) → Verdict → Type 0
-Ends start left v = (input : List ℕ) × Answered start left v input × (IsSettled v input ⊎ IsWhole left input)
+Ends start left v =
+    (input : List ℕ) × Answered start left v input × (IsSettledBy (IsAudited v) input ⊎ IsWhole left input)
 
-ends_by : (start left : Option (List ℕ)) (reading : Reading) (v : Verdict) → Ended start left reading v →
-    Ends start left v
-ends_by start left reading v e = (
-  e.front ++ reading.feed.pending,
-  record { took = e.took; audits = e.audits reading.feed.pending e.done },
-  at reading.feed.ended refl,
-)
-  where
-    at : (b : Bool) → reading.feed.ended ≡ b →
-        IsSettled v (e.front ++ reading.feed.pending) ⊎ IsWhole left (e.front ++ reading.feed.pending)
-    at true ended =
-        inr (record {
-          «end» = e.at_end ended;
-          within = subst (λ (z : List ℕ). length z ≤ most_bytes)
-              (sym (ap (λ (z : List ℕ). e.front ++ z) (e.done ended) ∙ append-nil e.front)) e.within;
-        })
-    at false ended =
-        inl (record {
-          front = e.front;
-          rest = reading.feed.pending;
-          split = refl;
-          within = e.within;
-          audits = λ more. e.audits more (λ other. absurd (false≢true (sym ended ∙ other)));
-        })
+ends_at : (start left : Option (List ℕ)) (feed : Feed) (before : List (List ℕ)) (number : ℕ)
+    (IsThis : List ℕ → Type 0) (s : StopsAt start left feed before number IsThis) (v : Verdict) →
+    ((text : List ℕ) (rest : List (List ℕ)) → IsThis text → Audits (before ++ text ∷ rest) v) → Ends start left v
+ends_at start left feed before number IsThis s v is =
+    let Holds : List (List ℕ) → Type 0 = λ lines. Audits lines v in (
+      stopped_input start left feed before number IsThis s,
+      record { took = s.took; audits = stopped_all start left feed before number IsThis s Holds is },
+      stopped_by start left feed before number IsThis s Holds is,
+    )
+
+is_first : (front : List (List ℕ)) (text : List ℕ) (rest : List (List ℕ)) (number : ℕ)
+    (Is : List (List ℕ) → List ℕ → Type 0) → number ≡ length front + 1 → IsSafeTrace front → Is front text →
+    IsFirst (front ++ text ∷ rest) number Is
+is_first front text rest number Is place safe is =
+    record { front = front; text = text; rest = rest; split = refl; place = place; safe = safe; is = is }
 
 -- A line that says something was found.
-pub record Found (start left : Option (List ℕ)) (new : Reading) (heard : Heard) : Type 0 where
-  pub front : List ℕ
-  pub taken : TakenSoFar start left new front
-  pub lines : List (List ℕ)
-  pub split : (more : List ℕ) → MayFollow new.feed more → lines_of (front ++ more) ≡ lines ++ new.text ∷ lines_of more
-  pub number : new.lines ≡ length lines + 1
-  pub safe : IsSafeTrace lines
-  pub stands : HeardStandsFor heard (entries_of lines)
+record Found (start left : Option (List ℕ)) (new : Reading) (heard : Heard) : Type 0 where
+  pub before : List (List ℕ)
+  pub so_far : LinesSoFar start left new (before ++ new.text ∷ [])
+  pub stops : StopsAt start left new.feed before new.lines (λ text. text ≡ new.text)
+  pub safe : IsSafeTrace before
+  pub stands : HeardStandsFor heard (entries_of before)
   pub says : line_says new.text ≡ some_entry (entry_of new.text)
-  pub done : IsDone new.feed
-  pub within : length front ≤ most_bytes
 
-regroup : (a p q : List (List ℕ)) → a ++ (p ++ q) ≡ (a ++ p) ++ q
-regroup a p q = sym (append_assoc a p q)
-
-split_behind : (start now : Option (List ℕ)) (old new : Reading) (heard : Heard) (bytes : List ℕ) →
-    (s : Standing start now old heard) → AtHand old new bytes → (f : FindsLine old new bytes) → (more : List ℕ) →
-    MayFollow new.feed more →
-    lines_of ((s.front ++ f.front) ++ more) ≡ (s.lines ++ f.passed) ++ new.text ∷ lines_of more
-split_behind start now old new heard bytes s hand f more follows =
-    ap lines_of (append_assoc s.front f.front more)
-    ∙ (s.split (f.front ++ more) (front_follows old new bytes f.front more hand f.split follows)
-    ∙ (ap (λ (z : List (List ℕ)). s.lines ++ z) (f.lines more follows)
-    ∙ regroup s.lines f.passed (new.text ∷ lines_of more)))
-
-pub found : (start now left : Option (List ℕ)) (old new : Reading) (heard : Heard) → Standing start now old heard →
+found : (start now left : Option (List ℕ)) (old new : Reading) (heard : Heard) → Standing start now old heard →
     ReadsLine old new now left (Ok true) → Found start left new heard
 found start now left old new heard s reads =
     let f : FindsLine old new (old.feed.pending ++ reads.taken) = reads.finds.0 in
     record {
-      front = s.front ++ f.front;
-      taken = taken_behind start now old new left s.front s.taken reads;
-      lines = s.lines ++ f.passed;
-      split = split_behind start now old new heard (old.feed.pending ++ reads.taken) s
-          (at_hand start now old new left s.front reads.taken s.taken reads.draws) f;
-      number = simp length-append (omega (arith, s.number, f.last));
+      before = s.lines ++ f.passed;
+      so_far = found_lines start now left old new s.lines s.so_far reads;
+      stops = found_stops start now left old new s.lines s.so_far reads;
       safe = safe_lines s.lines f.passed heard s.each f.each s.stands;
       stands = subst (λ (es : List Entry). HeardStandsFor heard es) (sym (entries_behind s.lines f.passed f.each))
           s.stands;
       says = says_line new.text f.says;
-      done = reads.done;
-      within = front_within start now old new s.front f.front s.taken f.given reads.limit;
     }
 
--- The audit goes on behind a line that says an entry.
-goes_on : (start left : Option (List ℕ)) (new : Reading) (heard heard' : Heard) (x : Entry) →
-    (k : Found start left new heard) →
-    line_says new.text ≡ Ok (Some x) → HeardStandsFor heard' (entries_of k.lines ++ x ∷ []) →
-    Standing start left new heard'
-goes_on start left new heard heard' x k says h =
-    record {
-      front = k.front;
-      taken = k.taken;
-      lines = k.lines ++ new.text ∷ [];
-      split = λ more follows. k.split more follows ∙ sym (append_assoc k.lines (new.text ∷ []) (lines_of more));
-      number = k.number ∙ simp length-append;
-      each = unrefused_append k.lines (new.text ∷ []) k.safe.trace.each (subst IsUnrefused (sym says) tt, tt);
-      stands = subst (λ (es : List Entry). HeardStandsFor heard' es)
-          (sym (entries_append k.lines (new.text ∷ [])
-          ∙ ap (λ r. entries_of k.lines ++ in_front r []) says)) h;
-    }
+module _ (start left : Option (List ℕ)) (new : Reading) (heard : Heard) (k : Found start left new heard) where
+  -- The audit goes on behind a line that says an entry.
+  goes_on : (heard' : Heard) (x : Entry) → line_says new.text ≡ Ok (Some x) →
+      HeardStandsFor heard' (entries_of k.before ++ x ∷ []) → Standing start left new heard'
+  goes_on heard' x says h =
+      record {
+        lines = k.before ++ new.text ∷ [];
+        so_far = k.so_far;
+        each = unrefused_append k.before (new.text ∷ []) k.safe.trace.each (subst IsUnrefused (sym says) tt, tt);
+        stands = subst (λ (es : List Entry). HeardStandsFor heard' es) (sym (more_entries k.before new.text x says)) h;
+      }
 
--- It ends with a line that is refused,
-line_refused : (start left : Option (List ℕ)) (new : Reading) (heard : Heard) (why : Reason) →
-    (k : Found start left new heard) →
-    IsRefused k.lines new.text why → Ends start left (verdict.Bad (record { line = new.lines; reason = why }))
-line_refused start left new heard why k is =
-    ends_by start left new (verdict.Bad (record { line = new.lines; reason = why }))
-    (record {
-      front = k.front;
-      took = k.taken.took;
-      done = k.done;
-      at_end = k.taken.«end»;
-      within = k.within;
-      audits = λ more follows. record {
-        front = k.lines;
-        text = new.text;
-        rest = lines_of more;
-        split = k.split more follows;
-        place = k.number;
-        safe = k.safe;
-        is = is;
-      };
-    })
+  line_ends : (v : Verdict) → ((rest : List (List ℕ)) → Audits (k.before ++ new.text ∷ rest) v) → Ends start left v
+  line_ends v is =
+      ends_at start left new.feed k.before new.lines (λ text. text ≡ new.text) k.stops v
+      (λ text rest same. subst (λ (t : List ℕ). Audits (k.before ++ t ∷ rest) v) (sym same) (is rest))
 
--- or that breaks a rule.
-line_breaks : (start left : Option (List ℕ)) (new : Reading) (heard : Heard) (x : Entry) (broken : Rule) →
-    (k : Found start left new heard) → line_says new.text ≡ Ok (Some x) → last_tick (entries_of k.lines) ≤ x.tick →
-    Judges (entries_of k.lines ++ x ∷ []) x.tick (Some broken) → Ends start left (verdict.Broken new.lines broken)
-line_breaks start left new heard x broken k says le judged =
-    let same : entries_of (k.lines ++ new.text ∷ []) ≡ entries_of k.lines ++ x ∷ [] =
-    entries_append k.lines (new.text ∷ []) ∙ ap (λ r. entries_of k.lines ++ in_front r []) says in
-    ends_by start left new (verdict.Broken new.lines broken)
-    (record {
-      front = k.front;
-      took = k.taken.took;
-      done = k.done;
-      at_end = k.taken.«end»;
-      within = k.within;
-      audits = λ more follows. record {
-        front = k.lines;
-        text = new.text;
-        rest = lines_of more;
-        split = k.split more follows;
-        place = k.number;
-        safe = k.safe;
-        is = record {
-          trace = record {
-            each = unrefused_append k.lines (new.text ∷ []) k.safe.trace.each (subst IsUnrefused (sym says) tt, tt);
-            order = subst (λ (es : List Entry). NeverFall es) (sym same)
-                (fall_more (entries_of k.lines) x k.safe.trace.order le);
-          };
-          broken = subst (λ (es : List Entry). Judges es (last_tick es) (Some broken)) (sym same)
-              (subst (λ (n : ℕ). Judges (entries_of k.lines ++ x ∷ []) n (Some broken))
-              (sym (last_one (entries_of k.lines) x)) judged);
-        };
-      };
-    })
+  -- It ends with a line that is refused,
+  line_refused : (why : Reason) → IsRefused k.before new.text why →
+      Ends start left (verdict.Bad (record { line = new.lines; reason = why }))
+  line_refused why is =
+      line_ends (verdict.Bad (record { line = new.lines; reason = why }))
+      (λ rest. is_first k.before new.text rest new.lines (λ front text. IsRefused front text why) k.stops.place k.safe
+      is)
 
--- what a turn comes to behind a line that was found, by what was heard of it
-abbrev TurnsFound : (start left : Option (List ℕ)) → Reading → Heard → Option Verdict → Type 0
-TurnsFound start left new heard' None = Standing start left new heard'
-TurnsFound start left new heard' (Some answer) = Outcome start left answer
+  -- or that breaks a rule.
+  line_breaks : (x : Entry) (broken : Rule) → line_says new.text ≡ Ok (Some x) →
+      last_tick (entries_of k.before) ≤ x.tick → Judges (entries_of k.before ++ x ∷ []) x.tick (Some broken) →
+      Ends start left (verdict.Broken new.lines broken)
+  line_breaks x broken says le judged =
+      line_ends (verdict.Broken new.lines broken)
+      (λ rest. is_first k.before new.text rest new.lines (λ front text. IsBroken front text broken) k.stops.place k.safe
+      (record {
+        trace = trace_more k.before new.text x says k.safe le;
+        broken = judged_more k.before new.text x (Some broken) says judged;
+      }))
 
-heard_entry : (start left : Option (List ℕ)) (new : Reading) (heard heard' : Heard) (x : Entry) →
-    (k : Found start left new heard) →
-    line_says new.text ≡ Ok (Some x) → (answer : Option Verdict) →
-    Hears (entries_of k.lines) new.lines x heard' answer →
-    TurnsFound start left new heard' answer
-heard_entry start left new heard heard' x k says None h = goes_on start left new heard heard' x k says h.1
-heard_entry start left new heard heard' x k says (Some (verdict.Bad bad)) h =
-    subst (λ (b : BadLine). Ends start left (verdict.Bad b)) (sym h.1)
-    (line_refused start left new heard reason.Number k (inr (x, says, h.0, refl)))
-heard_entry start left new heard heard' x k says (Some (verdict.Broken line broken)) h =
-    subst (λ (n : ℕ). Ends start left (verdict.Broken n broken)) (sym h.0)
-    (line_breaks start left new heard x broken k says h.1 h.2)
-heard_entry start left new heard heard' x k says (Some verdict.Memory) h = (k.front ++ new.feed.pending, k.taken.took)
-heard_entry start left new heard heard' x k says (Some (verdict.Sound items)) h = absurd h
-heard_entry start left new heard heard' x k says (Some verdict.ReadFault) h = absurd h
-heard_entry start left new heard heard' x k says (Some verdict.TooLong) h = absurd h
+  -- what a turn comes to behind a line that was found, by what was heard of it
+  abbrev TurnsFound : Heard → Option Verdict → Type 0
+  TurnsFound heard' None = Standing start left new heard'
+  TurnsFound heard' (Some answer) = Outcome start left answer
 
-heard_line : (start left : Option (List ℕ)) (new : Reading) (heard heard' : Heard) → (k : Found start left new heard) →
-    (says : Result Entry Reason) → line_says new.text ≡ some_entry says → (answer : Option Verdict) →
-    HearsLine (entries_of k.lines) new.lines says heard' answer → TurnsFound start left new heard' answer
-heard_line start left new heard heard' k (Ok x) is answer h = heard_entry start left new heard heard' x k is answer h
-heard_line start left new heard heard' k (Err why) is answer h =
-    subst (λ (a : Option Verdict). TurnsFound start left new heard' a) (sym h)
-    (line_refused start left new heard why k (inl is))
+  heard_entry : (heard' : Heard) (x : Entry) → line_says new.text ≡ Ok (Some x) → (answer : Option Verdict) →
+      Hears (entries_of k.before) new.lines x heard' answer → TurnsFound heard' answer
+  heard_entry heard' x says None h = goes_on heard' x says h.1
+  heard_entry heard' x says (Some (verdict.Bad bad)) h =
+      subst (λ (b : BadLine). Ends start left (verdict.Bad b)) (sym h.1)
+      (line_refused reason.Number (inr (x, says, h.0, refl)))
+  heard_entry heard' x says (Some (verdict.Broken line broken)) h =
+      subst (λ (n : ℕ). Ends start left (verdict.Broken n broken)) (sym h.0) (line_breaks x broken says h.1 h.2)
+  heard_entry heard' x says (Some verdict.Memory) h = (k.stops.front ++ new.feed.pending, k.stops.took)
+  heard_entry heard' x says (Some (verdict.Sound items)) h = absurd h
+  heard_entry heard' x says (Some verdict.ReadFault) h = absurd h
+  heard_entry heard' x says (Some verdict.TooLong) h = absurd h
 
-counted : (start now left : Option (List ℕ)) (old new : Reading) (heard' : Heard) →
-    ReadsLine old new now left (Ok true) →
-    (answer : Option Verdict) → TurnsFound start left new heard' answer → Turn start left old new heard' answer
-counted start now left old new heard' reads None s =
-    let f : FindsLine old new (old.feed.pending ++ reads.taken) = reads.finds.0 in
-    (s, omega (arith, f.last), omega (arith, reads.few, reads.limit))
-counted start now left old new heard' reads (Some answer) s = s
+  heard_line : (heard' : Heard) (says : Result Entry Reason) → line_says new.text ≡ some_entry says →
+      (answer : Option Verdict) → HearsLine (entries_of k.before) new.lines says heard' answer →
+      TurnsFound heard' answer
+  heard_line heard' (Ok x) is answer h = heard_entry heard' x is answer h
+  heard_line heard' (Err why) is answer h =
+      subst (λ (a : Option Verdict). TurnsFound heard' a) (sym h) (line_refused why (inl is))
 
 -- A line was read and judged.
 pub turn_found : (start now left : Option (List ℕ)) (old new : Reading) (heard heard' : Heard) (line : Numbered) →
@@ -332,106 +256,53 @@ pub turn_found : (start now left : Option (List ℕ)) (old new : Reading) (heard
     Standing start now old heard → Turn start left old new heard' answer
 turn_found start now left old new heard heard' line is reads answer hears s =
     let k : Found start left new heard = found start now left old new heard s reads in
-    let P : Numbered → Type 0 = λ l. HearsLine (entries_of k.lines) l.number (entry_of l.text) heard' answer in
-    counted start now left old new heard' reads answer
-    (heard_line start left new heard heard' k (entry_of new.text) k.says answer (subst P is (hears (entries_of
-    k.lines) k.stands)))
+    let P : Numbered → Type 0 = λ l. HearsLine (entries_of k.before) l.number (entry_of l.text) heard' answer in
+    counted answer
+    (heard_line start left new heard k heard' (entry_of new.text) k.says answer
+    (subst P is (hears (entries_of k.before) k.stands)))
+  where
+    counted : (answer : Option Verdict) →
+        TurnsFound start left new heard (found start now left old new heard s reads) heard' answer →
+        Turn start left old new heard' answer
+    counted None t = let few = lines_counted start now left old new s.lines s.so_far reads in (t, few.0, few.1)
+    counted (Some verdict) t = t
 
 -- The end of the input was read.
 pub turn_ended : (start now left : Option (List ℕ)) (old new : Reading) (heard : Heard) →
     ReadsLine old new now left (Ok false) →
     Standing start now old heard → Outcome start left (verdict.Sound heard.items)
-turn_ended start now left old new heard reads s =
-    let bytes : List ℕ = old.feed.pending ++ reads.taken in
-    let f : FindsEnd old new bytes = reads.finds.0 in
-    let hand : AtHand old new bytes = at_hand start now old new left s.front reads.taken s.taken reads.draws in
-    let lines : lines_of (s.front ++ bytes) ≡ s.lines ++ f.passed =
-    s.split bytes hand.follows ∙ ap (λ (z : List (List ℕ)). s.lines ++ z) f.lines in (
-      s.front ++ bytes,
-      record {
-        took = taken_whole start now old new left s.front reads.taken s.taken reads.draws;
-        audits = subst (λ (z : List (List ℕ)). Audits z (verdict.Sound heard.items)) (sym lines)
-            (sound_lines s.lines f.passed heard s.each f.each s.stands);
-      },
-      whole_end start now old new left s.front reads.taken s.taken reads.draws reads.limit f,
-    )
+turn_ended start now left old new heard reads s = (
+  taken_input start now left old new s.lines s.so_far reads.taken,
+  record {
+    took = taken_took start now left old new s.lines s.so_far reads.taken reads.draws;
+    audits = subst (λ (z : List (List ℕ)). Audits z (verdict.Sound heard.items))
+        (sym (ended_lines start now left old new s.lines s.so_far reads))
+        (sound_lines s.lines reads.finds.0.passed heard s.each reads.finds.0.each s.stands);
+  },
+  ended_whole start now left old new s.lines s.so_far reads,
+)
 
 -- There was no further line.
-
-bad_read : (start now left : Option (List ℕ)) (old new : Reading) (heard : Heard) (bad : BadLine) →
-    (s : Standing start now old heard) → ReadsLine old new now left (Err (fault.Bad bad)) →
-    Ended start left new (verdict.Bad bad)
-bad_read start now left old new heard bad s reads =
-    let bytes : List ℕ = old.feed.pending ++ reads.taken in
-    let f : FindsBad old new bytes bad = reads.finds in
-    let hand : AtHand old new bytes = at_hand start now old new left s.front reads.taken s.taken reads.draws in
-    record {
-      front = s.front ++ f.front;
-      took = subst (λ (z : List ℕ). Took start left z) (front_whole s.front bytes f.front new.feed.pending f.split)
-          (taken_whole start now old new left s.front reads.taken s.taken reads.draws);
-      done = reads.done;
-      at_end = at_end start now old new left s.front reads.taken s.taken reads.draws;
-      within = front_within start now old new s.front f.front s.taken f.given reads.limit;
-      audits = λ more follows.
-          let l = f.lines more follows in
-          record {
-            front = s.lines ++ f.passed;
-            text = l.0;
-            rest = l.1;
-            split = ap lines_of (append_assoc s.front f.front more)
-                ∙ (s.split (f.front ++ more) (front_follows old new bytes f.front more hand f.split follows)
-                ∙ (ap (λ (z : List (List ℕ)). s.lines ++ z) l.2 ∙ regroup s.lines f.passed (l.0 ∷ l.1)));
-            place = simp length-append (omega (arith, s.number, f.number));
-            safe = safe_lines s.lines f.passed heard s.each f.each s.stands;
-            is = inl (says_fault l.0 bad.reason l.3);
-          };
-    }
-
-no_lines : lines_of [] ≡ []
-unfolding lines_of
-no_lines = refl
-
-too_long : (start now left : Option (List ℕ)) (old new : Reading) (heard : Heard) → Standing start now old heard →
-    ReadsLine old new now left (Err fault.TooLong) → Outcome start left verdict.TooLong
-too_long start now left old new heard s reads =
-    let bytes : List ℕ = old.feed.pending ++ reads.taken in
-    let f : FindsTooMany old bytes = reads.finds in
-    let hand : AtHand old new bytes = at_hand start now old new left s.front reads.taken s.taken reads.draws in
-    let lines : lines_of (s.front ++ f.front) ≡ s.lines ++ f.passed =
-    ap (λ (z : List ℕ). lines_of (s.front ++ z)) (sym (append-nil f.front))
-    ∙ (s.split (f.front ++ []) (too_many_follow old new bytes hand f)
-    ∙ ap (λ (z : List (List ℕ)). s.lines ++ z)
-    (f.lines [] ∙ (ap (λ (z : List (List ℕ)). f.passed ++ z) no_lines ∙ append-nil f.passed))) in (
-      s.front ++ bytes,
-      taken_whole start now old new left s.front reads.taken s.taken reads.draws,
-      record {
-        front = s.front ++ f.front;
-        unended = f.«open»;
-        rest = f.rest;
-        split = ap (λ b. s.front ++ b) f.split ∙ sym (append_assoc s.front f.front (f.«open» ++ f.rest));
-        full = simp length-append (omega (arith, s.taken.given, f.full));
-        beyond = f.beyond;
-        lines = too_many_whole start now old new left s.front reads.taken s.taken reads.draws f;
-        inner = f.inner;
-        short = f.short;
-        sound = (
-          heard.items,
-          subst (λ (z : List (List ℕ)). Audits z (verdict.Sound heard.items)) (sym lines)
-              (sound_lines s.lines f.passed heard s.each f.each s.stands),
-        );
-      },
-    )
-
 pub turn_unread : (start now left : Option (List ℕ)) (old new : Reading) (heard : Heard) (why : LineFault) →
     ReadsLine old new now left (Err why) → Standing start now old heard → Outcome start left (verdict_of why)
 turn_unread start now left old new heard (fault.Bad bad) reads s =
-    ends_by start left new (verdict.Bad bad) (bad_read start now left old new heard bad s reads)
+    let stops = bad_stops start now left old new s.lines s.so_far bad reads in
+    let before : List (List ℕ) = s.lines ++ reads.finds.passed in
+    ends_at start left new.feed before bad.line (λ text. line_fault text ≡ Some bad.reason) stops (verdict.Bad bad)
+    (λ text rest fails. is_first before text rest bad.line (λ front line. IsRefused front line bad.reason) stops.place
+    (safe_lines s.lines reads.finds.passed heard s.each reads.finds.each s.stands)
+    (inl (says_fault text bad.reason fails)))
 turn_unread start now left old new heard fault.ReadFault reads s = (
-  s.front ++ (old.feed.pending ++ reads.taken),
-  taken_whole start now old new left s.front reads.taken s.taken
-      reads.draws,
+  taken_input start now left old new s.lines s.so_far reads.taken,
+  taken_took start now left old new s.lines s.so_far reads.taken reads.draws,
 )
-turn_unread start now left old new heard fault.TooLong reads s = too_long start now left old new heard s reads
+turn_unread start now left old new heard fault.TooLong reads s = (
+  taken_input start now left old new s.lines s.so_far reads.taken,
+  taken_took start now left old new s.lines s.so_far reads.taken reads.draws,
+  over_lines start now left old new s.lines s.so_far
+      (λ lines. (items : ℕ) × Audits lines (verdict.Sound items)) reads
+      (heard.items, sound_lines s.lines reads.finds.passed heard s.each reads.finds.each s.stands),
+)
 
 -- One more entry was taken.
 pub taken_entry : (heard : Heard) (rules : Rules) (before : List Entry) (x : Entry) → HeardStandsFor heard before →

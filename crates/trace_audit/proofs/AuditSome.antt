@@ -16,8 +16,8 @@ use Rattle.line_input.specs.declared.reason.Reason.{Reason}
 use Rattle.line_input.specs.declared.reason.Reason.TheVariants as reason
 use Rattle.trace_model.specs.Safety.{Agreed, Bounded, IsShown, IsShownFirst, IsWithin, Leg, Opened, OwesOpening, Safe, WasShown, first_leg, is_owned, leg_at, leg_behind, leg_step, own}
 use Rattle.trace_model.proofs.Fronts.{agreed_one, nothing_safe, opened_one}
-use Rattle.trace_audit.specs.declared.rule.Rule.{Rule}
-use Rattle.trace_audit.specs.declared.rule.Rule.TheVariants as rule
+use Rattle.trace_model.specs.declared.rule.Rule.{Rule}
+use Rattle.trace_model.specs.declared.rule.Rule.TheVariants as rule
 use Rattle.trace_model.specs.declared.moved.LegOf.{LegOf}
 use Rattle.trace_audit.specs.declared.verdict.Verdict.{Verdict}
 use Rattle.trace_audit.specs.declared.verdict.Verdict.TheVariants as verdict
@@ -29,7 +29,7 @@ use Rattle.trace_model.specs.LegsStand.{IsVoiceOf}
 use Rattle.trace_audit.specs.RulesStand.{IsOwed}
 use Rattle.trace_audit.specs.inner.Owed.{is_too_soon, owed_behind}
 use Rattle.trace_audit.proofs.AuditOne.{last_or_none}
-use Rattle.trace_audit.proofs.AuditRead.{entries_append, fall_more, unrefused_append}
+use Rattle.trace_audit.proofs.AuditRead.{entries_append, judged_more, more_entries, trace_more, unrefused_append}
 use Rattle.trace_model.proofs.LegsHeard.{last_one}
 use Rattle.trace_audit.proofs.RulesLemmas.{AreVoices, bounded_no, bounded_yes, is_this_leg, leg_within, owed_more, within_leg}
 
@@ -253,26 +253,6 @@ some_rule t x h =
 
 abbrev HasVerdict : List (List ℕ) → Type 0
 HasVerdict lines = (v : Verdict) × Audits lines v
-
-more_entries : (front : List (List ℕ)) (text : List ℕ) (x : Entry) → line_says text ≡ Ok (Some x) →
-    entries_of (front ++ text ∷ []) ≡ entries_of front ++ x ∷ []
-more_entries front text x says = entries_append front (text ∷ []) ∙ ap (λ r. entries_of front ++ in_front r []) says
-
-trace_more : (front : List (List ℕ)) (text : List ℕ) (x : Entry) → line_says text ≡ Ok (Some x) → IsSafeTrace front →
-    last_tick (entries_of front) ≤ x.tick → IsTrace (front ++ text ∷ [])
-trace_more front text x says h le =
-    record {
-      each = unrefused_append front (text ∷ []) h.trace.each (subst IsUnrefused (sym says) tt, tt);
-      order = subst (λ (es : List Entry). NeverFall es) (sym (more_entries front text x says))
-          (fall_more (entries_of front) x h.trace.order le);
-    }
-
-judged_more : (front : List (List ℕ)) (text : List ℕ) (x : Entry) (o : Option Rule) → line_says text ≡ Ok (Some x) →
-    Judges (entries_of front ++ x ∷ []) x.tick o →
-    Judges (entries_of (front ++ text ∷ [])) (last_tick (entries_of (front ++ text ∷ []))) o
-judged_more front text x o says j =
-    subst (λ (es : List Entry). Judges es (last_tick es) o) (sym (more_entries front text x says))
-    (subst (λ (n : ℕ). Judges (entries_of front ++ x ∷ []) n o) (sym (last_one (entries_of front) x)) j)
 
 safe_over : (front : List (List ℕ)) (text : List ℕ) → line_says text ≡ Ok None → IsSafeTrace front →
     IsSafeTrace (front ++ text ∷ [])

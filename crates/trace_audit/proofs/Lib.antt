@@ -3,4 +3,3 @@ pub mod AuditRead
 pub mod AuditSome
 pub mod RulesLemmas
 pub mod ShownLemmas
-pub mod Takings

@@ -9,7 +9,7 @@ use Rattle.line_input.specs.declared.reason.Reason.TheVariants as reason
 use Rattle.trace_text.specs.EntryLines.{entry_of}
 use Rattle.line_input.specs.Lines.{line_fault, is_comment}
 use Rattle.trace_model.specs.Safety.{Safe}
-use Rattle.trace_audit.specs.declared.rule.Rule.{Rule}
+use Rattle.trace_model.specs.declared.rule.Rule.{Rule}
 use Rattle.trace_audit.specs.declared.verdict.Verdict.{Verdict}
 use Rattle.trace_audit.specs.declared.verdict.Verdict.TheVariants as verdict
 use Rattle.trace_model.specs.Tallies.{last_tick}

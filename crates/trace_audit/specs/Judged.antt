@@ -2,14 +2,8 @@
 use Rattle.std.specs.Prelude.{ℕ, List, [], ◌∷◌, Option, Some, None}
 use Rattle.trace_model.specs.declared.entry.Entry.{Entry}
 use Rattle.trace_model.specs.Safety.{Agreed, Bounded, Opened, Safe}
-use Rattle.trace_audit.specs.declared.rule.Rule.{Rule}
-use Rattle.trace_audit.specs.declared.rule.Rule.TheVariants as rule
-
--- the number by which a reply names a rule
-abbrev pub rule_number : Rule → ℕ
-rule_number rule.Agreed = 1
-rule_number rule.Opened = 2
-rule_number rule.Bounded = 3
+use Rattle.trace_model.specs.declared.rule.Rule.{Rule}
+use Rattle.trace_model.specs.declared.rule.Rule.TheVariants as rule
 
 -- These entries are safe up to this tick, or they break this rule up to it, and none that is named before it.
 abbrev pub Judges : List Entry → (now : ℕ) → Option Rule → Type 0

@@ -1,11 +1,11 @@
 //! Tests of the audit, on traces worked out by hand.
 
 use crate::audit_lines::audit;
-use crate::rule::Rule;
 use crate::verdict::Verdict;
 use call_io::MemSource;
 use line_input::{BadLine, Reason};
 use std::alloc::{AllocError, Global};
+use trace_model::Rule;
 
 /// The digits of a set of data, for which `H` stands in the lines below, and its summary, for which `S` stands.
 const DIGITS: &str = "02000681d54970d65c3597ca0420c414640af05f080452e9960413e2550168";

@@ -5,7 +5,6 @@ mod audit_lines;
 #[cfg(test)]
 mod audit_tests;
 mod laws;
-mod rule;
 mod rules;
 #[cfg(test)]
 mod rules_tests;
@@ -14,6 +13,6 @@ mod verdict;
 
 pub use audit_lines::audit;
 pub use laws::audit_laws;
-pub use rule::Rule;
 pub use rules::Rules;
+pub use trace_model::Rule;
 pub use verdict::Verdict;

@@ -15,12 +15,11 @@ ghost use Rattle.trace_audit.specs.ShownStands.{ShownStandsFor};
 ghost use Rattle.trace_model.specs.LegsMoved.{IsMoved, Moves};
 ghost use Rattle.trace_audit.specs.inner.Owed.{is_too_soon, is_fresh, owed_behind, owed_if_muted, voice_of};
 
-use crate::rule::Rule;
 use crate::shown::Shown;
 use call_io::Memory;
 use link_frames::{End, Note, Timer};
 use std::alloc::Global;
-use trace_model::{Entry, LegOf, Legs, Voice, leg_of};
+use trace_model::{Entry, LegOf, Legs, Rule, Voice, leg_of};
 
 /// The most ticks for which the voice of the vehicle's leg is muted without a break.
 const VEHICLE_LIMIT: u64 = 320;

@@ -1,11 +1,10 @@
 //! Tests of the rules: each broken alone, at its bound and one tick behind it.
 
-use crate::rule::Rule;
 use crate::rules::Rules;
 use call_io::Memory;
 use link_frames::{End, Note, Request, Timer};
 use std::alloc::Global;
-use trace_model::Entry;
+use trace_model::{Entry, Rule};
 
 fn hear(alloc: Global, rules: &mut Rules, tick: u64, note: Note) -> Result<Option<Rule>, Memory> {
     rules.hear(alloc, &Entry { tick, note })

@@ -1,7 +1,7 @@
 //! What an audit answers.
 
-use crate::rule::Rule;
 use line_input::BadLine;
+use trace_model::Rule;
 
 /// What an audit says of a trace.
 #[derive(Clone, Copy, Debug, PartialEq, Eq)]

@@ -4,5 +4,6 @@ pub mod inner
 pub mod LegsMoved
 pub mod LegsStand
 pub mod Listener
+pub mod Rules
 pub mod Safety
 pub mod Tallies

@@ -8,6 +8,7 @@ mod laws;
 mod legs;
 mod listener;
 mod moved;
+mod rule;
 mod tally;
 mod voice;
 
@@ -18,5 +19,6 @@ pub use laws::safe_traces;
 pub use legs::Legs;
 pub use listener::{Deaf, Listener};
 pub use moved::{LegOf, leg_of};
+pub use rule::Rule;
 pub use tally::Tally;
 pub use voice::Voice;

@@ -3,25 +3,25 @@
 use Rattle.std.specs.Prelude.{ℕ, ◌+◌, ◌<◌, ◌≤◌, true, List, ◌++◌, Option, Some, None}
 use Rattle.call_io.specs.Bytes.{Grew}
 use Rattle.line_input.specs.Lines.{lines_of, most_bytes}
-use Rattle.line_input.specs.Reading.{Reading, MayFollow}
+use Rattle.line_input.specs.Reading.{Reading}
 use Rattle.command_base.specs.declared.status.Status.{Status}
 use Rattle.command_base.specs.Outcome.{Streams, Outcome}
 use Rattle.command_base.specs.Refusals.{Reply, in_front_of}
-use Rattle.command_base.specs.inner.Taken.{TakenSoFar}
+use Rattle.line_input.specs.Taken.{LinesSoFar}
 
--- The text of a front of the input stands in front of the reply to what follows it, whatever that is; and so for how
+-- The text of the lines so far stands in front of the reply to those that follow, whatever these are; and so for how
 -- often ends are passed.
-pub record LinesStanding (replies : List ℕ → Reply → Type 0) (most : List ℕ → ℕ)
+pub record LinesStanding (Replies : List (List ℕ) → Reply → Type 0) (most : List (List ℕ) → ℕ)
     (Rest : ℕ → List (List ℕ) → Reply → Type 0) (more_passes : ℕ → List (List ℕ) → ℕ) (start now : Streams)
     (reading : Reading) : Type 0 where
-  pub front : List ℕ
-  pub taken : TakenSoFar start now reading front
+  pub lines : List (List ℕ)
+  pub so_far : LinesSoFar start.left now.left reading lines
   pub text : List ℕ
-  pub read : (more : List ℕ) → MayFollow reading.feed more → (r : Reply) → Rest (reading.lines + 1) (lines_of more) r
-      → replies (front ++ more) (in_front_of text r)
+  pub read : (texts : List (List ℕ)) (r : Reply) → Rest (reading.lines + 1) texts r
+      → Replies (lines ++ texts) (in_front_of text r)
   pub wrote : Grew start.held now.held text
-  pub counted : (more : List ℕ) → MayFollow reading.feed more
-      → now.passes + more_passes (reading.lines + 1) (lines_of more) ≤ start.passes + most (front ++ more)
+  pub counted : (texts : List (List ℕ))
+      → now.passes + more_passes (reading.lines + 1) texts ≤ start.passes + most (lines ++ texts)
 
 module _ {Seen : Type 0} (Rest : Seen → ℕ → List (List ℕ) → Reply → Type 0) (most : Seen → ℕ → List (List ℕ) → ℕ)
     (first : Seen) where
@@ -35,7 +35,7 @@ module _ {Seen : Type 0} (Rest : Seen → ℕ → List (List ℕ) → Reply → 
   pub record CommandStanding (Stands : ℕ → Seen → Type 0) (start now : Streams) (reading : Reading) : Type 0 where
     pub seen : Seen
     pub stands : Stands reading.lines seen
-    pub lines : LinesStanding RepliesFrom most_from (Rest seen) (most seen) start now reading
+    pub lines : LinesStanding (Rest first 1) (most first 1) (Rest seen) (most seen) start now reading
 
   -- what a turn comes to: the command stands behind one more line, or it ended with this outcome
   abbrev pub TurnsTo : (Stands : ℕ → Seen → Type 0) → (start now : Streams) → (old new : Reading) → Option Status

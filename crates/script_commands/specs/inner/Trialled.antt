@@ -4,7 +4,7 @@ use Rattle.std.specs.Prelude.{◌≡◌, ℕ, zero, suc, ◌+◌, ◌*◌, ◌�
 use Rattle.msd_fit.specs.declared.cause.Cause.TheVariants as cause
 use Rattle.msd_fit.specs.declared.facts.Facts.{Facts}
 use Rattle.msd_fit.specs.declared.facts.OwnFacts.{OwnFacts}
-use Rattle.trace_text.specs.Facts.{no_marks}
+use Rattle.trace_text.specs.Facts.{no_marks, usual_format}
 use Rattle.trace_model.specs.Tallies.{tally_of}
 use Rattle.trace_model.specs.declared.event.Event.{Event}
 use Rattle.trace_model.specs.declared.event.Event.TheVariants as event
@@ -19,6 +19,7 @@ use Rattle.script_commands.specs.Make.{call_times, x_behind}
 -- the facts that the script begins with
 abbrev pub made_own : OwnFacts
 made_own = record {
+  format = usual_format;
   vin = codes "WM9VDSVDSYA123456";
   kind = 1;
   fuel = record no_marks { gasoline = true };

@@ -2,15 +2,14 @@
 -- contracts of the private functions of `audit`.
 use Rattle.std.specs.Prelude.{◌≡◌, ℕ, ◌<◌, ◌≤◌, true, false, List, [], ◌∷◌, ◌++◌, length, Option, Some, None, Result, Ok, Err}
 use Rattle.std.specs.List.{AllByRecursion}
-use Rattle.std.specs.Io.KnownBytes.{IsAtEnd}
-use Rattle.call_io.specs.Bytes.{Took}
 use Rattle.trace_model.specs.declared.entry.Entry.{Entry}
 use Rattle.line_input.specs.declared.fault.LineFault.{LineFault}
 use Rattle.line_input.specs.declared.fault.LineFault.TheVariants as fault
 use Rattle.line_input.specs.declared.reason.Reason.{Reason}
 use Rattle.line_input.specs.declared.reason.Reason.TheVariants as reason
-use Rattle.line_input.specs.Lines.{AreWholeLines, lines_of, most_bytes}
-use Rattle.line_input.specs.Reading.{MayFollow, Reading}
+use Rattle.line_input.specs.Lines.{most_bytes}
+use Rattle.line_input.specs.Reading.{Reading}
+use Rattle.line_input.specs.Taken.{LinesSoFar}
 use Rattle.trace_audit.specs.Audit.{IsUnrefused, NeverFall, entries_of, line_says}
 use Rattle.trace_audit.specs.declared.audit_lines.Heard.{Heard}
 use Rattle.trace_audit.specs.declared.verdict.Verdict.{Verdict}
@@ -57,23 +56,10 @@ verdict_of (fault.Bad bad) = verdict.Bad bad
 verdict_of fault.ReadFault = verdict.ReadFault
 verdict_of fault.TooLong = verdict.TooLong
 
--- A front of the input was given in lines, and what was taken beyond it is pending.
-pub record TakenSoFar (start now : Option (List ℕ)) (reading : Reading) (front : List ℕ) : Type 0 where
-  pub took : Took start now (front ++ reading.feed.pending)
-  pub given : reading.feed.given ≡ length front
-  pub alive : reading.failed ≡ false
-  pub done : reading.feed.ended ≡ true → reading.feed.pending ≡ []
-  pub «end» : reading.feed.ended ≡ true → IsAtEnd now
-  pub lines : reading.feed.ended ≡ false → AreWholeLines front
-
--- The lines so far are those of a front of the input, whatever may follow; none was refused, and what is kept stands
--- for their entries.
+-- None of the lines so far was refused, and what is kept stands for their entries.
 pub record Standing (start now : Option (List ℕ)) (reading : Reading) (heard : Heard) : Type 0 where
-  pub front : List ℕ
-  pub taken : TakenSoFar start now reading front
   pub lines : List (List ℕ)
-  pub split : (more : List ℕ) → MayFollow reading.feed more → lines_of (front ++ more) ≡ lines ++ lines_of more
-  pub number : reading.lines ≡ length lines
+  pub so_far : LinesSoFar start now reading lines
   pub each : AllByRecursion (λ text. IsUnrefused (line_says text)) lines
   pub stands : HeardStandsFor heard (entries_of lines)
 

@@ -30,7 +30,7 @@ loop-status-init g c = record {
 pub take_turn-requires : goal.take_turn-requires
 take_turn-requires g c =
     let s = c.loop-status.invariant.stands c.requires.0 c.requires.1 in
-    record { alive = s.lines.taken.alive; stands = (s.seen, s.stands) }
+    record { alive = s.lines.so_far.taken.alive; stands = (s.seen, s.stands) }
 
 pub loop-status-smaller : goal.loop-status-smaller
 loop-status-smaller g c =

@@ -1,7 +1,7 @@
 //! The rules by which a trace is safe.
 
 ghost use Rattle.std.specs.Prelude.{◌≡◌};
-ghost use Rattle.trace_audit.specs.Judged.{rule_number};
+ghost use Rattle.trace_model.specs.Rules.{rule_number};
 
 /// A rule by which a trace is safe, in the order of the rules' numbers. After EN 16062 (the voice is open wherever no
 /// data is sent); the bounds are this project's profile.

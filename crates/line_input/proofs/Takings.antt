@@ -1,4 +1,4 @@
--- What one more line takes of the input of an audit.
+-- What one more line takes of the source of a reader of lines.
 use Rattle.std.specs.Prelude.{◌≡◌, ℕ, ◌+◌, ◌<◌, ◌≤◌, ◌⊎◌, Bool, true, false, List, [], ◌∷◌, ◌++◌, length, Option, Some, None, Ok}
 use Rattle.std.specs.Io.KnownBytes.{IsAtEnd}
 use Rattle.std.proofs.Common.{sym, ◌∙◌, ap, refl, subst, append_assoc, inl, inr, arith, length-append}
@@ -9,7 +9,7 @@ use Rattle.call_io.proofs.BytesLemmas.{Took-append, Took-nothing}
 use Rattle.line_input.specs.Feed.{Draws, IsDone}
 use Rattle.line_input.specs.Reading.{Reading, MayFollow, first_reading, FindsLine, FindsEnd, FindsTooMany, ReadsLine}
 use Rattle.line_input.specs.Lines.{AreWholeLines, IsWhole, lines_of, most_bytes}
-use Rattle.trace_audit.specs.inner.AuditTurns.{TakenSoFar}
+use Rattle.line_input.specs.Taken.{TakenSoFar}
 use Rattle.line_input.proofs.WholeLines.{whole_lines, whole_append}
 
 -- nothing was taken yet
