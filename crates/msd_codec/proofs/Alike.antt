@@ -15,7 +15,12 @@ use Rattle.msd_values.specs.declared.msd.Msd.{Msd}
 use Rattle.msd_values.specs.Additions.{additions_text}
 use Rattle.msd_values.specs.Texts.{or_none, kind_text, extra_text}
 use Rattle.msd_values.specs.Description.{description, lines_of}
-use Rattle.msd_codec.specs.Trees.{count_tree, optional_field, more_of, kind_tree, vin_tree, way_tree, extra_tree, structure_tree, message_tree, tree}
+use Rattle.msd_codec.specs.Trees.{count_tree, optional_field, more_of, kind_tree, vin_tree, way_tree, extra_tree, marks_fields, structure_tree, message_tree, tree}
+use Rattle.msd_codec.specs.Formats.{format_in}
+use Rattle.msd_codec.proofs.BothFormats.{format_is}
+use Rattle.msd_values.specs.Format.{HasMarks}
+use Rattle.msd_values.specs.declared.format.Format.{Format}
+use Rattle.msd_values.specs.declared.format.Format.TheVariants.{One, Two}
 
 -- ---- what a tree is made of
 
@@ -96,6 +101,7 @@ vin_joined vin =
 
 -- Two sets of data that are alike: equal values, parts of equal octets, and equal additions.
 pub record AreAlike (v w : Msd) : Type 0 where
+  pub format : v.format ≡ w.format
   pub message : v.message ≡ w.message
   pub automatic : v.automatic ≡ w.automatic
   pub test : v.test ≡ w.test
@@ -150,6 +156,11 @@ later (suc n) fs = later n (others_in fs)
 abbrev component_in : ℕ → Tree → Tree
 component_in n t = value_in (later n (parts_in t))
 
+-- the mark of other energies is not in the tree in format 1, where it is not set
+fuel_back : (f : Format) (fuel : Marks) → HasMarks f fuel → fuel_in (marks_fields f fuel) ≡ fuel
+fuel_back One fuel none = ap (λ (other : Bool). record { gasoline = fuel.gasoline; diesel = fuel.diesel; natural_gas = fuel.natural_gas; propane = fuel.propane; electric = fuel.electric; hydrogen = fuel.hydrogen; other = other }) (sym (none refl))
+fuel_back Two fuel none = refl
+
 pub are_alike : (v w : Msd) → tree v ≡ tree w → AreAlike v w
 are_alike v w e =
     let m : message_tree v ≡ message_tree w = ap (component_in 1) e in
@@ -161,13 +172,14 @@ are_alike v w e =
     let options2 = others _ _ _ _ options in
     let options3 = others _ _ _ _ options2 in
     record {
+      format = sym (format_is v.format) ∙ ap format_in e ∙ format_is w.format;
       message = ap (λ (t : Tree). count_in (component_in 0 t)) s;
       automatic = ap (λ (t : Tree). truth_in (component_in 0 t)) control;
       test = ap (λ (t : Tree). truth_in (component_in 1 t)) control;
       trusted = ap (λ (t : Tree). truth_in (component_in 2 t)) control;
       kind = ap (component_in 3) control;
       vin = vin_same v.vin w.vin (ap (component_in 2) s);
-      fuel = ap (λ (t : Tree). fuel_in (parts_in t)) storage;
+      fuel = sym (fuel_back v.format v.fuel v.marks) ∙ ap (λ (t : Tree). fuel_in (parts_in t)) storage ∙ fuel_back w.format w.fuel w.marks;
       fuel_more = ap more_in storage;
       time = ap (λ (t : Tree). count_in (component_in 4 t)) s;
       latitude = ap (λ (t : Tree). number_in (component_in 0 t)) location;
@@ -209,6 +221,7 @@ pub described : (v w : Msd) → AreAlike v w → description v ≡ description w
 unfolding description lines_of
 described v w s =
     rw (
+      s.format,
       s.message,
       s.automatic,
       s.test,

@@ -17,7 +17,7 @@ use Rattle.per_types.specs.Kinds.{Element, element, bits_of, alphabet, span, who
 use Rattle.per_types.specs.Types.{Tree, truth, number, text, bytes, root, added, record_of, Fields, no_fields, field, absent, Ty, boolean, integer, characters, octet_string, relative_oid, enumerated, format, sequence, Components, no_components, required, optional, default, presence_count}
 use Rattle.per_types.specs.Spelling.{Whole, Character, RootIndex, TextElements, MoreElements, mark_elements, Elements, Present, Canonical}
 use Rattle.per_types.proofs.Widths.{only_width}
-use Rattle.msd_codec.specs.Module.{ecall_message}
+use Rattle.msd_codec.specs.Formats.{module_of}
 use Rattle.msd_codec.specs.Canonical.{alphabet_index, same_additions, same_tree, same_fields, character_bits, string_bits, more_bits, presence_bits, canonical_bits, written_bits, canonical_octets}
 use Rattle.msd_codec.specs.Sets.{AreCanonical, NeedsMoreBits}
 use Rattle.msd_codec.specs.inner.Writing.{Puts, HasLength, Canon}
@@ -224,10 +224,10 @@ pub canonical_is : (t : Ty) (v : Tree) (b : List Bool) → Canonical t v b → b
 canonical_is t v b c = c.2 ∙ bits_are t v c.0 c.1
 
 pub octets_are : (v : Tree) (o : List ℕ) → AreCanonical o v → o ≡ canonical_octets v
-octets_are v o c = c.made ∙ ap padded (canonical_is ecall_message v c.spelling c.canonical)
+octets_are v o c = c.made ∙ ap padded (canonical_is (module_of v) v c.spelling c.canonical)
 
-pub needed : (v : Tree) (n : ℕ) → NeedsMoreBits v n → (n ≡ length (canonical_bits ecall_message v)) × (room_bits < n)
-needed v n s = (s.count ∙ ap length (canonical_is ecall_message v s.spelling s.canonical), omega (arith, s.long, s.count))
+pub needed : (v : Tree) (n : ℕ) → NeedsMoreBits v n → (n ≡ length (canonical_bits (module_of v) v)) × (room_bits < n)
+needed v n s = (s.count ∙ ap length (canonical_is (module_of v) v s.spelling s.canonical), omega (arith, s.long, s.count))
 
 -- what a writer that went on put into an empty buffer
 pub put_alone : {X E : Type 0} (t : Ty) (v : Tree) (old new : List Bool) (r : Result X E) → Puts (Canon t v) old r new → old ≡ [] → is_err r ≡ false → new ≡ canonical_bits t v

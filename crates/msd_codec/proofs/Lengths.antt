@@ -24,8 +24,10 @@ use Rattle.msd_values.specs.Alphabet.{is_vin_character}
 use Rattle.msd_values.specs.Position.{Way, IsDelta}
 use Rattle.msd_values.specs.Vin.{IsVin}
 use Rattle.msd_values.specs.declared.msd.Extra.{Extra}
+use Rattle.msd_codec.specs.Module.{angle, angle_delta, location_delta, vehicle_identification, known_formats, additional_data}
 use Rattle.msd_values.specs.Format.{format_number}
-use Rattle.msd_codec.specs.Module.{angle, angle_delta, location_delta, vehicle_identification, additional_data, known_formats}
+use Rattle.msd_values.specs.declared.format.Format.{Format}
+use Rattle.msd_values.specs.declared.format.Format.TheVariants.{One, Two}
 use Rattle.msd_codec.specs.Trees.{optional_field, more_of, way_tree, vin_tree, extra_tree}
 use Rattle.msd_codec.specs.inner.Writing.{Puts, HasLength, Canon, Optional, Flag}
 use Rattle.msd_codec.proofs.Puts.{bits_long, put_of, optional_join, flag_join, Flags}
@@ -126,8 +128,9 @@ way_length way north east = plain_length (required_length (delta_length way.lati
 pub truth_length : (v : Bool) → HasLength (Canon boolean (truth v)) 1
 truth_length v = record { elements = element kind.truth (v ∷ []) ∷ []; spelled = record { spelled = refl }; count = refl }
 
-pub format_length : HasLength (Canon (format known_formats) (number (pos format_number))) 8
-format_length = spelled_length (format known_formats) (number (pos format_number)) (digits 8 2) 8 (format_spelled known_formats 2 2 refl (lit< tt) (0, lit< tt, refl)) (length_digits 8 2)
+pub format_length : (f : Format) → HasLength (Canon (format known_formats) (number (pos (format_number f)))) 8
+format_length One = spelled_length (format known_formats) (number (pos 1)) (digits 8 1) 8 (format_spelled known_formats 1 1 refl (lit< tt) (0, lit< tt, refl)) (length_digits 8 1)
+format_length Two = spelled_length (format known_formats) (number (pos 2)) (digits 8 2) 8 (format_spelled known_formats 2 2 refl (lit< tt) (1, lit< tt, refl)) (length_digits 8 2)
 
 pub flag_bits : (v : Bool) (n : ℕ) → n ≡ from_bool v → HasLength (Flag v) n
 flag_bits true n e = record { elements = element kind.truth (true ∷ []) ∷ []; spelled = record { written = λ h. refl; left = λ h. absurd (cc h) }; count = e }

@@ -6,12 +6,14 @@ pub mod Identification
 pub mod Rest
 pub mod Values
 pub mod Alike
+pub mod BothFormats
 pub mod SetLaws
 pub mod CanonicalBits
 pub mod Puts
 pub mod Texts
 pub mod Lengths
 pub mod Presence
+pub mod OtherMark
 pub mod TextNumbers
 pub mod Joined
 pub mod KnownTexts

@@ -1,9 +1,8 @@
 -- The reading of a list of octets is what they show, or where they stop.
-use Rattle.std.proofs.Common.{◌≡◌, ℕ, zero, suc, ◌+◌, ◌-◌, ◌*◌, ◌/◌, ◌<◌, ◌≤◌, Bool, true, false, List, [], ◌∷◌, ◌++◌, length, take, drop, replicate, Option, Some, None, Result, Ok, Err, refl, sym, ap, subst, ◌∙◌, arith, append_assoc, append-nil, ◌⊎◌, inl, inr, lit<}
+use Rattle.std.proofs.Common.{◌≡◌, ℕ, zero, suc, ◌+◌, ◌-◌, ◌*◌, ◌/◌, ◌<◌, ◌≤◌, Bool, true, false, List, [], ◌∷◌, ◌++◌, length, take, drop, replicate, Option, Some, None, Result, Ok, Err, refl, sym, ap, subst, ◌∙◌, arith, append_assoc, append-nil, ◌⊎◌, inl, inr}
 use Rattle.std.specs.Prelude.{◌==◌, ◌||◌, nat_lt, min, ◌↔◌, MatchResult}
 use Rattle.std.proofs.lemmas.Bool.Decides.{nat_tests}
 use Rattle.std.proofs.lemmas.Bool.{cases_lt}
-use Rattle.std.proofs.lemmas.Int.{ints}
 use Rattle.std.proofs.lemmas.Grind.{flat_map-append}
 use Rattle.std.proofs.lemmas.Result.{err_from_is_err_and}
 use Rattle.std.specs.Result.{IsErrAnd, IfErr}
@@ -16,69 +15,22 @@ use Rattle.per_bits.proofs.Octets.{octet_bits_of, length_octets_of, octets_of_bi
 use Rattle.per_bits.proofs.Places.{length_octet_bits, take_octets}
 use Rattle.per_types.specs.Kinds.{Element, bits_of, width}
 use Rattle.per_types.specs.Types.{Tree}
-use Rattle.per_types.specs.Spelling.{Elements, Spells, Canonical}
-use Rattle.per_types.specs.Stops.{Read, IsOnlyReading, HasValues, Takes, element_at}
-use Rattle.per_types.specs.Reading.{tree_at, format_at}
-use Rattle.per_types.proofs.Decided.{only_type}
+use Rattle.per_types.specs.Spelling.{Spells, Canonical}
+use Rattle.per_types.specs.Stops.{Read, Takes, element_at}
+use Rattle.per_types.specs.Reading.{format_at}
 use Rattle.per_types.proofs.Canonicals.{canonical_spells, one_canonical}
-use Rattle.msd_codec.specs.Module.{octet, timestamp, angle, angle_delta, vehicle_type, control_type, vehicle_identification, storages, propulsion_storage, vehicle_location, location_delta, msd_structure, additional_data, msd_message, ecall_message}
+use Rattle.msd_codec.specs.Formats.{module_of, SetElements}
 use Rattle.msd_codec.specs.Sets.{HasSize, Shows, ShowsTree, StopsAtPadding, StopsAtAppended, StopsAt, at_size, at_element, at_padding, at_appended, AreCanonical}
-use Rattle.msd_codec.specs.Reading.{rest_fault, pad_fault, appended_fault, pad_count, unless, finished, reading_of}
+use Rattle.msd_codec.specs.Reading.{rest_fault, pad_fault, appended_fault, pad_count, unless, set_at, finished, reading_of}
 use Rattle.msd_values.specs.declared.msd.Msd.{Msd}
 use Rattle.msd_values.specs.Description.{description}
 use Rattle.msd_codec.specs.Places.{MessageEnds, StandInPlace}
 use Rattle.msd_codec.specs.Trees.{tree}
 use Rattle.msd_codec.proofs.Values.{set_of}
 use Rattle.msd_codec.proofs.Alike.{AreAlike, are_alike, described}
-use Rattle.msd_codec.proofs.Steps.{ok_same, plain_is, required_err, format_err}
+use Rattle.msd_codec.proofs.Steps.{ok_same, set_err}
+use Rattle.msd_codec.proofs.BothFormats.{only_set}
 use Rattle.msd_codec.proofs.Rest.{pads_whole, pads_zero, pads_at, all_zero, FirstOne, first_one, appended_zero, appended_at, all_appended_zero, FirstSome, first_some, padding_refusal, appended_refusal}
-
-has_octet : HasValues octet
-unfolding octet
-has_octet = omega (arith, ints)
-
-has_timestamp : HasValues timestamp
-unfolding timestamp
-has_timestamp = omega (arith, ints)
-
-has_location : HasValues vehicle_location
-unfolding vehicle_location angle
-has_location = (omega (arith, ints), (omega (arith, ints), tt))
-
-has_delta : HasValues location_delta
-unfolding location_delta angle_delta
-has_delta = (omega (arith, ints), (omega (arith, ints), tt))
-
-has_control : HasValues control_type
-unfolding control_type vehicle_type
-has_control = (tt, (tt, (tt, (omega arith, tt))))
-
-has_identification : HasValues vehicle_identification
-unfolding vehicle_identification
-has_identification = (tt, (tt, (tt, (tt, tt))))
-
-has_storage : HasValues propulsion_storage
-unfolding propulsion_storage storages
-has_storage = (tt, (tt, (tt, (tt, (tt, (tt, (tt, tt)))))))
-
-has_structure : HasValues msd_structure
-unfolding msd_structure
-has_structure = (has_octet, (has_control, (has_identification, (has_storage, (has_timestamp, (has_location, (has_octet, (has_delta, (has_delta, (has_octet, tt))))))))))
-
-has_extra : HasValues additional_data
-unfolding additional_data
-has_extra = (tt, (tt, tt))
-
-has_message : HasValues msd_message
-unfolding msd_message
-has_message = (has_structure, (has_extra, tt))
-
-has_values : HasValues ecall_message
-unfolding ecall_message
-has_values = ((2, lit< tt, (0, lit< tt, refl)), (has_message, tt))
-
-only_set : IsOnlyReading (Elements false ecall_message) (tree_at ecall_message)
-only_set = only_type ecall_message has_values
 
 -- ---- the reading of octets
 
@@ -155,7 +107,7 @@ are_padded octets b rest small e none =
 
 -- ---- what is answered is so
 
-shown : (octets : List ℕ) (v : Tree) (es : List Element) (rest : List Bool) → AreOctets octets → HasSize octets → Elements false ecall_message v es → octet_bits octets ≡ bits_of es ++ rest
+shown : (octets : List ℕ) (v : Tree) (es : List Element) (rest : List Bool) → AreOctets octets → HasSize octets → SetElements v es → octet_bits octets ≡ bits_of es ++ rest
     → pad_fault (length (bits_of es)) (pads octets (bits_of es)) ≡ None → appended_fault (end_of (bits_of es)) (others octets (bits_of es)) ≡ None → ShowsTree octets v
 shown octets v es rest small size spelled e none no_others = record {
   size = size;
@@ -165,7 +117,7 @@ shown octets v es rest small size spelled e none no_others = record {
   made = are_padded octets (bits_of es) rest small e none ∙ ap (λ (l : List ℕ). padded (bits_of es) ++ l) (all_appended_zero (others octets (bits_of es)) (end_of (bits_of es)) no_others);
 }
 
-padding_stops : (octets : List ℕ) (v : Tree) (es : List Element) (rest : List Bool) (refusal : Refusal) → HasSize octets → Elements false ecall_message v es → octet_bits octets ≡ bits_of es ++ rest
+padding_stops : (octets : List ℕ) (v : Tree) (es : List Element) (rest : List Bool) (refusal : Refusal) → HasSize octets → SetElements v es → octet_bits octets ≡ bits_of es ++ rest
     → FirstOne (pads octets (bits_of es)) (length (bits_of es)) refusal → StopsAtPadding octets refusal
 padding_stops octets v es rest refusal size spelled e f =
     let b = bits_of es in
@@ -188,7 +140,7 @@ padding_stops octets v es rest refusal size spelled e f =
       refused = f.refused;
     }
 
-appended_stops : (octets : List ℕ) (v : Tree) (es : List Element) (rest : List Bool) (refusal : Refusal) → AreOctets octets → HasSize octets → Elements false ecall_message v es → octet_bits octets ≡ bits_of es ++ rest
+appended_stops : (octets : List ℕ) (v : Tree) (es : List Element) (rest : List Bool) (refusal : Refusal) → AreOctets octets → HasSize octets → SetElements v es → octet_bits octets ≡ bits_of es ++ rest
     → pad_fault (length (bits_of es)) (pads octets (bits_of es)) ≡ None → FirstSome (others octets (bits_of es)) (end_of (bits_of es)) refusal → StopsAtAppended octets refusal
 appended_stops octets v es rest refusal small size spelled e none f =
     let b = bits_of es in
@@ -207,7 +159,7 @@ appended_stops octets v es rest refusal small size spelled e none f =
     }
 
 -- behind a spelling
-after : (octets : List ℕ) (v : Tree) (es : List Element) (rest : List Bool) → AreOctets octets → HasSize octets → Elements false ecall_message v es → octet_bits octets ≡ bits_of es ++ rest → IsAnswer octets (unless (rest_fault octets (length (bits_of es))) v)
+after : (octets : List ℕ) (v : Tree) (es : List Element) (rest : List Bool) → AreOctets octets → HasSize octets → SetElements v es → octet_bits octets ≡ bits_of es ++ rest → IsAnswer octets (unless (rest_fault octets (length (bits_of es))) v)
 after octets v es rest small size spelled e =
     let b = bits_of es in
     let answered : Option Refusal → Type 0 = λ o. IsAnswer octets (unless o v) in
@@ -220,7 +172,7 @@ after octets v es rest small size spelled e =
           ] refl)
     ] refl
 
-finished_is : (octets : List ℕ) → AreOctets octets → HasSize octets → (r : Read Tree) → r ≡ tree_at ecall_message (all_bits octets) → IsAnswer octets (finished octets r)
+finished_is : (octets : List ℕ) → AreOctets octets → HasSize octets → (r : Read Tree) → r ≡ set_at (all_bits octets) → IsAnswer octets (finished octets r)
 finished_is octets small size (Ok x) e =
     let takes = (only_set (all_bits octets) (Ok x)).0 e in
     let there : length (bits_of takes.0) ≡ x.1.start = sym (ap (λ (p : Part). p.start) takes.3 ∙ (let none : 0 + length (bits_of takes.0) ≡ length (bits_of takes.0) = omega arith in none)) in
@@ -244,7 +196,7 @@ unsized : (n : ℕ) → (n ≡ 0) ⊎ (140 < n) → ((n == 0) || nat_lt 140 n) �
 unsized n (inl e) = grind (arith, nat_tests)
 unsized n (inr h) = grind (arith, nat_tests)
 
-pub read_sized : (octets : List ℕ) → HasSize octets → reading_of octets ≡ finished octets (tree_at ecall_message (all_bits octets))
+pub read_sized : (octets : List ℕ) → HasSize octets → reading_of octets ≡ finished octets (set_at (all_bits octets))
 unfolding reading_of
 read_sized octets size = rw (sized (length octets) size.0 size.1) refl
 
@@ -255,18 +207,18 @@ read_unsized octets h = rw (unsized (length octets) h) refl
 pub reading_is : (octets : List ℕ) → AreOctets octets → IsAnswer octets (reading_of octets)
 reading_is octets small =
     elim (size_known (length octets)) [
-      | inl size ↦ subst (IsAnswer octets) (sym (read_sized octets size)) (finished_is octets small size (tree_at ecall_message (all_bits octets)) refl)
+      | inl size ↦ subst (IsAnswer octets) (sym (read_sized octets size)) (finished_is octets small size (set_at (all_bits octets)) refl)
       | inr h ↦ subst (IsAnswer octets) (sym (read_unsized octets h)) (at_size (record { size = h; refused = refl }))
     ]
 
 -- ---- and nothing else is so
 
 -- octets that begin with a spelling are read as it and what follows
-pub read_spelled : (octets : List ℕ) (v : Tree) (b rest : List Bool) → HasSize octets → Spells ecall_message v b → octet_bits octets ≡ b ++ rest → reading_of octets ≡ unless (rest_fault octets (length b)) v
+pub read_spelled : (octets : List ℕ) (v : Tree) (b rest : List Bool) → HasSize octets → Spells (module_of v) v b → octet_bits octets ≡ b ++ rest → reading_of octets ≡ unless (rest_fault octets (length b)) v
 read_spelled octets v b rest size spells e =
     let es = spells.0 in
     let behind_it : drop (length (bits_of es)) (octet_bits octets) ≡ rest = ap (λ (l : List Bool). drop (length l) (octet_bits octets)) (sym spells.2) ∙ begins octets b rest e in
-    let takes : Takes (Elements false ecall_message) (all_bits octets) v (behind (all_bits octets) (length (bits_of es))) =
+    let takes : Takes (SetElements) (all_bits octets) v (behind (all_bits octets) (length (bits_of es))) =
     (es, spells.1, e ∙ ap (λ (l : List Bool). l ++ rest) spells.2 ∙ ap (λ (l : List Bool). bits_of es ++ l) (sym behind_it), refl) in
     let none : 0 + length (bits_of es) ≡ length b = omega (arith, ap length spells.2) in
     read_sized octets size
@@ -371,15 +323,15 @@ some_octet b h = omega (arith, padded_long b, pads_whole (length b))
 no_bits : Part
 no_bits = record { all = []; start = 0; bits = [] }
 
-no_format : (e : Refusal × Part) × (tree_at ecall_message no_bits ≡ Err e)
-unfolding ecall_message element_at width format_at no_bits
-no_format = (_, plain_is _ no_bits _ refl (required_err _ _ _ _ _ (format_err no_bits _ refl)))
+no_format : (e : Refusal × Part) × (set_at no_bits ≡ Err e)
+unfolding element_at width format_at no_bits
+no_format = (_, set_err no_bits _ refl)
 
-long_enough : (v : Tree) (b : List Bool) → Spells ecall_message v b → 1 ≤ length b
+long_enough : (v : Tree) (b : List Bool) → Spells (module_of v) v b → 1 ≤ length b
 unfolding no_bits
 long_enough v [] s =
     let nothing_left : drop (length (bits_of s.0)) [] ≡ [] = ap (λ (l : List Bool). drop (length l) []) (sym s.2) in
-    let takes : Takes (Elements false ecall_message) no_bits v (behind no_bits (length (bits_of s.0))) =
+    let takes : Takes (SetElements) no_bits v (behind no_bits (length (bits_of s.0))) =
     (s.0, s.1, s.2 ∙ sym (append-nil (bits_of s.0)) ∙ ap (λ (l : List Bool). bits_of s.0 ++ l) (sym nothing_left), refl) in
     let e = (only_set no_bits (Ok (v, behind no_bits (length (bits_of s.0))))).1 takes ∙ no_format.1 in
     absurd (cc e)
@@ -387,7 +339,7 @@ long_enough v (x ∷ b) s = omega arith
 
 pub canonical_shows : (octets : List ℕ) (v : Tree) → AreCanonical octets v → length octets ≤ 140 → ShowsTree octets v
 canonical_shows octets v c few =
-    let spells = canonical_spells ecall_message v c.spelling c.canonical in
+    let spells = canonical_spells (module_of v) v c.spelling c.canonical in
     record {
       size = (subst (λ (l : List ℕ). 1 ≤ length l) (sym c.made) (some_octet c.spelling (long_enough v c.spelling spells)), few);
       spelling = c.spelling;
@@ -401,12 +353,12 @@ pub read_again : (octets : List ℕ) (v w : Tree) → AreCanonical octets v → 
 read_again octets v w c s = one_shown octets w v s (canonical_shows octets v c s.size.1)
 
 -- two spellings that begin the same bits are one
-spelled_once : (v w : Tree) (b c x y : List Bool) → Spells ecall_message v b → Spells ecall_message w c → b ++ x ≡ c ++ y → v ≡ w
+spelled_once : (v w : Tree) (b c x y : List Bool) → Spells (module_of v) v b → Spells (module_of w) w c → b ++ x ≡ c ++ y → v ≡ w
 spelled_once v w b c x y sb sc e =
     let all : Part = record { all = b ++ x; start = 0; bits = b ++ x } in
-    let first : Takes (Elements false ecall_message) all v (behind all (length (bits_of sb.0))) =
+    let first : Takes (SetElements) all v (behind all (length (bits_of sb.0))) =
     (sb.0, sb.1, ap (λ (l : List Bool). l ++ x) sb.2 ∙ ap (λ (l : List Bool). bits_of sb.0 ++ l) (sym (ap (λ (l : List Bool). drop (length (bits_of sb.0)) (l ++ x)) sb.2 ∙ drop_at (bits_of sb.0) x (length (bits_of sb.0)) refl)), refl) in
-    let second : Takes (Elements false ecall_message) all w (behind all (length (bits_of sc.0))) =
+    let second : Takes (SetElements) all w (behind all (length (bits_of sc.0))) =
     (sc.0, sc.1, e ∙ ap (λ (l : List Bool). l ++ y) sc.2 ∙ ap (λ (l : List Bool). bits_of sc.0 ++ l) (sym (ap (drop (length (bits_of sc.0))) (e ∙ ap (λ (l : List Bool). l ++ y) sc.2) ∙ drop_at (bits_of sc.0) y (length (bits_of sc.0)) refl)), refl) in
     let one = (only_set all (Ok (v, behind all (length (bits_of sb.0))))).1 first in
     let two = (only_set all (Ok (w, behind all (length (bits_of sc.0))))).1 second in
@@ -416,27 +368,27 @@ pub canonical_one : (v w : Tree) (o p : List ℕ) → AreCanonical o v → AreCa
 canonical_one v w o p c d = (same_value, same_octets)
   where
     same_octets : v ≡ w → o ≡ p
-    same_octets e = c.made ∙ ap padded (one_canonical ecall_message w c.spelling d.spelling (subst (λ (t : Tree). Canonical ecall_message t c.spelling) e c.canonical) d.canonical) ∙ sym d.made
+    same_octets e = c.made ∙ ap padded (one_canonical (module_of w) w c.spelling d.spelling (subst (λ (t : Tree). Canonical (module_of t) t c.spelling) e c.canonical) d.canonical) ∙ sym d.made
 
     same_value : o ≡ p → v ≡ w
-    same_value e = spelled_once v w c.spelling d.spelling (padding (length c.spelling)) (padding (length d.spelling)) (canonical_spells ecall_message v c.spelling c.canonical) (canonical_spells ecall_message w d.spelling d.canonical)
+    same_value e = spelled_once v w c.spelling d.spelling (padding (length c.spelling)) (padding (length d.spelling)) (canonical_spells (module_of v) v c.spelling c.canonical) (canonical_spells (module_of w) w d.spelling d.canonical)
         (sym (padded_bits c.spelling) ∙ ap octet_bits (sym c.made ∙ e ∙ d.made) ∙ padded_bits d.spelling)
 
 -- ---- what `decode` answers
 
 module _ (octets : List ℕ) (p : Part) (size : HasSize octets) (is : p ≡ all_bits octets) where
-  pub refused : (e : Refusal) (q : Part) → tree_at ecall_message p ≡ Err (e, q) → reading_of octets ≡ Err e
-  refused e q h = read_sized octets size ∙ ap (λ (x : Part). finished octets (tree_at ecall_message x)) (sym is) ∙ ap (finished octets) h
+  pub refused : (e : Refusal) (q : Part) → set_at p ≡ Err (e, q) → reading_of octets ≡ Err e
+  refused e q h = read_sized octets size ∙ ap (λ (x : Part). finished octets (set_at x)) (sym is) ∙ ap (finished octets) h
 
-  pub rest_refused : (e : Refusal) (q : Part) (v : Tree) (place : ℕ) → tree_at ecall_message p ≡ Ok (v, q) → place ≡ q.start → rest_fault octets place ≡ Some e → reading_of octets ≡ Err e
+  pub rest_refused : (e : Refusal) (q : Part) (v : Tree) (place : ℕ) → set_at p ≡ Ok (v, q) → place ≡ q.start → rest_fault octets place ≡ Some e → reading_of octets ≡ Err e
   rest_refused e q v place h there f =
-      read_sized octets size ∙ ap (λ (x : Part). finished octets (tree_at ecall_message x)) (sym is) ∙ ap (finished octets) h ∙ ap (λ n. unless (rest_fault octets n) v) (sym there) ∙ ap (λ o. unless o v) f
+      read_sized octets size ∙ ap (λ (x : Part). finished octets (set_at x)) (sym is) ∙ ap (finished octets) h ∙ ap (λ n. unless (rest_fault octets n) v) (sym there) ∙ ap (λ o. unless o v) f
 
-  pub passed : (q : Part) (v : Tree) (place : ℕ) → tree_at ecall_message p ≡ Ok (v, q) → place ≡ q.start → rest_fault octets place ≡ None → reading_of octets ≡ Ok v
+  pub passed : (q : Part) (v : Tree) (place : ℕ) → set_at p ≡ Ok (v, q) → place ≡ q.start → rest_fault octets place ≡ None → reading_of octets ≡ Ok v
   passed q v place h there f =
-      read_sized octets size ∙ ap (λ (x : Part). finished octets (tree_at ecall_message x)) (sym is) ∙ ap (finished octets) h ∙ ap (λ n. unless (rest_fault octets n) v) (sym there) ∙ ap (λ o. unless o v) f
+      read_sized octets size ∙ ap (λ (x : Part). finished octets (set_at x)) (sym is) ∙ ap (finished octets) h ∙ ap (λ n. unless (rest_fault octets n) v) (sym there) ∙ ap (λ o. unless o v) f
 
-  pub in_place : (q : Part) (msd : Msd) → tree_at ecall_message p ≡ Ok (tree msd, q) → MessageEnds msd q.start → StandInPlace (octet_bits octets) msd
+  pub in_place : (q : Part) (msd : Msd) → set_at p ≡ Ok (tree msd, q) → MessageEnds msd q.start → StandInPlace (octet_bits octets) msd
   in_place q msd h ends =
       let takes = (only_set p (Ok (tree msd, q))).0 (sym h) in
       let there : q.start ≡ length (bits_of takes.0) = ap (λ (x : Part). x.start) takes.3 ∙ ap (λ (x : Part). x.start + length (bits_of takes.0)) is ∙ omega arith in

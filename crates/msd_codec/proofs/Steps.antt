@@ -1,5 +1,5 @@
 -- How a type is read from the readings of its components, step by step, and that readers move on.
-use Rattle.std.proofs.Common.{◌≡◌, ℕ, ◌+◌, Bool, true, false, List, [], ◌∷◌, Option, Some, None, Result, Ok, Err, refl, sym, ap, ◌∙◌, arith, lit<, get_or}
+use Rattle.std.proofs.Common.{◌≡◌, ℕ, zero, suc, ◌+◌, Bool, true, false, List, [], ◌∷◌, Option, Some, None, Result, Ok, Err, refl, sym, ap, ◌∙◌, arith, lit<}
 use Rattle.std.specs.Result.{IsErrAnd, OnOk}
 use Rattle.std.specs.Prelude.{ℤ, pos, ◌≤ℤ◌}
 use Rattle.std.specs.List.{Contains}
@@ -15,8 +15,11 @@ use Rattle.per_types.specs.Stops.{Read, IsOnlyReading, HasValues, element_at}
 use Rattle.per_types.specs.Reading.{◌>>=◌, Gives, truth_at, truth_at, whole_at, format_at, extended_at, presence_at, more_at, tree_at, fields_at}
 use Rattle.per_types.proofs.Plans.{element_accepted, element_taken, next_ok}
 use Rattle.per_types.proofs.Decided.{only_type, only_presence, only_truth, only_whole, only_format}
+use Rattle.msd_codec.specs.Module.{octet, timestamp, control_type, vehicle_identification, propulsion_storage, vehicle_location, location_delta, msd_structure, known_formats, ecall_message}
+use Rattle.msd_codec.specs.Formats.{format_of}
+use Rattle.msd_codec.specs.Reading.{set_at}
+use Rattle.msd_values.specs.declared.format.Format.{Format}
 use Rattle.msd_values.specs.Format.{format_number}
-use Rattle.msd_codec.specs.Module.{octet, timestamp, control_type, vehicle_identification, propulsion_storage, vehicle_location, location_delta, msd_structure, known_formats}
 use Rattle.msd_codec.specs.Trees.{optional_field, pair_tree}
 use Rattle.msd_codec.specs.inner.Reading.{MovesOn}
 use Rattle.msd_codec.specs.inner.Reading.{default_at, optional_at}
@@ -133,7 +136,7 @@ with_more extended fields = fields >>= λ f. more_at extended f.1 >>= λ m. Ok (
 behind_none : (p : Part) → behind p 0 ≡ p
 behind_none p = ap (λ (s : ℕ). record { all = p.all; start = s; bits = p.bits }) (omega arith)
 
-no_presence : (p : Part) → presence_at 0 p ≡ Ok ([], p)
+pub no_presence : (p : Part) → presence_at 0 p ≡ Ok ([], p)
 unfolding presence_at width fault
 no_presence p = element_accepted (kind.presence 0) p [] p.bits (record { width = refl; sound = refl }) refl ∙ ap (λ (q : Part). Ok ([], q)) (behind_none p)
 
@@ -186,19 +189,31 @@ truth_moves r p q e = on_ok (λ v. v) r (truth_at p) p q (λ v h. moves TruthEle
 
 -- ---- the format
 
-pub only_two : (v : ℕ) → Contains known_formats v → v ≡ format_number
-only_two v (k, below, is) = sym is ∙ ap (λ n. get_or known_formats n v) (let zero_is : k ≡ 0 = omega arith in zero_is)
+-- a known number is that of its format
+pub known_number : (v : ℕ) → Contains known_formats v → format_number (format_of v) ≡ v
+known_number v (zero, below, is) = rw (← is) refl
+known_number v (suc zero, below, is) = rw (← is) refl
+known_number v (suc (suc k), below, is) = absurd (omega arith)
 
-pub format_tree : (p q : Part) (v : ℕ) → format_at known_formats p ≡ Ok (v, q) → Contains known_formats v → tree_at (format known_formats) p ≡ Ok (number (pos format_number), q)
+pub format_tree : (p q : Part) (v : ℕ) → format_at known_formats p ≡ Ok (v, q) → tree_at (format known_formats) p ≡ Ok (number (pos v), q)
 unfolding tree_at
-format_tree p q v e known = rw e (ap (λ (n : ℕ). Ok (number (pos n), q)) (only_two v known))
-
-pub format_err : (p : Part) (e : Refusal × Part) → format_at known_formats p ≡ Err e → tree_at (format known_formats) p ≡ Err e
-unfolding tree_at
-format_err p e h = rw h refl
+format_tree p q v e = rw e refl
 
 pub format_moves : (p q : Part) (v : ℕ) → format_at known_formats p ≡ Ok (v, q) → MovesOn p q
-format_moves p q v e = moves (FormatElements known_formats) (format_at known_formats) (only_format known_formats 2 (lit< tt) (0, lit< tt, refl)) p q v e
+format_moves p q v e = moves (FormatElements known_formats) (format_at known_formats) (only_format known_formats 1 (lit< tt) (0, lit< tt, refl)) p q v e
+
+-- the set is read by the module of its format
+pub set_is : (p q : Part) (v : ℕ) (f : Format) (r : Read Tree) → format_at known_formats p ≡ Ok (v, q) → f ≡ format_of v → tree_at (ecall_message f) p ≡ r → set_at p ≡ r
+unfolding set_at
+set_is p q v f r e is h = rw (e, ← is, h) refl
+
+-- a set of the format of a number that was read has this number in its tree
+pub set_same : (f : Format) (v : ℕ) (q : Part) (m : Tree) → Contains known_formats v → f ≡ format_of v → (let r : Read Tree = Ok (record_of (field (number (pos v)) (field m no_fields)) None, q) in r ≡ Ok (record_of (field (number (pos (format_number f))) (field m no_fields)) None, q))
+set_same f v q m known e = ap (λ (n : ℕ). Ok (record_of (field (number (pos n)) (field m no_fields)) None, q)) (sym (ap format_number e ∙ known_number v known))
+
+pub set_err : (p : Part) (e : Refusal × Part) → format_at known_formats p ≡ Err e → set_at p ≡ Err e
+unfolding set_at
+set_err p e h = rw h refl
 
 -- ---- numbers in pairs, and the structure
 
@@ -206,13 +221,13 @@ pub pair_is : (t : Ty) (p m q : Part) (a b x y : ℤ) → tree_at t p ≡ Ok (nu
 pair_is t p m q a b x y e h f g =
     plain_is _ _ _ refl (required_is _ _ _ _ _ _ _ e (required_is _ _ _ _ _ _ _ h (none_is _ _))) ∙ rw (f, g) refl
 
-pub structure_is : (p c1 c2 c3 c4 c5 c6 c7 c8 c9 c10 c11 c12 q : Part) (extended : Bool) (b1 b2 b3 : Bool) (message control vin storage time heading : Tree) (a b x y : ℤ) (before1 before2 passengers : Option Tree) (more : Option (List Member))
+pub structure_is : (k : Format) (p c1 c2 c3 c4 c5 c6 c7 c8 c9 c10 c11 c12 q : Part) (extended : Bool) (b1 b2 b3 : Bool) (message control vin storage time heading : Tree) (a b x y : ℤ) (before1 before2 passengers : Option Tree) (more : Option (List Member))
     → truth_at p ≡ Ok (extended, c1) → presence_at 3 c1 ≡ Ok (b1 ∷ b2 ∷ b3 ∷ [], c2) → tree_at octet c2 ≡ Ok (message, c3) → tree_at control_type c3 ≡ Ok (control, c4) → tree_at vehicle_identification c4 ≡ Ok (vin, c5)
-    → tree_at propulsion_storage c5 ≡ Ok (storage, c6) → tree_at timestamp c6 ≡ Ok (time, c7) → tree_at vehicle_location c7 ≡ Ok (pair_tree a b, c8) → tree_at octet c8 ≡ Ok (heading, c9)
+    → tree_at (propulsion_storage k) c5 ≡ Ok (storage, c6) → tree_at timestamp c6 ≡ Ok (time, c7) → tree_at vehicle_location c7 ≡ Ok (pair_tree a b, c8) → tree_at octet c8 ≡ Ok (heading, c9)
     → optional_at b1 location_delta c9 ≡ Ok (before1, c10) → optional_at b2 location_delta c10 ≡ Ok (before2, c11) → optional_at b3 octet c11 ≡ Ok (passengers, c12) → more_at extended c12 ≡ Ok (more, q) → x ≡ a → y ≡ b
-    → tree_at msd_structure p ≡ Ok (record_of (field message (field control (field vin (field storage (field time (field (pair_tree x y) (field heading (optional_field before1 (optional_field before2 (optional_field passengers no_fields)))))))))) more, q)
+    → tree_at (msd_structure k) p ≡ Ok (record_of (field message (field control (field vin (field storage (field time (field (pair_tree x y) (field heading (optional_field before1 (optional_field before2 (optional_field passengers no_fields)))))))))) more, q)
 unfolding msd_structure
-structure_is p c1 c2 c3 c4 c5 c6 c7 c8 c9 c10 c11 c12 q extended b1 b2 b3 message control vin storage time heading a b x y before1 before2 passengers more e0 e1 e2 e3 e4 e5 e6 e7 e8 e9 e10 e11 e12 f g =
+structure_is k p c1 c2 c3 c4 c5 c6 c7 c8 c9 c10 c11 c12 q extended b1 b2 b3 message control vin storage time heading a b x y before1 before2 passengers more e0 e1 e2 e3 e4 e5 e6 e7 e8 e9 e10 e11 e12 f g =
     marked_is _ _ _ _ _ _ _ _ refl e0 e1
     (required_is _ _ _ _ _ _ _ e2 (required_is _ _ _ _ _ _ _ e3 (required_is _ _ _ _ _ _ _ e4 (required_is _ _ _ _ _ _ _ e5 (required_is _ _ _ _ _ _ _ e6 (required_is _ _ _ _ _ _ _ e7 (required_is _ _ _ _ _ _ _ e8
     (optional_is _ _ _ _ _ _ _ _ e9 (optional_is _ _ _ _ _ _ _ _ e10 (optional_is _ _ _ _ _ _ _ _ e11 (none_is _ _)))))))))))

@@ -1,6 +1,6 @@
 -- Each value of the module's types is that of a set of data: its borrowed parts are made of the bits that
 -- spell them.
-use Rattle.std.proofs.Common.{◌≡◌, ℕ, zero, suc, Bool, true, false, List, [], ◌∷◌, ◌++◌, length, Option, Some, None, refl, sym, ap, ◌∙◌, arith}
+use Rattle.std.proofs.Common.{◌≡◌, ℕ, zero, suc, Bool, true, false, List, [], ◌∷◌, ◌++◌, length, Option, Some, None, refl, sym, ap, subst, ◌∙◌, arith}
 use Rattle.std.specs.Prelude.{ℤ, pos, negsuc, IfSome}
 use Rattle.std.specs.Option.{option_map}
 use Rattle.std.proofs.lemmas.Int.{ints}
@@ -17,10 +17,14 @@ use Rattle.msd_values.specs.declared.kind.VehicleKind.TheVariants.{Root, Added}
 use Rattle.msd_values.specs.declared.msd.Marks.{Marks}
 use Rattle.msd_values.specs.declared.msd.Extra.{Extra}
 use Rattle.msd_values.specs.declared.msd.Msd.{Msd}
-use Rattle.msd_values.specs.Format.{format_number}
-use Rattle.msd_codec.specs.Module.{octet, timestamp, angle, angle_delta, vehicle_type, control_type, vehicle_identification, storages, propulsion_storage, vehicle_location, location_delta, msd_structure, additional_data, msd_message, ecall_message, known_formats}
-use Rattle.msd_codec.specs.Trees.{count_tree, optional_field, more_of, kind_tree, control_tree, vin_tree, storage_tree, way_tree, extra_tree, structure_tree, message_tree, tree}
-use Rattle.msd_codec.proofs.Steps.{only_two}
+use Rattle.msd_codec.specs.Module.{octet, timestamp, angle, angle_delta, vehicle_type, control_type, vehicle_identification, other_storage, storages, propulsion_storage, vehicle_location, location_delta, msd_structure, additional_data, known_formats, msd_message, ecall_message}
+use Rattle.msd_codec.specs.Trees.{count_tree, optional_field, more_of, kind_tree, control_tree, vin_tree, other_field, storage_tree, way_tree, extra_tree, structure_tree, message_tree, tree}
+use Rattle.msd_codec.proofs.Steps.{known_number}
+use Rattle.msd_codec.specs.Formats.{format_in, module_of}
+use Rattle.msd_values.specs.Format.{format_number, HasMarks}
+use Rattle.msd_values.specs.declared.format.Format.{Format}
+use Rattle.msd_values.specs.declared.format.Format.TheVariants.{One, Two}
+use Rattle.std.specs.List.{Contains}
 use Rattle.msd_codec.proofs.Identification.{cut}
 
 -- ---- single elements
@@ -61,10 +65,11 @@ oid_with : (t : Tree) (es : List Element) → Elements false relative_oid t es �
 oid_with (bytes os) es s = (all_bits os, ap bytes (octets_of_bits os s.2))
 oid_with _ es s = absurd s
 
-format_with : (t : Tree) (es : List Element) → Elements false (format known_formats) t es → count_tree format_number ≡ t
-format_with (number (pos n)) es s = ap count_tree (sym (s.3 ∙ only_two _ s.2))
-format_with (number (negsuc n)) es s = absurd s
-format_with _ es s = absurd s
+-- the number of a format is that of the format which it names
+format_with : (t : Tree) (fs : Fields) (es : List Element) → Elements false (format known_formats) t es → count_tree (format_number (format_in (record_of (field t fs) None))) ≡ t
+format_with (number (pos n)) fs es s = ap count_tree (known_number n (subst (λ (k : ℕ). Contains known_formats k) (sym s.3) s.2))
+format_with (number (negsuc n)) fs es s = absurd s
+format_with _ fs es s = absurd s
 
 more_part : (more : Option (List Member)) (es : List Element) → MoreElements true more es → (o : Option Part) × (more_of o ≡ more)
 more_part None es s = (None, refl)
@@ -186,9 +191,6 @@ string_of t s = string_with t s.elements s.spelled
 oid_of : (t : Tree) → IsSpelled relative_oid t → (part : Part) × (bytes (octets_of part.bits) ≡ t)
 oid_of t s = oid_with t s.elements s.spelled
 
-format_of : (t : Tree) → IsSpelled (format known_formats) t → count_tree format_number ≡ t
-format_of t s = format_with t s.elements s.spelled
-
 -- ---- the module's types
 
 control_of : (t : Tree) → IsSpelled control_type t → (automatic test trusted : Bool) × (kind : VehicleKind) × (control_tree automatic test trusted kind ≡ t)
@@ -224,9 +226,14 @@ vin_of t s =
     let second = field_is (ap text parts.1 ∙ v.2) third ∙ b.is in
     (u.0 ++ (v.0 ++ (w.0 ++ x.0)), record_is (field_is (ap text parts.0 ∙ u.2) second ∙ a.is) (no_more _ _ whole_of.additions) ∙ whole_of.is)
 
-storage_of : (t : Tree) → IsSpelled propulsion_storage t → (fuel : Marks) × (more : Option Part) × (storage_tree fuel more ≡ t)
+-- the mark of other energies, which is not set in format 1
+other_of : (f : Format) (fs : Fields) → AreSpelled (other_storage f) fs → (other : Bool) × (other_field f other ≡ fs) × (f ≡ One → other ≡ false)
+other_of One fs s = (false, none_of s, λ e. refl)
+other_of Two fs s = let g = flagged_of s in (g.value, field_is refl (none_of g.more) ∙ g.is, λ e. absurd cc)
+
+storage_of : (form : Format) (t : Tree) → IsSpelled (propulsion_storage form) t → (fuel : Marks) × (more : Option Part) × (storage_tree form fuel more ≡ t) × HasMarks form fuel
 unfolding propulsion_storage storages
-storage_of t s =
+storage_of form t s =
     let whole_of = sequence_of s in
     let a = flagged_of whole_of.parts in
     let b = flagged_of a.more in
@@ -234,13 +241,12 @@ storage_of t s =
     let d = flagged_of c.more in
     let e = flagged_of d.more in
     let f = flagged_of e.more in
-    let g = flagged_of f.more in
+    let other = other_of form f.others f.more in
     let more = more_part whole_of.more whole_of.behind_it whole_of.additions in
-    let last = field_is refl (none_of g.more) ∙ g.is in
-    let later = field_is refl (field_is refl (field_is refl last ∙ f.is) ∙ e.is) ∙ d.is in
+    let later = field_is refl (field_is refl (field_is refl other.1 ∙ f.is) ∙ e.is) ∙ d.is in
     let fields = field_is refl (field_is refl (field_is refl later ∙ c.is) ∙ b.is) ∙ a.is in
-    let fuel : Marks = record { gasoline = a.value; diesel = b.value; natural_gas = c.value; propane = d.value; electric = e.value; hydrogen = f.value; other = g.value } in
-    (fuel, more.0, record_is fields more.1 ∙ whole_of.is)
+    let fuel : Marks = record { gasoline = a.value; diesel = b.value; natural_gas = c.value; propane = d.value; electric = e.value; hydrogen = f.value; other = other.0 } in
+    (fuel, more.0, record_is fields more.1 ∙ whole_of.is, other.2)
 
 pair_of : (low high : ℤ) (t : Tree) → IsSpelled (sequence false (required (integer low high) (required (integer low high) no_components))) t → (way : Way) × (way_tree way ≡ t)
 pair_of low high t s =
@@ -282,9 +288,9 @@ maybe_of : {X : Type 0} (t : Ty) (view : X → Tree) → ((v : Tree) → IsSpell
 maybe_of t view each None s = (None, refl)
 maybe_of t view each (Some v) s = let x = each v s in (Some x.0, ap (λ (y : Tree). Some y) x.1)
 
-structure_of : (extra : Option Extra) (message_more : Option Part) (t : Tree) → IsSpelled msd_structure t → (msd : Msd) × (structure_tree msd ≡ t) × (msd.extra ≡ extra) × (msd.message_more ≡ message_more)
+structure_of : (form : Format) (extra : Option Extra) (message_more : Option Part) (t : Tree) → IsSpelled (msd_structure form) t → (msd : Msd) × (structure_tree msd ≡ t) × (msd.extra ≡ extra) × (msd.message_more ≡ message_more) × (msd.format ≡ form)
 unfolding msd_structure
-structure_of extra message_more t s =
+structure_of form extra message_more t s =
     let whole_of = sequence_of s in
     let a = required_of whole_of.parts in
     let b = required_of a.more in
@@ -299,7 +305,7 @@ structure_of extra message_more t s =
     let message = octet_of a.value a.spelled in
     let control = control_of b.value b.spelled in
     let vin = vin_of c.value c.spelled in
-    let storage = storage_of d.value d.spelled in
+    let storage = storage_of form d.value d.spelled in
     let time = timestamp_of e.value e.spelled in
     let location = location_of f.value f.spelled in
     let heading = octet_of g.value g.spelled in
@@ -311,6 +317,7 @@ structure_of extra message_more t s =
     let later = field_is time.1 (field_is location.1 (field_is heading.1 options ∙ g.is) ∙ f.is) ∙ e.is in
     let fields = field_is message.1 (field_is control.4 (field_is vin.1 (field_is storage.2 later ∙ d.is) ∙ c.is) ∙ b.is) ∙ a.is in (
       record {
+        format = form;
         message = message.0;
         automatic = control.0;
         test = control.1;
@@ -318,6 +325,7 @@ structure_of extra message_more t s =
         kind = control.3;
         vin = vin.0;
         fuel = storage.0;
+        marks = storage.3;
         fuel_more = storage.1;
         time = time.0;
         latitude = location.0.latitude;
@@ -333,28 +341,32 @@ structure_of extra message_more t s =
       record_is fields more.1 ∙ whole_of.is,
       refl,
       refl,
+      refl,
     )
 
-message_of : (t : Tree) → IsSpelled msd_message t → (msd : Msd) × (message_tree msd ≡ t)
+message_of : (form : Format) (t : Tree) → IsSpelled (msd_message form) t → (msd : Msd) × (message_tree msd ≡ t) × (msd.format ≡ form)
 unfolding msd_message
-message_of t s =
+message_of form t s =
     let whole_of = sequence_of s in
     let a = required_of whole_of.parts in
     let b = optional_of a.more in
     let extra = maybe_of additional_data extra_tree extra_of b.value b.spelled in
     let more = more_part whole_of.more whole_of.behind_it whole_of.additions in
-    let msd = structure_of extra.0 more.0 a.value a.spelled in
+    let msd = structure_of form extra.0 more.0 a.value a.spelled in
     let further : option_map extra_tree msd.0.extra ≡ b.value = ap (λ (o : Option Extra). option_map extra_tree o) msd.2 ∙ extra.1 in
     let additions : more_of msd.0.message_more ≡ whole_of.more = ap (λ (o : Option Part). more_of o) msd.3 ∙ more.1 in
-    (msd.0, record_is (field_is msd.1 (optional_same further (none_of b.more) ∙ b.is) ∙ a.is) additions ∙ whole_of.is)
+    (msd.0, record_is (field_is msd.1 (optional_same further (none_of b.more) ∙ b.is) ∙ a.is) additions ∙ whole_of.is, msd.4)
 
--- each value of the module is a set of data
-pub set_of : (t : Tree) (es : List Element) → Elements false ecall_message t es → (msd : Msd) × (tree msd ≡ t)
+-- each value of a module with the number of its format is a set of data
+pub set_of : (t : Tree) (es : List Element) → Elements false (module_of t) t es → (msd : Msd) × (tree msd ≡ t)
 unfolding ecall_message
 set_of t es s =
-    let spelled : IsSpelled ecall_message t = record { elements = es; spelled = s } in
+    let spelled : IsSpelled (module_of t) t = record { elements = es; spelled = s } in
     let whole_of = sequence_of spelled in
     let a = required_of whole_of.parts in
     let b = required_of a.more in
-    let msd = message_of b.value b.spelled in
-    (msd.0, record_is (field_is (format_of a.value a.spelled) (field_is msd.1 (none_of b.more) ∙ b.is) ∙ a.is) (no_more _ _ whole_of.additions) ∙ whole_of.is)
+    let msd = message_of (format_in t) b.value b.spelled in
+    let rest = field_is msd.1 (none_of b.more) ∙ b.is in
+    let whole = record_is (field_is refl rest ∙ a.is) (no_more _ _ whole_of.additions) ∙ whole_of.is in
+    let id = ap (λ (v : Tree). count_tree (format_number (format_in v))) (sym whole) ∙ format_with a.value _ a.spelled.elements a.spelled.spelled in
+    (msd.0, record_is (field_is (ap (λ (f : Format). count_tree (format_number f)) msd.2 ∙ id) refl) refl ∙ whole)

@@ -13,7 +13,7 @@ use Rattle.per_bits.specs.Parts.{Member}
 use Rattle.per_types.specs.Kinds.{bits_of, alphabet, span, whole_width, root_width}
 use Rattle.per_types.specs.Types.{Tree, truth, number, text, bytes, root, added, record_of, Fields, no_fields, field, absent, Ty, boolean, integer, characters, octet_string, relative_oid, enumerated, format, sequence, Components, required, optional, default}
 use Rattle.per_types.specs.Spelling.{mark_elements, section_cut}
-use Rattle.msd_codec.specs.Module.{ecall_message}
+use Rattle.msd_codec.specs.Formats.{module_of}
 
 -- whether two records have the same additions, or neither has any
 abbrev pub same_additions : Option (List Member) → Option (List Member) → Bool
@@ -87,4 +87,4 @@ unfoldable mutual
 
 -- the canonical octets of a value of the module
 abbrev pub canonical_octets : Tree → List ℕ
-canonical_octets v = padded (canonical_bits ecall_message v)
+canonical_octets v = padded (canonical_bits (module_of v) v)

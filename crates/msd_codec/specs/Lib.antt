@@ -1,5 +1,6 @@
 pub mod Module
 pub mod Trees
+pub mod Formats
 pub mod Sets
 pub mod Places
 pub mod Canonical

@@ -1,8 +1,9 @@
--- The module of a minimum set of data in format 2, as a tree of types: this project's profile, after
+-- The module of a minimum set of data in each format, as a tree of types: this project's profile, after
 -- EN 15722, in the kinds of ITU-T X.691, unaligned variant. Cited by the definitions of which octets show a
 -- set, by the laws, and by every reader and writer of this crate.
 use Rattle.std.specs.Prelude.{ℕ, List, pos, neg_ℤ, true, false, [], ◌∷◌}
-use Rattle.msd_values.specs.Format.{format_number}
+use Rattle.msd_values.specs.declared.format.Format.{Format}
+use Rattle.msd_values.specs.declared.format.Format.TheVariants.{One, Two}
 use Rattle.per_types.specs.Types.{truth, Ty, boolean, integer, characters, octet_string, relative_oid, enumerated, format, sequence, Components, no_components, required, optional, default}
 
 -- a number from 0 to 255
@@ -43,19 +44,23 @@ vehicle_identification =
     (required (characters 1)
     (required (characters 7) no_components))))
 
+-- other energies, which format 1 has no mark for
+abbrev pub other_storage : Format → Components
+other_storage One = no_components
+other_storage Two = default boolean (truth false) no_components
+
 -- gasoline, diesel, compressed natural gas, liquid propane gas, electric, hydrogen, other
-unfoldable pub storages : Components
-storages =
+unfoldable pub storages : Format → Components
+storages f =
     default boolean (truth false)
     (default boolean (truth false)
     (default boolean (truth false)
     (default boolean (truth false)
     (default boolean (truth false)
-    (default boolean (truth false)
-    (default boolean (truth false) no_components))))))
+    (default boolean (truth false) (other_storage f))))))
 
-unfoldable pub propulsion_storage : Ty
-propulsion_storage = sequence true storages
+unfoldable pub propulsion_storage : Format → Ty
+propulsion_storage f = sequence true (storages f)
 
 -- latitude and longitude
 unfoldable pub vehicle_location : Ty
@@ -67,13 +72,13 @@ location_delta = sequence false (required angle_delta (required angle_delta no_c
 
 -- The message identifier, control, the vehicle's identification, what it stores for its propulsion, the
 -- timestamp, its location and direction, the two recent locations, and the number of passengers.
-unfoldable pub msd_structure : Ty
-msd_structure =
+unfoldable pub msd_structure : Format → Ty
+msd_structure f =
     sequence true
     (required octet
     (required control_type
     (required vehicle_identification
-    (required propulsion_storage
+    (required (propulsion_storage f)
     (required timestamp
     (required vehicle_location
     (required octet
@@ -84,13 +89,13 @@ msd_structure =
 unfoldable pub additional_data : Ty
 additional_data = sequence false (required relative_oid (required octet_string no_components))
 
-unfoldable pub msd_message : Ty
-msd_message = sequence true (required msd_structure (optional additional_data no_components))
+unfoldable pub msd_message : Format → Ty
+msd_message f = sequence true (required (msd_structure f) (optional additional_data no_components))
 
--- the numbers of the known formats, of which there is one
+-- the numbers of the formats
 abbrev pub known_formats : List ℕ
-known_formats = format_number ∷ []
+known_formats = 1 ∷ 2 ∷ []
 
--- the number of the format, and the message
-unfoldable pub ecall_message : Ty
-ecall_message = sequence false (required (format known_formats) (required msd_message no_components))
+-- the number of the format, of which 1 and 2 are known, and the message of this format
+unfoldable pub ecall_message : Format → Ty
+ecall_message f = sequence false (required (format known_formats) (required (msd_message f) no_components))

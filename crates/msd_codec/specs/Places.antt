@@ -4,10 +4,9 @@ use Rattle.std.specs.Prelude.{◌≡◌, ℕ, ◌+◌, ◌≤◌, Bool, false, L
 use Rattle.std.specs.Option.{option_to_list}
 use Rattle.per_bits.specs.Bits.{Part}
 use Rattle.per_types.specs.Kinds.{Element, bits_of}
-use Rattle.per_types.specs.Spelling.{Elements}
 use Rattle.msd_values.specs.declared.msd.Extra.{Extra}
 use Rattle.msd_values.specs.declared.msd.Msd.{Msd}
-use Rattle.msd_codec.specs.Module.{ecall_message}
+use Rattle.msd_codec.specs.Formats.{SetElements}
 use Rattle.msd_codec.specs.Trees.{tree}
 
 -- Parts of these bits between two places: each has the bits from its start on, and begins where the one
@@ -76,7 +75,7 @@ pub record MessageEnds (msd : Msd) (end : ℕ) : Type 0 where
 -- Each part stands at its place in the one spelling of the set that begins these bits: counted from its end.
 pub record StandInPlace (bits : List Bool) (msd : Msd) : Type 0 where
   pub elements : List Element
-  pub spelled : Elements false ecall_message (tree msd) elements
+  pub spelled : SetElements (tree msd) elements
   pub behind_it : List Bool
   pub begins : bits ≡ bits_of elements ++ behind_it
   pub ends : MessageEnds msd (length (bits_of elements))

@@ -3,13 +3,14 @@
 -- appended octets. The laws say that it answers a value exactly where octets show it, and a refusal exactly where
 -- they stop so. Cited by `decode` and `spelling_laws`.
 use Rattle.std.specs.Prelude.{ℕ, ◌+◌, ◌-◌, ◌/◌, ◌%◌, ◌==◌, ◌||◌, nat_lt, min, Bool, true, false, List, [], ◌∷◌, length, take, drop, Option, Some, None, Result, Ok, Err, if◌then◌else◌}
-use Rattle.per_bits.specs.Bits.{octet_bits, all_bits, room_octets}
+use Rattle.per_bits.specs.Bits.{Part, octet_bits, all_bits, room_octets}
 use Rattle.per_bits.specs.declared.refusals.Refusal.{Refusal}
 use Rattle.per_bits.specs.declared.refusals.Reason.TheVariants.{PadBits, Trailing, Size}
 use Rattle.per_types.specs.Types.{Tree}
 use Rattle.per_types.specs.Stops.{Read}
-use Rattle.per_types.specs.Reading.{tree_at}
-use Rattle.msd_codec.specs.Module.{ecall_message}
+use Rattle.per_types.specs.Reading.{◌>>=◌, format_at, tree_at}
+use Rattle.msd_codec.specs.Module.{known_formats, ecall_message}
+use Rattle.msd_codec.specs.Formats.{format_of}
 
 -- the first bit 1 of those that begin at this place
 abbrev pub pad_fault : ℕ → List Bool → Option Refusal
@@ -42,6 +43,10 @@ abbrev pub unless : {X : Type 0} → Option Refusal → X → Result X Refusal
 unless None v = Ok v
 unless (Some refusal) v = Err refusal
 
+-- the elements of the spelling, by the module of the format whose number stands first
+unfoldable pub set_at : Part → Read Tree
+set_at p = format_at known_formats p >>= λ id. tree_at (ecall_message (format_of id.0)) p
+
 -- the answer, once the elements of the spelling are read
 abbrev pub finished : List ℕ → Read Tree → Result Tree Refusal
 finished octets (Ok x) = unless (rest_fault octets x.1.start) x.0
@@ -52,4 +57,4 @@ unfoldable pub reading_of : List ℕ → Result Tree Refusal
 reading_of octets =
     if (length octets == 0) || nat_lt room_octets (length octets)
     then Err (record { place = 0; reason = Size; value = min 141 (length octets) })
-    else finished octets (tree_at ecall_message (all_bits octets))
+    else finished octets (set_at (all_bits octets))

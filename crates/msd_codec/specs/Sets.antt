@@ -8,10 +8,10 @@ use Rattle.per_bits.specs.Bits.{Part, octet_bits, padding, padded, all_bits, roo
 use Rattle.per_bits.specs.declared.refusals.Refusal.{Refusal}
 use Rattle.per_bits.specs.declared.refusals.Reason.TheVariants.{PadBits, Trailing, Size}
 use Rattle.per_types.specs.Types.{Tree}
-use Rattle.per_types.specs.Spelling.{Elements, Spells, Canonical}
+use Rattle.per_types.specs.Spelling.{Spells, Canonical}
 use Rattle.per_types.specs.Stops.{Stops}
 use Rattle.msd_values.specs.declared.msd.Msd.{Msd}
-use Rattle.msd_codec.specs.Module.{ecall_message}
+use Rattle.msd_codec.specs.Formats.{module_of, SetElements}
 use Rattle.msd_codec.specs.Trees.{tree}
 
 abbrev pub HasSize : List ℕ → Type 0
@@ -21,7 +21,7 @@ HasSize octets = (1 ≤ length octets) × (length octets ≤ room_octets)
 pub record ShowsTree (octets : List ℕ) (v : Tree) : Type 0 where
   pub size : HasSize octets
   pub spelling : List Bool
-  pub spells : Spells ecall_message v spelling
+  pub spells : Spells (module_of v) v spelling
   pub appended : ℕ
   pub made : octets ≡ padded spelling ++ replicate appended 0
 
@@ -38,14 +38,14 @@ pub record StopsAtSize (octets : List ℕ) (refusal : Refusal) : Type 0 where
 pub record StopsAtElement (octets : List ℕ) (refusal : Refusal) : Type 0 where
   pub size : HasSize octets
   pub left : Part
-  pub stops : Stops (Elements false ecall_message) (all_bits octets) refusal left
+  pub stops : Stops SetElements (all_bits octets) refusal left
 
 -- behind a spelling the first bit 1 is one of those that pad
 pub record StopsAtPadding (octets : List ℕ) (refusal : Refusal) : Type 0 where
   pub size : HasSize octets
   pub value : Tree
   pub spelling : List Bool
-  pub spells : Spells ecall_message value spelling
+  pub spells : Spells (module_of value) value spelling
   pub zeros : ℕ
   pub pads : zeros < length (padding (length spelling))
   pub rest : List Bool
@@ -57,7 +57,7 @@ pub record StopsAtAppended (octets : List ℕ) (refusal : Refusal) : Type 0 wher
   pub size : HasSize octets
   pub value : Tree
   pub spelling : List Bool
-  pub spells : Spells ecall_message value spelling
+  pub spells : Spells (module_of value) value spelling
   pub zeros : ℕ
   pub octet : ℕ
   pub rest : List ℕ
@@ -75,12 +75,12 @@ pub data StopsAt (octets : List ℕ) (refusal : Refusal) : Type 0 where
 -- the octets are the padded bits of the canonical spelling of the value
 pub record AreCanonical (octets : List ℕ) (v : Tree) : Type 0 where
   pub spelling : List Bool
-  pub canonical : Canonical ecall_message v spelling
+  pub canonical : Canonical (module_of v) v spelling
   pub made : octets ≡ padded spelling
 
 -- the canonical spelling of the value has so many bits, which are more than 140 octets have
 pub record NeedsMoreBits (v : Tree) (bits : ℕ) : Type 0 where
   pub spelling : List Bool
-  pub canonical : Canonical ecall_message v spelling
+  pub canonical : Canonical (module_of v) v spelling
   pub long : room_bits < length spelling
   pub count : bits ≡ length spelling

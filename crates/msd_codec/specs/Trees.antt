@@ -1,4 +1,4 @@
--- The value trees of a set of data: what its fields are in the module of format 2, after EN 15722. The
+-- The value trees of a set of data: what its fields are in the module of its format, after EN 15722. The
 -- identification number is cut behind 3, 6 and 1 characters and stands in the tree whole, a root of the
 -- vehicle's type counts from 0, and a borrowed part is read as its octets or its additions. Cited by the
 -- definitions of which octets show a set and which are the canonical ones, and by each reader and writer.
@@ -9,6 +9,8 @@ use Rattle.per_bits.specs.Parts.{Member, members_of}
 use Rattle.per_types.specs.Types.{Tree, truth, number, text, bytes, root, added, record_of, Fields, no_fields, field, absent}
 use Rattle.msd_values.specs.Format.{format_number}
 use Rattle.msd_values.specs.Position.{Way}
+use Rattle.msd_values.specs.declared.format.Format.{Format}
+use Rattle.msd_values.specs.declared.format.Format.TheVariants.{One, Two}
 use Rattle.msd_values.specs.declared.kind.VehicleKind.{VehicleKind}
 use Rattle.msd_values.specs.declared.kind.VehicleKind.TheVariants.{Root, Added}
 use Rattle.msd_values.specs.declared.msd.Marks.{Marks}
@@ -52,18 +54,23 @@ vin_tree vin =
     (field (text (drop 10 vin)) no_fields))))
     None
 
-abbrev pub marks_fields : Marks → Fields
-marks_fields fuel =
+-- the mark of other energies, which format 1 doesn't have
+abbrev pub other_field : Format → Bool → Fields
+other_field One other = no_fields
+other_field Two other = field (truth other) no_fields
+
+abbrev pub marks_fields : Format → Marks → Fields
+marks_fields f fuel =
     field (truth fuel.gasoline)
     (field (truth fuel.diesel)
     (field (truth fuel.natural_gas)
     (field (truth fuel.propane)
     (field (truth fuel.electric)
     (field (truth fuel.hydrogen)
-    (field (truth fuel.other) no_fields))))))
+    (other_field f fuel.other))))))
 
-abbrev pub storage_tree : Marks → Option Part → Tree
-storage_tree fuel more = record_of (marks_fields fuel) (more_of more)
+abbrev pub storage_tree : Format → Marks → Option Part → Tree
+storage_tree f fuel more = record_of (marks_fields f fuel) (more_of more)
 
 abbrev pub pair_tree : ℤ → ℤ → Tree
 pair_tree latitude longitude = record_of (field (number latitude) (field (number longitude) no_fields)) None
@@ -84,7 +91,7 @@ structure_tree msd =
     (field (count_tree msd.message)
     (field (control_tree msd.automatic msd.test msd.trusted msd.kind)
     (field (vin_tree msd.vin)
-    (field (storage_tree msd.fuel msd.fuel_more)
+    (field (storage_tree msd.format msd.fuel msd.fuel_more)
     (field (count_tree msd.time)
     (field (pair_tree msd.latitude msd.longitude)
     (field (count_tree msd.heading)
@@ -100,9 +107,9 @@ message_tree msd =
     (optional_field (option_map extra_tree msd.extra) no_fields))
     (more_of msd.message_more)
 
--- the value tree of a set, in the known format
+-- the value tree of a set, which begins with the number of its format
 abbrev pub tree : Msd → Tree
-tree msd = record_of (field (count_tree format_number) (field (message_tree msd) no_fields)) None
+tree msd = record_of (field (count_tree (format_number msd.format)) (field (message_tree msd) no_fields)) None
 
 -- the set has no part of variable length: no additional data, and no additions
 pub record IsPlain (msd : Msd) : Type 0 where

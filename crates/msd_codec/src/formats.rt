@@ -1,5 +1,4 @@
 //! The formats by which sets of data are read and written.
-use msd_values::FORMAT;
 
-/// The numbers of the known formats, of which there is one.
-pub const FORMATS: [u8; 1] = [FORMAT];
+/// The numbers of the known formats.
+pub const FORMATS: [u8; 2] = [1, 2];

@@ -8,16 +8,19 @@ ghost use Rattle.per_types.specs.Spelling.{Spells, Canonical};
 ghost use Rattle.msd_values.specs.declared.msd.Msd.{Msd};
 ghost use Rattle.msd_values.specs.Description.{description};
 ghost use Rattle.msd_codec.specs.Module.{ecall_message};
+ghost use Rattle.msd_codec.specs.Formats.{module_of};
 ghost use Rattle.msd_codec.specs.Trees.{tree};
 ghost use Rattle.msd_codec.specs.Canonical.{canonical_bits, canonical_octets};
 ghost use Rattle.msd_codec.specs.Reading.{reading_of};
 ghost use Rattle.msd_codec.specs.Sets.{Shows, ShowsTree, StopsAt, AreCanonical};
 
-/// The laws of the sets of format 2. Values are trees of the module; that of a set of data is `tree` of it.
+/// The laws of the sets of both formats. Values are trees of the modules; that of a set of data is `tree` of it.
 pub fn spelling_laws()
-    // No spelling of the module begins another one, and each stands for one value.
-    ensures no_prefix { (v w : Tree) (b c tail : List Bool) → Spells ecall_message v b → Spells ecall_message w c → c ≡ b ++ tail → tail ≡ [] }
-    ensures one_value { (v w : Tree) (b : List Bool) → Spells ecall_message v b → Spells ecall_message w b → v ≡ w }
+    // The module by which a set of data is spelled is that of its format.
+    ensures module { (msd : Msd) → module_of (tree msd) ≡ ecall_message msd.format }
+    // No spelling of a module begins another one of either, and each stands for one value.
+    ensures no_prefix { (v w : Tree) (b c tail : List Bool) → Spells (module_of v) v b → Spells (module_of w) w c → c ≡ b ++ tail → tail ≡ [] }
+    ensures one_value { (v w : Tree) (b : List Bool) → Spells (module_of v) v b → Spells (module_of w) w b → v ≡ w }
     // Octets show one value at most, and stop in one way at most.
     ensures one_shown { (octets : List ℕ) (v w : Tree) → ShowsTree octets v → ShowsTree octets w → v ≡ w }
     ensures one_stop { (octets : List ℕ) (r s : Refusal) → StopsAt octets r → StopsAt octets s → r ≡ s }

@@ -1,4 +1,4 @@
-//! The set of data of format 2, read and written: octets by this project's profile of ITU-T X.691,
+//! The set of data of formats 1 and 2, read and written: octets by this project's profile of ITU-T X.691,
 //! unaligned variant, values after EN 15722.
 #![tactic(auto)]
 

@@ -32,7 +32,7 @@ pub fn encode(msd: &Msd<'_>) -> Result<ArrayVec<u8, 140>, TooLong>
     ensures few { IfOk result (λ octets. length octets.items ≤ room_octets) }
     // Which octets these are, and how many bits the spelling has.
     ensures octets { IfOk result (λ octets. octets.items ≡ canonical_octets (tree msd.now)) }
-    ensures bits { IfErr result (λ e. (e.bits ≡ length (canonical_bits ecall_message (tree msd.now))) × (room_bits < e.bits)) }
+    ensures bits { IfErr result (λ e. (e.bits ≡ length (canonical_bits (ecall_message msd.now.format) (tree msd.now))) × (room_bits < e.bits)) }
     ensures long { IfErr result (λ e. NeedsMoreBits (tree msd.now) e.bits) }
 {
     let mut to = BitBuf::new();
@@ -48,7 +48,7 @@ pub fn encode(msd: &Msd<'_>) -> Result<ArrayVec<u8, 140>, TooLong>
 
 /// How many bits the canonical spelling of the set has.
 pub fn encoded_bits(msd: &Msd<'_>) -> u32
-    ensures bits { result ≡ length (canonical_bits ecall_message (tree msd.now)) }
+    ensures bits { result ≡ length (canonical_bits (ecall_message msd.now.format) (tree msd.now)) }
     // Without parts of variable length there are few.
     ensures few { IsPlain msd.now → result ≤ 302 }
 {

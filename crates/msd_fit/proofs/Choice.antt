@@ -10,8 +10,11 @@ use Rattle.per_bits.specs.Bits.{padding, padded, room_bits, room_octets}
 use Rattle.per_bits.proofs.Octets.{length_octets_of}
 use Rattle.msd_values.specs.declared.msd.Extra.{Extra}
 use Rattle.msd_values.specs.declared.msd.Msd.{Msd}
+use Rattle.msd_values.specs.declared.format.Format.{Format}
+use Rattle.msd_codec.proofs.BothFormats.{module_is}
 use Rattle.msd_codec.specs.Module.{ecall_message}
-use Rattle.msd_codec.specs.Trees.{IsPlain, tree}
+use Rattle.per_types.specs.Types.{Tree, record_of, no_fields, field}
+use Rattle.msd_codec.specs.Trees.{IsPlain, extra_tree, optional_field, tree}
 use Rattle.msd_codec.specs.Sets.{AreCanonical}
 use Rattle.msd_codec.specs.Canonical.{canonical_bits}
 use Rattle.msd_fit.specs.Candidates.{AdditionalData}
@@ -41,9 +44,16 @@ room_left len extra few = grind (arith, nat_tests)
 
 -- ---- the choice
 
+octets_long :
+    (facts : OwnFacts) (cause : Cause) (n : ℕ) (extra : Option AdditionalData)
+    → length (octets_with facts cause n extra) ≡ (set_bits facts cause n extra + 7) / 8
+octets_long facts cause n extra =
+    ap (λ t. length (padded (canonical_bits t (tree (set_with facts cause n extra))))) (module_is (set_with facts cause n extra))
+    ∙ padded_long (canonical_bits (ecall_message facts.format) (tree (set_with facts cause n extra)))
+
 test_same : (facts : OwnFacts) (cause : Cause) (n : ℕ) (extra : AdditionalData) → set_bits facts cause n None ≤ 1120 → nat_le (length (octets_with facts cause n (Some extra))) room_octets ≡ nat_le (data_bits extra) (room_bits - set_bits facts cause n None)
 test_same facts cause n extra few =
-    test_of_bits _ _ _ (padded_long (canonical_bits ecall_message (tree (set_with facts cause n (Some extra))))) (data_added facts cause n extra)
+    test_of_bits _ _ _ (octets_long facts cause n (Some extra)) (data_added facts cause n extra)
     ∙ room_left (set_bits facts cause n None) (data_bits extra) few
 
 found_same : {X : Type 0} (p q : X → Bool) → ((x : X) → p x ≡ q x) → (xs : List X) → find p xs ≡ find q xs
@@ -58,23 +68,28 @@ pub record Found (facts : OwnFacts) (cause : Cause) (n len room : ℕ) (found : 
 
 pub found_is :
     (facts : OwnFacts) (cause : Cause) (n : ℕ) (plain : Msd) (len room : ℕ) (candidates : List AdditionalData) (found : Option AdditionalData)
-    → plain ≡ set_with facts cause n None → len ≡ length (canonical_bits ecall_message (tree plain)) → (IsPlain plain → len ≤ 302)
+    → tree plain ≡ tree (set_with facts cause n None) → plain.format ≡ facts.format → IsPlain plain
+    → len ≡ length (canonical_bits (ecall_message plain.format) (tree plain)) → (IsPlain plain → len ≤ 302)
     → room ≡ 1120 - len → candidates ≡ facts.extras.items → found ≡ find (λ extra. nat_le (data_bits extra) room) candidates
     → Found facts cause n len room found
-found_is facts cause n plain len room candidates found same count few left all first =
-    let nothing : IsPlain (set_with facts cause n None) = record { fuel_more = refl; set_more = refl; extra = refl; message_more = refl } in
-    let within : len ≤ 302 = few (subst IsPlain (sym same) nothing) in
+found_is facts cause n plain len room candidates found same form nothing count few left all first =
     record {
-      counted = count ∙ ap (λ msd. length (canonical_bits ecall_message (tree msd))) same;
-      few = omega (arith, within);
+      counted = count ∙ ap (λ f. length (canonical_bits (ecall_message f) (tree plain))) form ∙ ap (λ t. length (canonical_bits (ecall_message facts.format) t)) same;
+      few = omega (arith, few nothing);
       left = left;
       first = first ∙ ap (find (λ extra. nat_le (data_bits extra) room)) all;
     }
 
--- the set with the candidate's octets put into it
-abbrev with_extra : Msd → Option Extra → Msd
+-- the tree of a set with this additional data put into it
+abbrev tree_with : Tree → Option Tree → Tree
+tree_with (record_of (field id (field (record_of (field s old) more) none)) rest) extra =
+    record_of (field id (field (record_of (field s (optional_field extra no_fields)) more) none)) rest
+tree_with v extra = v
+
+abbrev pub with_extra : Msd → Option Extra → Msd
 with_extra msd extra =
     record {
+      format = msd.format;
       message = msd.message;
       automatic = msd.automatic;
       test = msd.test;
@@ -82,6 +97,7 @@ with_extra msd extra =
       kind = msd.kind;
       vin = msd.vin;
       fuel = msd.fuel;
+      marks = msd.marks;
       fuel_more = msd.fuel_more;
       time = msd.time;
       latitude = msd.latitude;
@@ -97,8 +113,11 @@ with_extra msd extra =
 
 pub put_in :
     (facts : OwnFacts) (cause : Cause) (n : ℕ) (plain : Msd) (extra : Option Extra) (found : Option AdditionalData)
-    → plain ≡ set_with facts cause n None → extra ≡ option_map extra_of found → with_extra plain extra ≡ set_with facts cause n found
-put_in facts cause n plain extra found same e = ap (λ msd. with_extra msd extra) same ∙ ap (with_extra (set_with facts cause n None)) e
+    → tree plain ≡ tree (set_with facts cause n None) → extra ≡ option_map extra_of found
+    → tree (with_extra plain extra) ≡ tree (set_with facts cause n found)
+put_in facts cause n plain extra found same e =
+    ap (λ v. tree_with v (option_map extra_tree extra)) same
+    ∙ ap (λ o. tree_with (tree (set_with facts cause n None)) (option_map extra_tree o)) e
 
 -- it is the candidate that the definition chooses
 choice_is :
@@ -111,9 +130,9 @@ choice_is {facts} {cause} {n} h =
 
 -- so the set is the one that fits
 pub set_is :
-    {facts : OwnFacts} {cause : Cause} {n len room : ℕ} {found : Option AdditionalData} (msd : Msd)
-    → Found facts cause n len room found → msd ≡ set_with facts cause n found → msd ≡ fitting facts cause n
-set_is {facts} {cause} {n} msd h e = e ∙ ap (set_with facts cause n) (choice_is h)
+    {facts : OwnFacts} {cause : Cause} {n len room : ℕ} {found : Option AdditionalData} (v : Tree)
+    → Found facts cause n len room found → v ≡ tree (set_with facts cause n found) → v ≡ tree (fitting facts cause n)
+set_is {facts} {cause} {n} v h e = e ∙ ap (λ extra. tree (set_with facts cause n extra)) (choice_is h)
 
 -- ---- it has room
 
@@ -126,7 +145,7 @@ within facts cause n room (x ∷ xs) few =
 
 has_room :
     {facts : OwnFacts} {cause : Cause} {n len room : ℕ} {found : Option AdditionalData}
-    → Found facts cause n len room found → length (canonical_bits ecall_message (tree (set_with facts cause n found))) ≤ room_bits
+    → Found facts cause n len room found → set_bits facts cause n found ≤ room_bits
 has_room {facts} {cause} {n} {len} {room} h =
     let P : Option AdditionalData → Type 0 = λ o. set_bits facts cause n o ≤ 1120 in
     subst P (sym h.first) (within facts cause n room facts.extras.items (omega (arith, h.counted, h.few, h.left)))
@@ -134,11 +153,11 @@ has_room {facts} {cause} {n} {len} {room} h =
 -- and it is written
 pub is_written :
     {A E : Type 0} {facts : OwnFacts} {cause : Cause} {n len room : ℕ} {found : Option AdditionalData} (bits : E → ℕ) (msd : Msd) (r : Result A E)
-    → Found facts cause n len room found → msd ≡ set_with facts cause n found
-    → IfErr r (λ e. (bits e ≡ length (canonical_bits ecall_message (tree msd))) × (room_bits < bits e)) → IsOk r
-is_written bits msd (Ok x) h same long = refl
-is_written bits msd (Err e) h same long =
-    absurd (omega (arith, has_room h, long.0, long.1, ap (λ s. length (canonical_bits ecall_message (tree s))) same))
+    → Found facts cause n len room found → tree msd ≡ tree (set_with facts cause n found) → msd.format ≡ facts.format
+    → IfErr r (λ e. (bits e ≡ length (canonical_bits (ecall_message msd.format) (tree msd))) × (room_bits < bits e)) → IsOk r
+is_written bits msd (Ok x) h same form long = refl
+is_written {A} {E} {facts} bits msd (Err e) h same form long =
+    absurd (omega (arith, has_room h, long.0, long.1, ap (λ f. length (canonical_bits (ecall_message f) (tree msd))) form, ap (λ t. length (canonical_bits (ecall_message facts.format) t)) same))
 
 -- ---- what `make` does
 

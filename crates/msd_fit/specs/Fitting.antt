@@ -2,10 +2,14 @@
 -- those of EN 16072; which additional data is put into it, that a set has at most 140 octets, and the octets 0 behind
 -- it are this project's profile. Cited by `spell` and `make`.
 use Rattle.std.specs.Prelude.{◌≡◌, ℕ, ◌-◌, nat_le, Bool, true, false, List, ◌++◌, length, replicate, Option, Some, None}
+use Rattle.std.proofs.Common.{ap}
 use Rattle.std.specs.List.{find}
 use Rattle.std.specs.Option.{option_map}
 use Rattle.per_bits.specs.Bits.{all_bits, room_octets}
 use Rattle.per_types.specs.Types.{Tree}
+use Rattle.msd_values.specs.declared.format.Format.{Format}
+use Rattle.msd_values.specs.declared.format.Format.TheVariants.{One, Two}
+use Rattle.msd_values.specs.declared.msd.Marks.{Marks}
 use Rattle.msd_values.specs.declared.kind.VehicleKind.TheVariants.{Root}
 use Rattle.msd_values.specs.declared.msd.Extra.{Extra}
 use Rattle.msd_values.specs.declared.msd.Msd.{Msd}
@@ -34,17 +38,36 @@ is_test Test = true
 abbrev pub extra_of : AdditionalData → Extra
 extra_of extra = record { oid = all_bits extra.oid; content = all_bits extra.content }
 
+-- the marks that a set of the format has: in format 1 not that of other energies
+abbrev pub other_of : Format → Bool → Bool
+other_of One other = false
+other_of Two other = other
+
+abbrev pub marks_of : Format → Marks → Marks
+marks_of f fuel =
+    record {
+      gasoline = fuel.gasoline;
+      diesel = fuel.diesel;
+      natural_gas = fuel.natural_gas;
+      propane = fuel.propane;
+      electric = fuel.electric;
+      hydrogen = fuel.hydrogen;
+      other = other_of f fuel.other;
+    }
+
 -- the set with the values of the facts, this message number and this additional data, and without additions
 abbrev pub set_with : OwnFacts → Cause → ℕ → Option AdditionalData → Msd
 set_with facts cause number extra =
     record {
+      format = facts.format;
       message = number;
       automatic = is_automatic cause;
       test = is_test cause;
       trusted = facts.trusted;
       kind = Root facts.kind;
       vin = facts.vin;
-      fuel = facts.fuel;
+      fuel = marks_of facts.format facts.fuel;
+      marks = λ e. ap (λ f. other_of f facts.fuel.other) e;
       fuel_more = None;
       time = facts.time;
       latitude = facts.latitude;

@@ -1,7 +1,7 @@
 //! What the vehicle knows of itself.
 use crate::candidate::Candidate;
 use arrayvec::ArrayVec;
-use msd_values::{Delta, Marks, RootKind, Vin};
+use msd_values::{Delta, Format, Marks, RootKind, Vin};
 
 /// How many candidates of additional data the facts have at most.
 pub const MOST_CANDIDATES: usize = 4;
@@ -9,8 +9,11 @@ pub const MOST_CANDIDATES: usize = 4;
 /// What the vehicle knows of itself, in the units of its set of data.
 #[derive(Clone, Debug, PartialEq, Eq, Drop)]
 pub struct OwnFacts {
+    /// The format of the sets.
+    pub format: Format,
     pub vin: Vin,
     pub kind: RootKind,
+    /// In format 1 the mark of other energies is not written.
     pub fuel: Marks,
     /// Seconds since 1970-01-01T00:00:00Z.
     pub time: u32,

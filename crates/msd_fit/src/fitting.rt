@@ -3,12 +3,13 @@ ghost use Rattle.std.specs.Prelude.{◌≡◌, ◌+◌, ◌≤◌, nat_le, None,
 ghost use Rattle.std.specs.List.{find};
 ghost use Rattle.std.specs.Option.{option_map};
 ghost use Rattle.per_bits.specs.Bits.{room_bits, room_octets};
-ghost use Rattle.msd_codec.specs.Trees.{tree};
+ghost use Rattle.msd_values.specs.Format.{HasMarks};
+ghost use Rattle.msd_codec.specs.Trees.{IsPlain, tree};
 ghost use Rattle.msd_codec.specs.Sets.{AreCanonical};
 ghost use Rattle.msd_fit.specs.declared.facts.OwnFacts.{OwnFacts};
 ghost use Rattle.msd_fit.specs.declared.facts.Facts.TheVariants.{Own};
 ghost use Rattle.msd_fit.specs.Candidates.{AdditionalData, most_together};
-ghost use Rattle.msd_fit.specs.Fitting.{is_automatic, is_test, extra_of, set_with, fitting, fits, filled, made, AreFilled};
+ghost use Rattle.msd_fit.specs.Fitting.{is_automatic, is_test, marks_of, extra_of, set_with, fitting, fits, filled, made, AreFilled};
 ghost use Rattle.msd_fit.specs.inner.Lengths.{data_bits};
 
 use crate::candidate::Candidate;
@@ -17,7 +18,7 @@ use crate::facts::{Facts, OwnFacts};
 use crate::octets::{octs_of, put};
 use arrayvec::ArrayVec;
 use msd_codec::{encode, encoded_bits, extra_bits};
-use msd_values::{Extra, Msd, VehicleKind};
+use msd_values::{Extra, Format, Marks, Msd, VehicleKind};
 use per_bits::Oid;
 
 /// How many octets a set of data has at most.
@@ -66,16 +67,19 @@ fn first_within(candidates: &[Candidate], room: u32) -> Option<&Candidate>
 
 // The set of data with these facts, without additional data.
 fn set_without_data<'a>(facts: &OwnFacts, cause: Cause, number: u8) -> Msd<'a>
-    ensures { result ≡ set_with facts.now cause number None }
+    ensures tree { tree result ≡ tree (set_with facts.now cause number None) }
+    ensures format { result.format ≡ facts.now.format }
+    ensures plain { IsPlain result }
 {
     Msd {
+        format: facts.format,
         message: number,
         automatic: is_automatic(cause),
         test: is_test(cause),
         trusted: facts.trusted,
         kind: VehicleKind::Root(facts.kind),
         vin: facts.vin,
-        fuel: facts.fuel,
+        fuel: marks_of(facts.format, facts.fuel),
         fuel_more: None,
         time: facts.time,
         latitude: facts.latitude,
@@ -87,6 +91,20 @@ fn set_without_data<'a>(facts: &OwnFacts, cause: Cause, number: u8) -> Msd<'a>
         set_more: None,
         extra: None,
         message_more: None,
+    }
+}
+
+// The marks that a set of the format has.
+fn marks_of(format: Format, fuel: Marks) -> Marks
+    ensures marks { result ≡ marks_of format fuel }
+    ensures other { HasMarks format result }
+{
+    match format {
+        Format::One => Marks {
+            other: false,
+            ..fuel
+        },
+        Format::Two => fuel,
     }
 }
 

@@ -1,7 +1,7 @@
 //! Sets worked out by hand from the encoding rules.
 use crate::{Candidate, Cause, Facts, MOST_OCTETS, OwnFacts, make, spell};
 use arrayvec::ArrayVec;
-use msd_values::{Delta, Marks, RootKind, Vin};
+use msd_values::{Delta, Format, Marks, RootKind, Vin};
 use std::process::Abort;
 
 // The least set: no energy is marked, and nothing that may be absent is there.
@@ -24,6 +24,21 @@ const WITH_EVERYTHING: &[u8; 140] =
       \x00\x00\x00\x00\x00\x00\x00\x00\x00\x00\x00\x00\x00\x00\x00\x00\x00\x00\x00\x00\
       \x00\x00\x00\x00\x00\x00\x00\x00\x00\x00\x00\x00\x00\x00\x00\x00\x00\x00\x00\x00";
 
+// The least set of format 1, and the one with gasoline.
+const SMALLEST_OF_FORMAT_1: &[u8; 31] =
+    b"\x01\x00\x06\x81\xd5\x49\x70\xd6\x5c\x35\x97\xca\x04\x20\xc4\x14\x60\x0b\xc1\x7c\
+      \x20\x11\x4b\xa6\x58\x10\x4f\x89\x54\x05\xa0";
+
+const WITH_GASOLINE_OF_FORMAT_1: &[u8; 31] =
+    b"\x01\x00\x06\x81\xd5\x49\x70\xd6\x5c\x35\x97\xca\x04\x20\xc4\x14\x64\x15\xe0\xbe\
+      \x10\x08\xa5\xd3\x2c\x08\x27\xc4\xaa\x02\xd0";
+
+// All that may be there in format 1, in front of 99 octets 0 of additional data.
+const FRONT_OF_FORMAT_1: &[u8; 41] =
+    b"\x01\x5c\x06\x81\xd5\x49\x70\xd6\x5c\x35\x97\xca\x04\x20\xc4\x14\x67\xff\xaf\x05\
+      \xf0\x80\x45\x2e\x99\x60\x41\x3e\x25\x50\x16\xc1\x4f\xb0\x01\xff\x81\x00\x80\xb1\
+      \x80";
+
 const ZEROS: [u8; 120] = [0; 120];
 
 fn marks(all: bool) -> Marks {
@@ -42,6 +57,7 @@ fn marks(all: bool) -> Marks {
 fn least(rt: &impl Abort) -> OwnFacts {
     OwnFacts {
         vin: Vin::read(b"WM9VDSVDSYA123456").ok().expect(rt, "a number"),
+        format: Format::Two,
         kind: RootKind::new(1).expect(rt, "a category"),
         fuel: marks(false),
         time: 1_577_836_800,
@@ -140,6 +156,32 @@ fn the_least_set_has_room_for_107_octets(rt: HostRuntime) {
     assert_eq!(rt; &set[30..33], [0xd0, 0x10, 0x36].as_slice());
 }
 
+// With 243 bits beside it, additional data of 108 octets needs 1123 bits, and of 107 octets 1115.
+#[test]
+fn the_least_set_of_format_1_has_room_for_107_octets(rt: HostRuntime) {
+    let mut facts = least(&rt);
+    facts.format = Format::One;
+    for candidate in [zeros(&rt, 2, 107), zeros(&rt, 3, 106)] {
+        assert!(rt; facts.extras.try_push(candidate).is_ok());
+    }
+    let set = spell(&facts, Cause::Auto, 1);
+    assert_eq!(rt; set.len(), 140);
+    assert_eq!(rt; set[1], 0x40);
+    assert_eq!(rt; &set[30..33], [0xa0, 0x20, 0x6d].as_slice());
+}
+
+// With 297 bits beside it, additional data of 101 octets needs 1121 bits, and of 100 octets 1113.
+#[test]
+fn the_full_set_of_format_1_has_room_for_100_octets(rt: HostRuntime) {
+    let extras = [zeros(&rt, 1, 100), zeros(&rt, 1, 99)];
+    let mut facts = full(&rt, &extras);
+    facts.format = Format::One;
+    let set = spell(&facts, Cause::Auto, 1);
+    assert_eq!(rt; set.len(), 140);
+    assert_eq!(rt; &set[..41], FRONT_OF_FORMAT_1.as_slice());
+    assert_eq!(rt; &set[41..], &ZEROS[..99]);
+}
+
 #[test]
 fn a_candidate_has_at_most_110_octets(rt: HostRuntime) {
     let most = zeros(&rt, 127, 109);
@@ -173,4 +215,26 @@ fn a_ready_set_is_handed_on(rt: HostRuntime) {
     let facts = Facts::Ready(octets);
     assert_eq!(rt; make(&facts, Cause::Auto, 1), octets);
     assert_eq!(rt; make(&facts, Cause::Test, 255), octets);
+}
+
+#[test]
+fn format_1_has_no_mark_of_other_energies(rt: HostRuntime) {
+    let facts = OwnFacts {
+        format: Format::One,
+        ..least(&rt)
+    };
+    assert_eq!(rt;
+        spell(&facts, Cause::Auto, 1).as_slice(),
+        SMALLEST_OF_FORMAT_1.as_slice()
+    );
+    let fuel = Marks {
+        gasoline: true,
+        other: true,
+        ..facts.fuel
+    };
+    let facts = OwnFacts { fuel, ..facts };
+    assert_eq!(rt;
+        spell(&facts, Cause::Auto, 1).as_slice(),
+        WITH_GASOLINE_OF_FORMAT_1.as_slice()
+    );
 }

@@ -8,9 +8,9 @@ use Rattle.msd_values.specs.declared.remarks.Remarks.{Remarks}
 use Rattle.msd_values.specs.Additions.{additions_text}
 use Rattle.msd_values.specs.Description.{line, lines_of, description}
 use Rattle.msd_values.specs.Remarks.{remarks_of}
+use Rattle.msd_values.specs.Format.{format_number}
 use Rattle.msd_values.specs.Civil.{instant_text}
 use Rattle.msd_values.specs.Texts.{or_none, truth_text, kind_text, marks_text, angle_text, heading_text, way_text, extra_text, remarks_text}
-use Rattle.msd_values.specs.Format.{format_number}
 use Rattle.msd_values.specs.inner.Groups.{vehicle_lines, place_lines, spaced_remarks, remarks_line}
 
 -- twenty texts one behind the other, and in groups, the last written otherwise
@@ -46,7 +46,7 @@ pub description_groups : (msd : Msd) → description msd ≡
 unfolding description lines_of vehicle_lines place_lines
 description_groups msd =
     regroup
-    (line (codes "format") (decimal format_number))
+    (line (codes "format") (decimal (format_number msd.format)))
     (line (codes "message") (decimal msd.message))
     (line (codes "automatic") (truth_text msd.automatic))
     (line (codes "test") (truth_text msd.test))

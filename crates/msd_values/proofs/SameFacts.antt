@@ -21,6 +21,7 @@ abbrev pub octets_in : Extra → List ℕ × List ℕ
 octets_in extra = (octets_of extra.oid.bits, octets_of extra.content.bits)
 
 pub record IsShownAlike (a b : Msd) : Type 0 where
+  pub format : a.format ≡ b.format
   pub message : a.message ≡ b.message
   pub automatic : a.automatic ≡ b.automatic
   pub test : a.test ≡ b.test
@@ -62,6 +63,7 @@ pub same_description : (a b : Msd) → IsShownAlike a b → description a ≡ de
 unfolding description lines_of
 same_description a b alike =
     rw (
+      alike.format,
       alike.message,
       alike.automatic,
       alike.test,

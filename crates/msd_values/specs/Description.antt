@@ -4,8 +4,8 @@ use Rattle.std.specs.Prelude.{ℕ, List, [], ◌∷◌, ◌++◌, codes, decimal
 use Rattle.std.specs.List.{concat}
 use Rattle.msd_values.specs.declared.msd.Msd.{Msd}
 use Rattle.msd_values.specs.Additions.{additions_text}
-use Rattle.msd_values.specs.Civil.{instant_text}
 use Rattle.msd_values.specs.Format.{format_number}
+use Rattle.msd_values.specs.Civil.{instant_text}
 use Rattle.msd_values.specs.Remarks.{remarks_of}
 use Rattle.msd_values.specs.Texts.{or_none, truth_text, kind_text, marks_text, angle_text, heading_text, way_text, extra_text, remarks_text}
 
@@ -15,7 +15,7 @@ line name value = name ++ (codes " " ++ (value ++ codes "\n"))
 -- the twenty lines, in order
 unfoldable pub lines_of : Msd → List (List ℕ)
 lines_of msd =
-    line (codes "format") (decimal format_number)
+    line (codes "format") (decimal (format_number msd.format))
     ∷ line (codes "message") (decimal msd.message)
     ∷ line (codes "automatic") (truth_text msd.automatic)
     ∷ line (codes "test") (truth_text msd.test)

@@ -1,7 +1,14 @@
--- The format of a set of data: this project's profile. Cited by the description of a set, and by the module of the
--- format.
-use Rattle.std.specs.Prelude.{ℕ}
+-- The formats of a set of data: this project's profile. Format 1 has no mark for other energies. Cited by `Format`, by
+-- the type of a set of data, and by the module of each format.
+use Rattle.std.specs.Prelude.{◌≡◌, ℕ, false}
+use Rattle.msd_values.specs.declared.format.Format.{Format}
+use Rattle.msd_values.specs.declared.format.Format.TheVariants.{One, Two}
+use Rattle.msd_values.specs.declared.msd.Marks.{Marks}
 
--- the number of the one known format
-abbrev pub format_number : ℕ
-format_number = 2
+abbrev pub format_number : Format → ℕ
+format_number One = 1
+format_number Two = 2
+
+-- in format 1 no other energy is marked
+abbrev pub HasMarks : Format → Marks → Type 0
+HasMarks format fuel = format ≡ One → fuel.other ≡ false

@@ -1,4 +1,4 @@
-//! The values of a minimum set of data after EN 15722, in this project's format 2, and their
+//! The values of a minimum set of data after EN 15722, in this project's formats 1 and 2, and their
 //! description for people.
 #![tactic(auto)]
 
@@ -18,7 +18,7 @@ mod tests;
 mod vin;
 
 pub use description::describe;
-pub use format::FORMAT;
+pub use format::Format;
 pub use kind::{AddedKind, RootKind, VehicleKind};
 pub use msd::{Delta, Extra, Marks, Msd};
 pub use remarks::{Remarks, find_remarks};

@@ -5,11 +5,11 @@ ghost use Rattle.msd_values.specs.inner.Waiting.{Appends};
 ghost use Rattle.msd_values.specs.Description.{line};
 ghost use Rattle.msd_values.specs.inner.Groups.{vehicle_lines, place_lines};
 ghost use Rattle.msd_values.specs.Texts.{or_none, truth_text, root_name, kind_text, mark_digit, marks_text, angle_text, heading_text, way_text};
-ghost use Rattle.msd_values.specs.Civil.{instant_text};
 ghost use Rattle.msd_values.specs.Format.{format_number};
+ghost use Rattle.msd_values.specs.Civil.{instant_text};
 
 use crate::date::instant_text;
-use crate::format::FORMAT;
+use crate::format::Format;
 use crate::kind::VehicleKind;
 use crate::msd::{Delta, Marks, Msd};
 use crate::page::{LINE, NAME, PAGE, PLACE_LINES, Page, VEHICLE_LINES, put, put_line, put_number};
@@ -112,12 +112,12 @@ fn put_marks(page: &mut Page, marks: &Marks)
 }
 
 // Puts the line of the format.
-fn put_format(page: &mut Page)
+fn put_format(page: &mut Page, format: Format)
     requires { array_vec_len page.old + LINE ≤ PAGE }
-    ensures items { Appends page.old.items page.new.items (line (codes "format") (decimal format_number)) }
+    ensures items { Appends page.old.items page.new.items (line (codes "format") (decimal (format_number format))) }
     ensures len { array_vec_len page.new ≤ array_vec_len page.old + LINE }
 {
-    put_number(page, b"format ", FORMAT);
+    put_number(page, b"format ", format.number());
 }
 
 /// Puts the lines that say what the set is, and of which vehicle.
@@ -126,7 +126,7 @@ pub fn put_vehicle_lines(page: &mut Page, msd: &Msd<'_>)
     ensures items { Appends page.old.items page.new.items (vehicle_lines msd.now) }
     ensures len { array_vec_len page.new ≤ array_vec_len page.old + VEHICLE_LINES }
 {
-    put_format(page);
+    put_format(page, msd.format);
     put_number(page, b"message ", msd.message);
     put_truth(page, b"automatic ", msd.automatic);
     put_truth(page, b"test ", msd.test);

@@ -1,4 +1,7 @@
 //! The minimum set of data.
+ghost use Rattle.msd_values.specs.Format.{HasMarks};
+
+use crate::format::Format;
 use crate::kind::VehicleKind;
 use crate::vin::Vin;
 use per_bits::{Additions, Octs, Oid};
@@ -81,6 +84,8 @@ pub struct Extra<'a> {
 /// A minimum set of data. It borrows the octets of its parts of variable length.
 #[derive(Drop)]
 pub struct Msd<'a> {
+    /// The format by which it is written.
+    pub format: Format,
     /// The number of the set within its incident.
     pub message: u8,
     /// Whether the call was triggered by the vehicle itself.
@@ -91,6 +96,7 @@ pub struct Msd<'a> {
     pub kind: VehicleKind,
     pub vin: Vin,
     pub fuel: Marks,
+    ghost marks: { HasMarks format fuel },
     /// Additions to the energies.
     pub fuel_more: Option<Additions<'a>>,
     /// Seconds since 1970-01-01T00:00:00Z.

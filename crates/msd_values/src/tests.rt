@@ -20,6 +20,7 @@ fn parked_car<'a>(rt: &impl Abort) -> Msd<'a> {
     let vin = Vin::read(b"WM9VDSVDSYA123456").expect(rt, "the number has 17 characters");
     let kind = RootKind::new(1).expect(rt, "1 is a category");
     Msd {
+        format: Format::Two,
         message: 1,
         automatic: true,
         test: false,
@@ -95,31 +96,30 @@ fn describes_every_part(rt: HostRuntime) -> Result<(), Fail> {
     let set_more = [0x01, 0x03, 0xab, 0xcd, 0xef, 0, 0, 0];
     let message_more = [0x05, 0x40, 0x42, 0x80, 0x80, 0x40, 0x80, 0];
     let added = AddedKind::new(63).expect(&rt, "63 may be added");
-    let msd = Msd {
-        message: 255,
-        automatic: false,
-        test: true,
-        trusted: false,
-        kind: VehicleKind::Added(added),
-        fuel: Marks {
-            diesel: true,
-            propane: true,
-            other: true,
-            ..NO_MARKS
-        },
-        fuel_more: section(&rt, &fuel_more, 25),
-        time: 951_827_696,
-        latitude: 2_147_483_647,
-        longitude: 2_147_483_647,
-        heading: 255,
-        before1: Delta::new(-512, 511),
-        before2: Delta::new(0, -1),
-        passengers: Some(0),
-        set_more: section(&rt, &set_more, 40),
-        extra: additional(&rt, &[0x81, 0x05], &[0x00, 0x7f, 0xff], 24),
-        message_more: section(&rt, &message_more, 50),
-        ..parked_car(&rt)
+    let mut msd = parked_car(&rt);
+    msd.format = Format::Two;
+    msd.message = 255;
+    msd.automatic = false;
+    msd.test = true;
+    msd.trusted = false;
+    msd.kind = VehicleKind::Added(added);
+    msd.fuel = Marks {
+        diesel: true,
+        propane: true,
+        other: true,
+        ..NO_MARKS
     };
+    msd.fuel_more = section(&rt, &fuel_more, 25);
+    msd.time = 951_827_696;
+    msd.latitude = 2_147_483_647;
+    msd.longitude = 2_147_483_647;
+    msd.heading = 255;
+    msd.before1 = Delta::new(-512, 511);
+    msd.before2 = Delta::new(0, -1);
+    msd.passengers = Some(0);
+    msd.set_more = section(&rt, &set_more, 40);
+    msd.extra = additional(&rt, &[0x81, 0x05], &[0x00, 0x7f, 0xff], 24);
+    msd.message_more = section(&rt, &message_more, 50);
     let text =
         b"format 2\nmessage 255\nautomatic no\ntest yes\ntrusted no\nkind added 63\nvin WM9VDSVDSYA123456\nfuel 0101001\nfuel_more 2 1:ff\ntime 951827696 2000-02-29T12:34:56Z\nlatitude unknown\nlongitude unknown\nheading unknown\nbefore1 -512 511\nbefore2 0 -1\npassengers 0\nset_more 1 0:abcdef\nextra 8105 007fff\nmessage_more 3 0:0a 2:0102\nremarks none\n";
     let fails = Vec::new(rt.alloc());
@@ -129,17 +129,17 @@ fn describes_every_part(rt: HostRuntime) -> Result<(), Fail> {
 #[test]
 fn describes_values_that_make_no_sense(rt: HostRuntime) -> Result<(), Fail> {
     let last = RootKind::new(13).expect(&rt, "13 is a category");
-    let msd = Msd {
-        kind: VehicleKind::Root(last),
-        time: 4_294_967_295,
-        latitude: 2_147_483_647,
-        longitude: 648_000_001,
-        heading: 180,
-        extra: additional(&rt, &[0x2a, 0x2b], &[0, 0, 0], 0),
-        ..parked_car(&rt)
-    };
+    let mut msd = parked_car(&rt);
+    msd.format = Format::One;
+    msd.fuel = NO_MARKS;
+    msd.kind = VehicleKind::Root(last);
+    msd.time = 4_294_967_295;
+    msd.latitude = 2_147_483_647;
+    msd.longitude = 648_000_001;
+    msd.heading = 180;
+    msd.extra = additional(&rt, &[0x2a, 0x2b], &[0, 0, 0], 0);
     let text =
-        b"format 2\nmessage 1\nautomatic yes\ntest no\ntrusted yes\nkind L7e\nvin WM9VDSVDSYA123456\nfuel 1000000\nfuel_more none\ntime 4294967295 2106-02-07T06:28:15Z\nlatitude unknown\nlongitude 648000001\nheading 180\nbefore1 none\nbefore2 none\npassengers none\nset_more none\nextra 2a2b -\nmessage_more none\nremarks longitude heading\n";
+        b"format 1\nmessage 1\nautomatic yes\ntest no\ntrusted yes\nkind L7e\nvin WM9VDSVDSYA123456\nfuel 0000000\nfuel_more none\ntime 4294967295 2106-02-07T06:28:15Z\nlatitude unknown\nlongitude 648000001\nheading 180\nbefore1 none\nbefore2 none\npassengers none\nset_more none\nextra 2a2b -\nmessage_more none\nremarks longitude heading\n";
     let fails = Vec::new(rt.alloc());
     expect_text(&rt, rt.alloc(), &msd, fails, Ok(()), text)?;
     let fails = vec![in rt.alloc(); 1]?;
@@ -181,12 +181,10 @@ fn describes_each_remark(rt: HostRuntime) -> Result<(), Fail> {
         ),
     ];
     for (latitude, longitude, heading, end) in cases {
-        let msd = Msd {
-            latitude,
-            longitude,
-            heading,
-            ..parked_car(&rt)
-        };
+        let mut msd = parked_car(&rt);
+        msd.latitude = latitude;
+        msd.longitude = longitude;
+        msd.heading = heading;
         expect_end(&rt, rt.alloc(), &msd, end.as_bytes())?;
     }
     Ok(())
@@ -200,10 +198,8 @@ fn keeps_what_was_written_before_a_failure(rt: HostRuntime) -> Result<(), Fail> 
     let (Some(oid), Some(content)) = (oid, content) else {
         return Err(Fail::from("octets that can be written"));
     };
-    let msd = Msd {
-        extra: Some(Extra { oid, content }),
-        ..parked_car(&rt)
-    };
+    let mut msd = parked_car(&rt);
+    msd.extra = Some(Extra { oid, content });
     let fails = vec![in rt.alloc(); 2]?;
     let mut sink = MemSink::new(rt.alloc(), 2048, fails)?;
     assert_eq!(rt; describe(&msd, &mut sink), Err(Failed));
@@ -225,12 +221,10 @@ fn remarks_lie_beyond_their_bounds(rt: HostRuntime) {
         (2_147_483_647, 2_147_483_647, 180, [false, false, true]),
     ];
     for (latitude, longitude, heading, [north, east, turn]) in cases {
-        let msd = Msd {
-            latitude,
-            longitude,
-            heading,
-            ..parked_car(&rt)
-        };
+        let mut msd = parked_car(&rt);
+        msd.latitude = latitude;
+        msd.longitude = longitude;
+        msd.heading = heading;
         let remarks = Remarks {
             latitude: north,
             longitude: east,

@@ -10,6 +10,7 @@ use Rattle.hex.specs.declared.error.FromHexError.{FromHexError}
 use Rattle.hex.proofs.HexLemmas.{decode_of-ok, decode_sized-twice}
 use Rattle.msd_values.specs.declared.msd.Msd.{Msd}
 use Rattle.msd_codec.specs.Canonical.{canonical_bits}
+use Rattle.msd_codec.proofs.BothFormats.{module_is}
 use Rattle.msd_codec.specs.Module.{ecall_message}
 use Rattle.msd_codec.specs.Sets.{Shows}
 use Rattle.msd_codec.specs.Trees.{tree}
@@ -44,9 +45,16 @@ text_octets text out room r ok short long written =
 
 -- a set that some octets show is encoded
 pub is_encoded : {X : Type 0} (octets : List ℕ) (msd : Msd) (r : Result X TooLong) → Shows octets msd
-    → IfErr r (λ e. (e.bits ≡ length (canonical_bits ecall_message (tree msd))) × (1120 < e.bits)) → IsOk r
+    → IfErr r (λ e. (e.bits ≡ length (canonical_bits (ecall_message msd.format) (tree msd))) × (1120 < e.bits)) → IsOk r
 is_encoded octets msd (Ok x) shows long = refl
-is_encoded octets msd (Err e) shows long = absurd (omega (arith, long.0, long.1, shown_fits octets (tree msd) shows))
+is_encoded octets msd (Err e) shows long =
+    absurd (omega (
+      arith,
+      long.0,
+      long.1,
+      shown_fits octets (tree msd) shows,
+      ap (λ t. length (canonical_bits t (tree msd))) (module_is msd),
+    ))
 
 -- ---- one line behind the other
 

@@ -10,7 +10,7 @@ use Rattle.per_types.specs.Kinds.{Element, element, bits_of}
 use Rattle.per_types.specs.Kinds as kind
 use Rattle.per_types.specs.Types.{Tree, truth, number, text, bytes, root, added, record_of, Fields, no_fields, field, absent, Ty, boolean, integer, characters, octet_string, relative_oid, enumerated, format, sequence, Components, no_components, required, optional, default, presence_count}
 use Rattle.per_types.specs.Spelling.{Elements, Present, MoreElements, mark_elements}
-use Rattle.msd_codec.specs.Module.{ecall_message}
+use Rattle.msd_codec.specs.Formats.{module_of}
 use Rattle.msd_codec.specs.Canonical.{canonical_bits, presence_bits, written_bits, more_bits, same_tree}
 use Rattle.msd_codec.specs.Sets.{ShowsTree}
 use Rattle.msd_codec.proofs.CanonicalBits.{canonical_is, same_tree_decides}
@@ -124,9 +124,9 @@ spelling_long b =
 
 -- the canonical octets of what octets show have room
 pub shown_fits : (octets : List ℕ) (v : Tree) → ShowsTree octets v
-    → length (canonical_bits ecall_message v) ≤ room_bits
+    → length (canonical_bits (module_of v) v) ≤ room_bits
 shown_fits octets v s =
-    let short = shortest ecall_message v s.spells.0 s.spells.1 in
+    let short = shortest (module_of v) v s.spells.0 s.spells.1 in
     omega (
       arith,
       short,

@@ -1,4 +1,4 @@
--- What `ecall conform` writes. It tries the reading and the writing of sets on sixteen vectors, each of which shows a
+-- What `ecall conform` writes. It tries the reading and the writing of sets on nineteen vectors, each of which shows a
 -- rule of the spelling, and tells what each comes to in one line: the canonical octets of the set that its octets show,
 -- or where, why and with which value they stop being one. This project's profile. Cited by the reply to words and an
 -- input.
@@ -18,7 +18,7 @@ use Rattle.trace_text.specs.Summary.{refused_words}
 abbrev pub octets_of_text : List ℕ → List ℕ
 octets_of_text text = result_unwrap_or (decode_of text) []
 
--- The vectors in hexadecimal. The first five are sets, and the others are none.
+-- The vectors in hexadecimal. The first five and the two before the last are sets, and the others are none.
 unfoldable pub vector_texts : List (List ℕ)
 vector_texts =
     -- a set in its canonical octets
@@ -53,7 +53,13 @@ vector_texts =
     -- an object identifier without octets
     ∷ codes "02400681d54970d65c3597ca0420c4146005e0be1008a5d32c0827c4aa02d01800"
     -- a section with more additions than a small number counts
-    ∷ codes "02200681d54970d65c3597ca0420c4146005e0be1008a5d32c0827c4aa02d800" ∷ []
+    ∷ codes "02200681d54970d65c3597ca0420c4146005e0be1008a5d32c0827c4aa02d800"
+    -- the values of the first vector in format 1, in its canonical octets
+    ∷ codes "01000681d54970d65c3597ca0420c414600bc17c20114ba658104f895405a0"
+    -- the same set of a vehicle with petrol, in its canonical octets
+    ∷ codes "01000681d54970d65c3597ca0420c4146415e0be1008a5d32c0827c4aa02d0"
+    -- the first vector of format 1 with a pad bit 1
+    ∷ codes "01000681d54970d65c3597ca0420c414600bc17c20114ba658104f895405b0" ∷ []
 
 -- their octets
 abbrev pub vectors : List (List ℕ)

@@ -35,7 +35,7 @@ const LONGEST_LINE: usize = 302;
 type VectorText = ArrayVec<u8, LONGEST_LINE>;
 
 /// The vectors, in hexadecimal.
-const VECTORS: [&str; 16] = [
+const VECTORS: [&str; 19] = [
     // A set in its canonical octets.
     "02000681d54970d65c3597ca0420c4146005e0be1008a5d32c0827c4aa02d0",
     // The same set of a vehicle with a gasoline tank, in its canonical octets.
@@ -70,6 +70,12 @@ const VECTORS: [&str; 16] = [
     "02400681d54970d65c3597ca0420c4146005e0be1008a5d32c0827c4aa02d01800",
     // A section with more additions than a small number counts.
     "02200681d54970d65c3597ca0420c4146005e0be1008a5d32c0827c4aa02d800",
+    // The values of the first vector in format 1, in its canonical octets.
+    "01000681d54970d65c3597ca0420c414600bc17c20114ba658104f895405a0",
+    // The same set of a vehicle with a gasoline tank, in its canonical octets.
+    "01000681d54970d65c3597ca0420c4146415e0be1008a5d32c0827c4aa02d0",
+    // The first vector of format 1 with a pad bit 1.
+    "01000681d54970d65c3597ca0420c414600bc17c20114ba658104f895405b0",
 ];
 
 /// Writes what each of the vectors comes to: the canonical octets of the set that it shows, or why it shows none. It

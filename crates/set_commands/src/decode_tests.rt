@@ -1,10 +1,12 @@
 //! What no clause says: that the definitions mean, on sets worked out by hand, what the description of the format says.
 
-use crate::tests::{Command, bad, expect, expect_over, expect_stop, same_status, source, told};
+use crate::tests::{
+    Command, bad, expect, expect_over, expect_stops, joined, repeated, same_status, source, told,
+};
 use command_base::{Refused, Status};
 use line_input::Reason;
 use per_bits::{Reason as SetReason, Refusal};
-use std::alloc::{AllocError, Global};
+use std::alloc::Global;
 use std::process::Abort;
 use std::test::Fail;
 
@@ -69,17 +71,10 @@ fn no_set(place: u32, reason: SetReason, value: u64) -> Status {
     Status::Refused(Refused::Set { line: 1, refusal })
 }
 
-/// Two texts behind one another.
-fn joined(alloc: Global, first: &str, then: &str) -> Result<String, AllocError> {
-    let mut text = String::from_str(alloc, first)?;
-    text.push_str(then)?;
-    Ok(text)
-}
-
 #[test]
 fn describes_additions(rt: HostRuntime) -> Result<(), Fail> {
     let alloc = rt.alloc();
-    let text = joined(alloc, ADDED_SAYS, PETROL_SAYS)?;
+    let text = joined(alloc, &[ADDED_SAYS, PETROL_SAYS])?;
     let pieces = [ADDED, "\n", PETROL];
     expect_over(
         &rt,
@@ -91,39 +86,15 @@ fn describes_additions(rt: HostRuntime) -> Result<(), Fail> {
     )
 }
 
-/// So many octets 2 in hexadecimal.
-fn octets(alloc: Global, count: usize) -> Result<String, AllocError> {
-    let mut text = String::new(alloc);
-    for _ in 0..count {
-        text.push_str("02")?;
-    }
-    Ok(text)
-}
-
 #[test]
 fn refuses_lines(rt: HostRuntime) -> Result<(), Fail> {
-    let alloc = rt.alloc();
-    let hex = bad(1, Reason::Hex);
-    expect_over(
-        &rt,
-        alloc,
-        Command::Decode,
-        &["0z", "\n"],
-        hex,
-        "refused 1 6\n",
-    )?;
-    let count = bad(1, Reason::Count);
-    expect_over(
-        &rt,
-        alloc,
-        Command::Decode,
-        &["02 00", "\n"],
-        count,
-        "refused 1 3\n",
-    )
+    let (alloc, hex, count) = (rt.alloc(), bad(1, Reason::Hex), bad(1, Reason::Count));
+    expect_over(&rt, alloc, Command::Decode, &["0z\n"], hex, "refused 1 6\n")?;
+    let two = ["02 00\n"];
+    expect_over(&rt, alloc, Command::Decode, &two, count, "refused 1 3\n")
 }
 
-/// Checks what comes of a line of so many octets, with this behind them.
+/// Checks what comes of a line of so many octets 2, with this behind them.
 fn expect_long(
     rt: &impl Abort,
     alloc: Global,
@@ -132,7 +103,7 @@ fn expect_long(
     status: Status,
     text: &str,
 ) -> Result<(), Fail> {
-    let line = octets(alloc, count)?;
+    let line = repeated(alloc, "02", count)?;
     expect_over(
         rt,
         alloc,
@@ -163,25 +134,29 @@ fn expect_behind(
     status: Status,
     then: &str,
 ) -> Result<(), Fail> {
-    let text = joined(alloc, PETROL_SAYS, then)?;
+    let text = joined(alloc, &[PETROL_SAYS, then])?;
     let pieces = ["# petrol\n\n", PETROL, more];
     expect_over(rt, alloc, Command::Decode, &pieces, status, text.as_str())
 }
 
 #[test]
 fn describes_sets(rt: HostRuntime) -> Result<(), Fail> {
-    let alloc = rt.alloc();
-    // Behind a comment, an empty line and the first description, so the second line that says something has number 4.
-    let table = [
-        ("", Status::Done, ""),
-        ("\n# the end", Status::Done, ""),
-        ("\n0z\n", bad(4, Reason::Hex), "refused 4 6\n"),
-        ("\n02 00\n", bad(4, Reason::Count), "refused 4 3\n"),
-        ("\n020\n", bad(4, Reason::Hex), "refused 4 6\n"),
-        ("\n02\t00\n", bad(4, Reason::Text), "refused 4 5\n"),
-    ];
-    for (more, status, then) in &table {
-        expect_behind(&rt, alloc, more, *status, then)?;
+    expect_behind(&rt, rt.alloc(), "", Status::Done, "")?;
+    expect_behind(&rt, rt.alloc(), "\n# the end", Status::Done, "")
+}
+
+/// Lines behind a set that are refused: the second line that says something has number 4.
+const LINES_BEHIND: [(&str, Reason, &str); 4] = [
+    ("\n0z\n", Reason::Hex, "refused 4 6\n"),
+    ("\n02 00\n", Reason::Count, "refused 4 3\n"),
+    ("\n020\n", Reason::Hex, "refused 4 6\n"),
+    ("\n02\t00\n", Reason::Text, "refused 4 5\n"),
+];
+
+#[test]
+fn refuses_lines_behind_sets(rt: HostRuntime) -> Result<(), Fail> {
+    for (more, reason, then) in &LINES_BEHIND {
+        expect_behind(&rt, rt.alloc(), more, bad(4, *reason), then)?;
     }
     Ok(())
 }
@@ -207,47 +182,49 @@ fn expect_set(
     )
 }
 
+/// Octets that are no set: the place and the reason of their refusal, and what stands there.
+const NO_SETS: [(&str, u32, SetReason, u64, &str); 6] = [
+    // A section without a present addition.
+    (
+        "02200681d54970d65c3597ca0420c4146005e0be1008a5d32c0827c4aa02d000",
+        251,
+        SetReason::NoAddition,
+        1,
+        "refused 1 set 251 5 1\n",
+    ),
+    // A character beyond the alphabet.
+    (
+        "02000681d54970d65c3597ca0420c4161005e0be1008a5d32c0827c4aa02d0",
+        126,
+        SetReason::OutOfRange,
+        33,
+        "refused 1 set 126 2 33\n",
+    ),
+    // A length of 128.
+    (
+        "02400681d54970d65c3597ca0420c4146005e0be1008a5d32c0827c4aa02d800",
+        244,
+        SetReason::LongLength,
+        128,
+        "refused 1 set 244 3 128\n",
+    ),
+    // The petrol car's set without its last octet.
+    (
+        "02000681D54970D65C3597CA0420C414640AF05F080452E9960413E25501",
+        237,
+        SetReason::Short,
+        8,
+        "refused 1 set 237 1 8\n",
+    ),
+    ("02", 8, SetReason::Short, 1, "refused 1 set 8 1 1\n"),
+    ("03", 0, SetReason::Version, 3, "refused 1 set 0 8 3\n"),
+];
+
 #[test]
 fn refuses_sets(rt: HostRuntime) -> Result<(), Fail> {
-    let alloc = rt.alloc();
-    let table = [
-        // A section without a present addition.
-        (
-            "02200681d54970d65c3597ca0420c4146005e0be1008a5d32c0827c4aa02d000",
-            no_set(251, SetReason::NoAddition, 1),
-            "refused 1 set 251 5 1\n",
-        ),
-        // A character beyond the alphabet.
-        (
-            "02000681d54970d65c3597ca0420c4161005e0be1008a5d32c0827c4aa02d0",
-            no_set(126, SetReason::OutOfRange, 33),
-            "refused 1 set 126 2 33\n",
-        ),
-        // A length of 128.
-        (
-            "02400681d54970d65c3597ca0420c4146005e0be1008a5d32c0827c4aa02d800",
-            no_set(244, SetReason::LongLength, 128),
-            "refused 1 set 244 3 128\n",
-        ),
-        // The petrol car's set without its last octet.
-        (
-            "02000681D54970D65C3597CA0420C414640AF05F080452E9960413E25501",
-            no_set(237, SetReason::Short, 8),
-            "refused 1 set 237 1 8\n",
-        ),
-        (
-            "02",
-            no_set(8, SetReason::Short, 1),
-            "refused 1 set 8 1 1\n",
-        ),
-        (
-            "03",
-            no_set(0, SetReason::Version, 3),
-            "refused 1 set 0 8 3\n",
-        ),
-    ];
-    for (set, status, text) in &table {
-        expect_set(&rt, alloc, set, *status, text)?;
+    for (set, place, reason, value, text) in &NO_SETS {
+        let status = no_set(*place, *reason, *value);
+        expect_set(&rt, rt.alloc(), set, status, text)?;
     }
     Ok(())
 }
@@ -278,22 +255,5 @@ fn decoding_stops_at_a_failed_write_or_read(rt: HostRuntime) -> Result<(), Fail>
     // The source gives a line and its newline a call.
     let pieces = [PETROL, "\n", PETROL, "\n"];
     let most = PETROL.len() + 1;
-    for (fault, status, text) in [
-        ((1u64, 0u64), Status::ReadFault, ""),
-        ((2, 0), Status::ReadFault, PETROL_SAYS),
-        ((0, 1), Status::WriteFault, ""),
-        ((0, 2), Status::WriteFault, PETROL_SAYS),
-    ] {
-        expect_stop(
-            &rt,
-            rt.alloc(),
-            Command::Decode,
-            &pieces,
-            most,
-            fault,
-            status,
-            text,
-        )?;
-    }
-    Ok(())
+    expect_stops(&rt, rt.alloc(), Command::Decode, &pieces, most, PETROL_SAYS)
 }

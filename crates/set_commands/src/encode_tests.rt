@@ -2,7 +2,7 @@
 //! format says.
 
 use crate::decode_tests::PETROL;
-use crate::tests::{Command, bad, expect, expect_over, expect_stop, source};
+use crate::tests::{Command, bad, expect, expect_over, expect_stops, joined, repeated, source};
 use command_base::Status;
 use line_input::Reason;
 use std::alloc::{AllocError, Global};
@@ -19,24 +19,6 @@ const LEAST: &str = "02000681d54970d65c3597ca0420c4146005e0be1008a5d32c0827c4aa0
 /// The set of the petrol car behind its first three octets, which number 255 changes: its bits are the last 2 of the
 /// second octet and the first 6 of the third.
 const BEHIND_CONTROL: &str = "81d54970d65c3597ca0420c414640af05f080452e9960413e2550168\n";
-
-/// So many digits 0.
-fn zeros(alloc: Global, count: usize) -> Result<String, AllocError> {
-    let mut text = String::new(alloc);
-    for _ in 0..count {
-        text.push('0')?;
-    }
-    Ok(text)
-}
-
-/// These pieces behind one another.
-fn joined(alloc: Global, pieces: &[&str]) -> Result<String, AllocError> {
-    let mut text = String::new(alloc);
-    for piece in pieces {
-        text.push_str(piece)?;
-    }
-    Ok(text)
-}
 
 #[test]
 fn encodes_facts_as_they_change(rt: HostRuntime) -> Result<(), Fail> {
@@ -73,19 +55,64 @@ fn with_candidate(alloc: Global, digits: &str) -> Result<String, AllocError> {
     joined(alloc, &[front, digits, "\n"])
 }
 
+/// Checks that of the candidates of these digits the second is put into the set.
+fn expect_second(rt: &impl Abort, alloc: Global, first: &str, second: &str) -> Result<(), Fail> {
+    let lines = candidates(alloc, first, second)?;
+    let text = with_candidate(alloc, second)?;
+    let pieces = [lines.as_str()];
+    expect_over(
+        rt,
+        alloc,
+        Command::Encode,
+        &pieces,
+        Status::Done,
+        text.as_str(),
+    )
+}
+
 #[test]
 fn encodes_the_first_candidate_that_fits(rt: HostRuntime) -> Result<(), Fail> {
-    let alloc = rt.alloc();
     // The first has 101 octets with its identifier and is passed over.
-    let over = zeros(alloc, 200)?;
-    let fits = zeros(alloc, 198)?;
+    let over = repeated(rt.alloc(), "0", 200)?;
+    let fits = repeated(rt.alloc(), "0", 198)?;
+    expect_second(&rt, rt.alloc(), over.as_str(), fits.as_str())
+}
+
+#[test]
+fn encodes_sets_of_format_1(rt: HostRuntime) -> Result<(), Fail> {
+    let alloc = rt.alloc();
+    // The seventh mark isn't written, and another format is none.
+    let input = [
+        CAR,
+        "format 1\nwrite auto 1\nfuel 1000001\nwrite auto 1\nformat 2\nfuel 1000000\nwrite auto 1\nformat 3\n",
+    ];
+    let want = [
+        "01000681d54970d65c3597ca0420c414600bc17c20114ba658104f895405a0\n",
+        "01000681d54970d65c3597ca0420c4146415e0be1008a5d32c0827c4aa02d0\n",
+        PETROL,
+        "\nrefused 14 1\n",
+    ];
+    let text = joined(alloc, &want)?;
+    let status = bad(14, Reason::Word);
+    expect_over(&rt, alloc, Command::Encode, &input, status, text.as_str())
+}
+
+#[test]
+fn encodes_the_first_candidate_that_fits_in_format_1(rt: HostRuntime) -> Result<(), Fail> {
+    let alloc = rt.alloc();
+    let over = repeated(alloc, "0", 200)?;
+    let fits = repeated(alloc, "0", 198)?;
     let lines = candidates(alloc, over.as_str(), fits.as_str())?;
-    let text = with_candidate(alloc, fits.as_str())?;
+    // The set has 297 bits without the candidate, which has 100 octets with its identifier, and ends with 7 zero bits.
+    let front = "015c0681d54970d65c3597ca0420c41467ffaf05f080452e9960413e255016c14fb001ff810080b18";
+    let rest = repeated(alloc, "0", 199)?;
+    let text = joined(alloc, &[front, rest.as_str(), "\n"])?;
+    let pieces = ["format 1\n", lines.as_str()];
     expect_over(
         &rt,
         alloc,
         Command::Encode,
-        &[lines.as_str()],
+        &pieces,
         Status::Done,
         text.as_str(),
     )
@@ -112,23 +139,24 @@ fn expect_refused(
     )
 }
 
+/// Lines that are refused. Each stands alone, and where two reasons hold the one that is judged first is told.
+const REFUSED: [(&str, Reason, &str); 10] = [
+    ("answer\t", Reason::Text, "refused 1 5\n"),
+    ("answer 1", Reason::Word, "refused 1 1\n"),
+    ("trigger auto", Reason::Word, "refused 1 1\n"),
+    ("set 02", Reason::Word, "refused 1 1\n"),
+    ("format 3", Reason::Word, "refused 1 1\n"),
+    ("write soft 1", Reason::Word, "refused 1 1\n"),
+    ("write auto", Reason::Count, "refused 1 3\n"),
+    ("write auto 256", Reason::Number, "refused 1 2\n"),
+    ("extra 01 0", Reason::Hex, "refused 1 6\n"),
+    ("write auto 1", Reason::Missing, "refused 1 7\n"),
+];
+
 #[test]
 fn refuses_facts_and_questions(rt: HostRuntime) -> Result<(), Fail> {
-    let alloc = rt.alloc();
-    // Each stands alone, and where two reasons hold the one that is judged first is told.
-    let table = [
-        ("answer\t", Reason::Text, "refused 1 5\n"),
-        ("answer 1", Reason::Word, "refused 1 1\n"),
-        ("trigger auto", Reason::Word, "refused 1 1\n"),
-        ("set 02", Reason::Word, "refused 1 1\n"),
-        ("write soft 1", Reason::Word, "refused 1 1\n"),
-        ("write auto", Reason::Count, "refused 1 3\n"),
-        ("write auto 256", Reason::Number, "refused 1 2\n"),
-        ("extra 01 0", Reason::Hex, "refused 1 6\n"),
-        ("write auto 1", Reason::Missing, "refused 1 7\n"),
-    ];
-    for (line, reason, text) in &table {
-        expect_refused(&rt, alloc, line, *reason, text)?;
+    for (line, reason, text) in &REFUSED {
+        expect_refused(&rt, rt.alloc(), line, *reason, text)?;
     }
     Ok(())
 }
@@ -137,7 +165,7 @@ fn refuses_facts_and_questions(rt: HostRuntime) -> Result<(), Fail> {
 fn refuses_a_long_line(rt: HostRuntime) -> Result<(), Fail> {
     let alloc = rt.alloc();
     // 513 bytes, one of which may not stand in a line.
-    let long = zeros(alloc, 512)?;
+    let long = repeated(alloc, "0", 512)?;
     let status = bad(1, Reason::LineLong);
     expect_over(
         &rt,
@@ -165,22 +193,12 @@ fn encoding_stops_at_a_failed_write_or_read(rt: HostRuntime) -> Result<(), Fail>
     // The source gives the facts and one line that asks for a set a call.
     let asks = "write auto 1\n";
     let most = CAR.len() + asks.len();
-    for (fault, status, text) in [
-        ((1u64, 0u64), Status::ReadFault, ""),
-        ((2, 0), Status::ReadFault, LEAST),
-        ((0, 1), Status::WriteFault, ""),
-        ((0, 2), Status::WriteFault, LEAST),
-    ] {
-        expect_stop(
-            &rt,
-            rt.alloc(),
-            Command::Encode,
-            &[CAR, asks, asks],
-            most,
-            fault,
-            status,
-            text,
-        )?;
-    }
-    Ok(())
+    expect_stops(
+        &rt,
+        rt.alloc(),
+        Command::Encode,
+        &[CAR, asks, asks],
+        most,
+        LEAST,
+    )
 }

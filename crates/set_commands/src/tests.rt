@@ -34,6 +34,24 @@ pub(crate) fn source(
     Ok(MemSource::new(bytes, most, fails))
 }
 
+/// These pieces behind one another.
+pub(crate) fn joined(alloc: Global, pieces: &[&str]) -> Result<String, AllocError> {
+    let mut text = String::new(alloc);
+    for piece in pieces {
+        text.push_str(piece)?;
+    }
+    Ok(text)
+}
+
+/// So many times the same text.
+pub(crate) fn repeated(alloc: Global, text: &str, count: usize) -> Result<String, AllocError> {
+    let mut all = String::new(alloc);
+    for _ in 0..count {
+        all.push_str(text)?;
+    }
+    Ok(all)
+}
+
 /// A sink with room for what each row writes.
 pub(crate) fn sink(alloc: Global, fails: Vec<u64>) -> Result<MemSink, Fail> {
     Ok(MemSink::new(alloc, 20_000, fails)?)
@@ -141,21 +159,45 @@ pub(crate) fn expect_over(
     )
 }
 
-/// Checks where the command ends over an input whose read or write of this number fails; 0 is none. The source gives so
-/// many bytes a call, and what the first line gives is written in front of the second read.
-pub(crate) fn expect_stop(
+/// Which call fails, the read or the write of this number, whether the first line's text is written before it, and how
+/// the command then ends.
+const FAULTS: [(u64, u64, bool, Status); 4] = [
+    (1, 0, false, Status::ReadFault),
+    (2, 0, true, Status::ReadFault),
+    (0, 1, false, Status::WriteFault),
+    (0, 2, true, Status::WriteFault),
+];
+
+/// Checks where the command ends over an input whose read or write of this number fails; 0 is none.
+fn expect_stop(
+    rt: &impl Abort,
+    alloc: Global,
+    command: Command,
+    input: MemSource,
+    write: u64,
+    status: Status,
+    text: &str,
+) -> Result<(), Fail> {
+    let fails = failing(alloc, write)?;
+    expect(rt, alloc, command, text, input, fails, status, text)
+}
+
+/// Checks where the command ends over an input whose first or second read or write fails. The source gives so many bytes
+/// a call, and what the first line gives is this text, which is written in front of the second read.
+pub(crate) fn expect_stops(
     rt: &impl Abort,
     alloc: Global,
     command: Command,
     pieces: &[&str],
     most: usize,
-    fault: (u64, u64),
-    status: Status,
     text: &str,
 ) -> Result<(), Fail>
     requires { 0 < most }
 {
-    let input = source(alloc, pieces, most, failing(alloc, fault.0)?)?;
-    let fails = failing(alloc, fault.1)?;
-    expect(rt, alloc, command, text, input, fails, status, text)
+    for (read, write, is_written, status) in &FAULTS {
+        let input = source(alloc, pieces, most, failing(alloc, *read)?)?;
+        let first = if *is_written { text } else { "" };
+        expect_stop(rt, alloc, command, input, *write, *status, first)?;
+    }
+    Ok(())
 }

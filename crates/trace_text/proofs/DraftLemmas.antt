@@ -3,7 +3,7 @@ use Rattle.std.proofs.Common.{◌≡◌, List, [], ◌∷◌, ◌++◌, Option, 
 use Rattle.std.specs.Option.{option_or, unwrap_or}
 use Rattle.std.proofs.lemmas.List.{append-nil}
 use Rattle.std.proofs.lemmas.List.Elements.{filter_map-append}
-use Rattle.trace_text.specs.Facts.{no_marks, unknown_heading, unknown_place, vin_of, kind_of, fuel_of, time_of, latitude_of, longitude_of, heading_of, trusted_of, before1_of, before2_of, passengers_of, extra_of, ready_of, latest, extras_in}
+use Rattle.trace_text.specs.Facts.{no_marks, usual_format, unknown_heading, unknown_place, vin_of, kind_of, format_of, fuel_of, time_of, latitude_of, longitude_of, heading_of, trusted_of, before1_of, before2_of, passengers_of, extra_of, ready_of, latest, extras_in}
 use Rattle.trace_text.specs.Drafts.{DraftOf, if_came}
 use Rattle.trace_text.specs.inner.Drafting.{draft_with}
 use Rattle.trace_text.specs.declared.draft.Draft.{Draft}
@@ -37,6 +37,10 @@ module _ (draft : Draft) where
   time-with : (line : FactLine) → option_or (time_of line) (if_came draft.has_time draft.own.time) ≡ if_came (draft_with draft line).has_time (draft_with draft line).own.time
   time-with (fact.Time time) = refl
   time-with _ = refl
+
+  format-with : (line : FactLine) (lines : List FactLine) → unwrap_or (latest format_of lines) usual_format ≡ draft.own.format → unwrap_or (option_or (format_of line) (latest format_of lines)) usual_format ≡ (draft_with draft line).own.format
+  format-with (fact.Format number) lines same = refl
+  format-with _ lines same = same
 
   fuel-with : (line : FactLine) (lines : List FactLine) → unwrap_or (latest fuel_of lines) no_marks ≡ draft.own.fuel → unwrap_or (option_or (fuel_of line) (latest fuel_of lines)) no_marks ≡ (draft_with draft line).own.fuel
   fuel-with (fact.Fuel fuel) lines same = refl
@@ -84,6 +88,7 @@ DraftOf-behind draft line lines stands = record {
   vin = latest-behind vin_of lines line ∙ ap (option_or (vin_of line)) stands.vin ∙ vin-with draft line;
   kind = latest-behind kind_of lines line ∙ ap (option_or (kind_of line)) stands.kind ∙ kind-with draft line;
   time = latest-behind time_of lines line ∙ ap (option_or (time_of line)) stands.time ∙ time-with draft line;
+  format = ap (λ o. unwrap_or o usual_format) (latest-behind format_of lines line) ∙ format-with draft line lines stands.format;
   fuel = ap (λ o. unwrap_or o no_marks) (latest-behind fuel_of lines line) ∙ fuel-with draft line lines stands.fuel;
   latitude = ap (λ o. unwrap_or o unknown_place) (latest-behind latitude_of lines line) ∙ latitude-with draft line lines stands.latitude;
   longitude = ap (λ o. unwrap_or o unknown_place) (latest-behind longitude_of lines line) ∙ longitude-with draft line lines stands.longitude;

@@ -8,7 +8,7 @@ use Rattle.msd_values.specs.Position.{Way}
 use Rattle.msd_values.specs.declared.msd.Marks.{Marks}
 use Rattle.msd_fit.specs.Candidates.{AdditionalData, candidate_of}
 use Rattle.line_input.specs.Characters.{digit_zero, digit_one}
-use Rattle.trace_text.specs.Choices.{yes_or_no}
+use Rattle.trace_text.specs.Choices.{format_choice, yes_or_no}
 use Rattle.trace_text.specs.Hexadecimal.{octets_of, content_of}
 use Rattle.line_input.specs.Numbers.{natural_below, positive_below, signed_within}
 use Rattle.trace_text.specs.declared.fact_line.FactLine.{FactLine}
@@ -61,6 +61,11 @@ marks_of text =
 abbrev pub fuel_line : List (List ℕ) → Result FactLine Reason
 fuel_line (text ∷ []) = fact_or reason.Word fact.Fuel (marks_of text)
 fuel_line _ = Err reason.Count
+
+-- `format 1|2`
+abbrev pub format_line : List (List ℕ) → Result FactLine Reason
+format_line (text ∷ []) = fact_or reason.Word fact.Format (format_choice text)
+format_line _ = Err reason.Count
 
 -- `time <0..4294967295>`
 abbrev pub time_line : List (List ℕ) → Result FactLine Reason
@@ -141,6 +146,7 @@ abbrev pub vehicle_fact : List ℕ → List (List ℕ) → Option (Result FactLi
 vehicle_fact first rest =
     if bytes_eq first (codes "vin") then Some (vin_line rest)
     else if bytes_eq first (codes "kind") then Some (kind_line rest)
+    else if bytes_eq first (codes "format") then Some (format_line rest)
     else if bytes_eq first (codes "fuel") then Some (fuel_line rest)
     else if bytes_eq first (codes "passengers") then Some (passengers_line rest)
     else if bytes_eq first (codes "extra") then Some (extra_line rest)

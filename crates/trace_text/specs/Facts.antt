@@ -5,6 +5,8 @@ use Rattle.std.specs.Prelude.{ℕ, ℤ, pos, nat_le, Bool, false, List, [], ◌�
 use Rattle.std.specs.List.{filter_map}
 use Rattle.std.specs.Option.{option_or, unwrap_or}
 use Rattle.msd_values.specs.Position.{Way}
+use Rattle.msd_values.specs.declared.format.Format.{Format}
+use Rattle.msd_values.specs.declared.format.Format.TheVariants as format
 use Rattle.msd_values.specs.declared.msd.Marks.{Marks}
 use Rattle.msd_fit.specs.Candidates.{AdditionalData}
 use Rattle.msd_fit.specs.declared.facts.OwnFacts.{OwnFacts}
@@ -23,6 +25,10 @@ unknown_place = pos 2147483647
 
 abbrev pub unknown_heading : ℕ
 unknown_heading = 255
+
+-- the format where none is named
+abbrev pub usual_format : Format
+usual_format = format.Two
 
 -- no energy
 abbrev pub no_marks : Marks
@@ -45,6 +51,10 @@ vin_of _ = None
 abbrev pub kind_of : FactLine → Option ℕ
 kind_of (fact.Kind kind) = Some kind
 kind_of _ = None
+
+abbrev pub format_of : FactLine → Option Format
+format_of (fact.Format number) = Some number
+format_of _ = None
 
 abbrev pub fuel_of : FactLine → Option Marks
 fuel_of (fact.Fuel fuel) = Some fuel
@@ -104,6 +114,7 @@ extras_in lines = filter_map extra_of lines
 -- the facts, where these three came
 abbrev pub own_of : Option (List ℕ) → Option ℕ → Option ℕ → List FactLine → Option OwnFacts
 own_of (Some vin) (Some kind) (Some time) lines = Some (record {
+  format = unwrap_or (latest format_of lines) usual_format;
   vin = vin;
   kind = kind;
   fuel = unwrap_or (latest fuel_of lines) no_marks;

@@ -9,7 +9,7 @@ ghost use Rattle.trace_text.specs.declared.fact_line.FactLine.{FactLine as Line}
 use crate::fact_line::FactLine;
 use arrayvec::ArrayVec;
 use msd_fit::{Candidate, Facts, MOST_CANDIDATES, OwnFacts};
-use msd_values::{Marks, RootKind, Vin};
+use msd_values::{Format, Marks, RootKind, Vin};
 
 /// What the fact lines so far say together. It takes no memory.
 #[derive(Drop)]
@@ -109,6 +109,7 @@ impl Draft {
                 self.own.kind = kind;
                 self.has_kind = true;
             }
+            FactLine::Format(format) => self.own.format = format,
             FactLine::Fuel(fuel) => self.own.fuel = fuel,
             FactLine::Time(time) => {
                 self.own.time = time;
@@ -137,6 +138,7 @@ fn first_facts() -> OwnFacts
     ensures { result ≡ first_own }
 {
     OwnFacts {
+        format: Format::Two,
         vin: Vin::of([b'0'; 17]),
         kind: first_kind(),
         fuel: no_marks(),
@@ -177,6 +179,7 @@ fn copy_of(own: &OwnFacts) -> OwnFacts
     ensures { result ≡ own.now }
 {
     OwnFacts {
+        format: own.format,
         vin: own.vin,
         kind: own.kind,
         fuel: own.fuel,

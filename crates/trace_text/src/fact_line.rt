@@ -1,7 +1,7 @@
 //! The fact lines of a text.
 
 use msd_fit::Candidate;
-use msd_values::{Delta, Marks, RootKind, Vin};
+use msd_values::{Delta, Format, Marks, RootKind, Vin};
 
 /// A fact that a vehicle knows of itself, by one line.
 #[derive(Clone, Copy, Debug, PartialEq, Eq)]
@@ -10,6 +10,8 @@ pub enum FactLine {
     Vin(Vin),
     /// Its category.
     Kind(RootKind),
+    /// The format of its sets of data.
+    Format(Format),
     /// The energies that it stores.
     Fuel(Marks),
     /// Seconds since 1970-01-01T00:00:00Z.

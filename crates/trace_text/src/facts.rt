@@ -3,11 +3,11 @@
 ghost use Rattle.std.specs.Prelude.{◌≡◌, false, ℕ, List, None};
 ghost use Rattle.std.specs.List.{list_all};
 ghost use Rattle.std.specs.Option.{option_copied};
-ghost use Rattle.trace_text.specs.FactLines.{before1_line, before2_line, extra_line, fuel_line, heading_line, is_mark as is_mark_digit, kind_line, marks_of, own_fact, passengers_line, place_line, set_line, time_line, trusted_line, vehicle_fact, vin_line, vin_text, way_fact, way_text};
+ghost use Rattle.trace_text.specs.FactLines.{before1_line, before2_line, extra_line, format_line, fuel_line, heading_line, is_mark as is_mark_digit, kind_line, marks_of, own_fact, passengers_line, place_line, set_line, time_line, trusted_line, vehicle_fact, vin_line, vin_text, way_fact, way_text};
 ghost use Rattle.line_input.specs.Numbers.{positive_below};
 ghost use Rattle.line_input.specs.Arguments.{words_behind};
 
-use crate::choices::read_yes_or_no;
+use crate::choices::{read_format_number, read_yes_or_no};
 use crate::fact_line::FactLine;
 use crate::hexadecimal::{read_candidate, read_set_octets};
 use line_input::{
@@ -33,6 +33,7 @@ fn names_vehicle_fact(first: &[u8]) -> bool
 {
     is_word(first, "vin")
         || is_word(first, "kind")
+        || is_word(first, "format")
         || is_word(first, "fuel")
         || is_word(first, "passengers")
         || is_word(first, "extra")
@@ -67,6 +68,8 @@ fn read_vehicle_fact(first: &[u8], rest: Option<&[u8]>) -> Option<Result<FactLin
         Some(read_vin(rest))
     } else if is_word(first, "kind") {
         Some(read_kind(rest))
+    } else if is_word(first, "format") {
+        Some(read_format(rest))
     } else if is_word(first, "fuel") {
         Some(read_fuel(rest))
     } else if is_word(first, "passengers") {
@@ -124,6 +127,15 @@ fn read_fuel(rest: Option<&[u8]>) -> Result<FactLine, Reason>
     let text = only_argument(rest).ok_or(Reason::Count)?;
     let marks = read_marks(text).ok_or(Reason::Word)?;
     Ok(FactLine::Fuel(marks))
+}
+
+/// `format 1|2`.
+fn read_format(rest: Option<&[u8]>) -> Result<FactLine, Reason>
+    ensures { result ≡ format_line (words_behind (option_copied rest.entry)) }
+{
+    let text = only_argument(rest).ok_or(Reason::Count)?;
+    let format = read_format_number(text).ok_or(Reason::Word)?;
+    Ok(FactLine::Format(format))
 }
 
 /// `time <0..4294967295>`.

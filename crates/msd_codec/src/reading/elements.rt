@@ -27,6 +27,7 @@ pub fn read_extended(c: &mut Cursor<'_>) -> Result<bool, Refusal>
 pub fn read_present(c: &mut Cursor<'_>, n: u32) -> Result<u16, Refusal>
     requires { n ≤ 16 }
     ensures exact { Gives (λ v. digits n v) result (presence_at n c.old) c.new }
+    ensures below { IfOk result (λ v. v < 2 ^ n) }
     ensures on { OnOk result (MovesOn c.old c.new) }
 {
     read_presence(c, n)

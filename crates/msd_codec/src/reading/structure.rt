@@ -1,21 +1,24 @@
 //! Readers of the structure of a set of data and of its components.
-ghost use Rattle.std.specs.Prelude.{◌≡◌, ℕ, ◌+◌, ◌<◌, ◌≤◌, List, [], ◌∷◌, length, IfOk, OnOk};
+ghost use Rattle.std.specs.Prelude.{◌≡◌, ℕ, ◌+◌, ◌<◌, ◌≤◌, false, List, [], ◌∷◌, length, IfOk, OnOk};
 ghost use Rattle.per_bits.specs.Bits.{behind};
 ghost use Rattle.std.specs.Option.{option_map, option_to_list};
-ghost use Rattle.per_types.specs.Reading.{Gives, tree_at, text_at};
+ghost use Rattle.per_types.specs.Reading.{Gives, presence_at, tree_at, text_at};
 ghost use Rattle.msd_values.specs.Vin.{IsVin};
-ghost use Rattle.msd_codec.specs.Module.{octet, control_type, vehicle_identification, propulsion_storage, vehicle_location, location_delta, msd_structure};
+ghost use Rattle.msd_codec.specs.Module.{octet, control_type, vehicle_identification, storages, propulsion_storage, vehicle_location, location_delta, msd_structure};
 ghost use Rattle.msd_codec.specs.Trees.{count_tree, control_tree, vin_tree, storage_tree, pair_tree, way_tree, structure_tree};
 ghost use Rattle.msd_codec.specs.Places.{LieBetween, Fills, StructureEnds, len_of, structure_parts};
 ghost use Rattle.msd_codec.specs.inner.Reading.{MovesOn};
-ghost use Rattle.msd_codec.specs.inner.Reading.{presence_bit, optional_at};
+ghost use Rattle.msd_codec.specs.inner.Reading.{presence_bit, mark_presence, optional_at};
+ghost use Rattle.msd_values.specs.Format.{HasMarks};
+ghost use Rattle.msd_values.specs.declared.format.Format.TheVariants.{One};
+ghost use Rattle.per_types.specs.Types.{presence_count};
 
 use crate::reading::elements::{
     is_present, read_angle, read_angle_delta, read_extended, read_flag, read_more, read_octet,
     read_present, read_timestamp, read_truth, read_vehicle_type,
 };
 use crate::reading::texts::known_characters;
-use msd_values::{Delta, Marks, Msd, VehicleKind, Vin};
+use msd_values::{Delta, Format, Marks, Msd, VehicleKind, Vin};
 use per_bits::{Additions, Cursor, Refusal};
 use per_types::read_char;
 
@@ -39,8 +42,9 @@ struct Storage<'a> {
 }
 
 /// The structure, as a set of data that has nothing beside it.
-pub fn read_structure<'a>(c: &mut Cursor<'a>) -> Result<Msd<'a>, Refusal>
-    ensures exact { Gives structure_tree result (tree_at msd_structure c.old) c.new }
+pub fn read_structure<'a>(c: &mut Cursor<'a>, format: Format) -> Result<Msd<'a>, Refusal>
+    ensures exact { Gives structure_tree result (tree_at (msd_structure format) c.old) c.new }
+    ensures format { IfOk result (λ msd. msd.format ≡ format) }
     ensures parts { IfOk result (λ msd. LieBetween c.old.all c.old.start (structure_parts msd) c.new.start) }
     ensures ends { IfOk result (λ msd. StructureEnds msd c.new.start) }
     ensures on { OnOk result (MovesOn c.old c.new) }
@@ -50,7 +54,7 @@ pub fn read_structure<'a>(c: &mut Cursor<'a>) -> Result<Msd<'a>, Refusal>
     let message = read_octet(c)?;
     let control = read_control(c)?;
     let vin = read_vin(c)?;
-    let storage = read_storage(c)?;
+    let storage = read_storage(c, format)?;
     let time = read_timestamp(c)?;
     let (latitude, longitude) = read_location(c)?;
     let heading = read_octet(c)?;
@@ -59,6 +63,7 @@ pub fn read_structure<'a>(c: &mut Cursor<'a>) -> Result<Msd<'a>, Refusal>
     let passengers = read_passengers(c, present)?;
     let set_more = read_more(c, extended)?;
     Ok(Msd {
+        format,
         message,
         automatic: control.automatic,
         test: control.test,
@@ -130,14 +135,30 @@ fn leave(c: &mut Cursor<'_>, n: u32)
     let _ = c.take(n).unwrap();
 }
 
-fn read_storage<'a>(c: &mut Cursor<'a>) -> Result<Storage<'a>, Refusal>
-    ensures exact { Gives (λ s. storage_tree s.fuel s.more) result (tree_at propulsion_storage c.old) c.new }
+// The presence bits of the marks, as for seven of them: of other energies format 1 has none, which is left out.
+fn read_marks_present(c: &mut Cursor<'_>, format: Format) -> Result<u16, Refusal>
+    ensures exact { Gives (mark_presence format) result (presence_at (presence_count (storages format)) c.old) c.new }
+    ensures none { IfOk result (λ v. format ≡ One → presence_bit v 0 ≡ false) }
+    ensures on { OnOk result (MovesOn c.old c.new) }
+{
+    match format {
+        Format::One => {
+            let present = read_present(c, 6)?;
+            Ok(2 * present)
+        }
+        Format::Two => read_present(c, 7),
+    }
+}
+
+fn read_storage<'a>(c: &mut Cursor<'a>, format: Format) -> Result<Storage<'a>, Refusal>
+    ensures exact { Gives (λ s. storage_tree format s.fuel s.more) result (tree_at (propulsion_storage format) c.old) c.new }
+    ensures marks { IfOk result (λ s. HasMarks format s.fuel) }
     ensures parts { IfOk result (λ s. LieBetween c.old.all c.old.start (option_to_list s.more) c.new.start) }
     ensures ends { IfOk result (λ s. (fuel : ℕ) × Fills fuel s.more c.new.start) }
     ensures on { OnOk result (MovesOn c.old c.new) }
 {
     let extended = read_extended(c)?;
-    let present = read_present(c, 7)?;
+    let present = read_marks_present(c, format)?;
     let gasoline = read_flag(c, present, 6)?;
     let diesel = read_flag(c, present, 5)?;
     let natural_gas = read_flag(c, present, 4)?;

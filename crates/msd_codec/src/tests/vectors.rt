@@ -105,8 +105,20 @@ pub const WITH_A_LARGE_NUMBER: &[u8; 32] =
     b"\x02\x20\x06\x81\xd5\x49\x70\xd6\x5c\x35\x97\xca\x04\x20\xc4\x14\x60\x05\xe0\xbe\
       \x10\x08\xa5\xd3\x2c\x08\x27\xc4\xaa\x02\xd8\x00";
 
+pub const SMALLEST_OF_FORMAT_1: &[u8; 31] =
+    b"\x01\x00\x06\x81\xd5\x49\x70\xd6\x5c\x35\x97\xca\x04\x20\xc4\x14\x60\x0b\xc1\x7c\
+      \x20\x11\x4b\xa6\x58\x10\x4f\x89\x54\x05\xa0";
+
+pub const WITH_GASOLINE_OF_FORMAT_1: &[u8; 31] =
+    b"\x01\x00\x06\x81\xd5\x49\x70\xd6\x5c\x35\x97\xca\x04\x20\xc4\x14\x64\x15\xe0\xbe\
+      \x10\x08\xa5\xd3\x2c\x08\x27\xc4\xaa\x02\xd0";
+
+pub const OF_FORMAT_1_PADDED_WITH_A_ONE: &[u8; 31] =
+    b"\x01\x00\x06\x81\xd5\x49\x70\xd6\x5c\x35\x97\xca\x04\x20\xc4\x14\x60\x0b\xc1\x7c\
+      \x20\x11\x4b\xa6\x58\x10\x4f\x89\x54\x05\xb0";
+
 /// Each vector with its answer.
-pub const VECTORS: [(&[u8], Answer); 16] = [
+pub const VECTORS: [(&[u8], Answer); 19] = [
     (SMALLEST, Answer::Canonical(SMALLEST)),
     (WITH_GASOLINE, Answer::Canonical(WITH_GASOLINE)),
     (WITH_MARKS_WRITTEN_OUT, Answer::Canonical(SMALLEST)),
@@ -198,6 +210,22 @@ pub const VECTORS: [(&[u8], Answer); 16] = [
             place: 244,
             reason: Reason::SmallLarge,
             value: 64,
+        },
+    ),
+    (
+        SMALLEST_OF_FORMAT_1,
+        Answer::Canonical(SMALLEST_OF_FORMAT_1),
+    ),
+    (
+        WITH_GASOLINE_OF_FORMAT_1,
+        Answer::Canonical(WITH_GASOLINE_OF_FORMAT_1),
+    ),
+    (
+        OF_FORMAT_1_PADDED_WITH_A_ONE,
+        Answer::Refused {
+            place: 243,
+            reason: Reason::PadBits,
+            value: 1,
         },
     ),
 ];

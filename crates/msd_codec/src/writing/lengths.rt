@@ -3,18 +3,19 @@
 //! which the proof needs.
 ghost use Rattle.std.specs.Prelude.{◌≡◌, ◌+◌, ◌*◌, ◌≤◌, true, None};
 ghost use Rattle.std.specs.Option.{option_map};
-ghost use Rattle.per_types.specs.Types.{number};
+ghost use Rattle.per_types.specs.Types.{number, presence_count};
+ghost use Rattle.msd_values.specs.Format.{HasMarks};
 ghost use Rattle.per_types.specs.Spelling.{MoreElements};
-ghost use Rattle.msd_codec.specs.Module.{octet, timestamp, control_type, vehicle_identification, propulsion_storage, vehicle_location, location_delta, vehicle_type, msd_structure, msd_message, ecall_message, additional_data};
+ghost use Rattle.msd_codec.specs.Module.{octet, timestamp, control_type, vehicle_identification, storages, propulsion_storage, vehicle_location, location_delta, vehicle_type, msd_structure, msd_message, ecall_message, additional_data};
 ghost use Rattle.msd_codec.specs.Trees.{IsPlain, count_tree, control_tree, kind_tree, vin_tree, storage_tree, pair_tree, way_tree, structure_tree, message_tree, extra_tree, more_of, tree};
 ghost use Rattle.msd_codec.specs.inner.Writing.{HasLength, Canon, Optional, Flag};
 
-use msd_values::{Delta, Extra, Marks, Msd, VehicleKind, Vin};
+use msd_values::{Delta, Extra, Format, Marks, Msd, VehicleKind, Vin};
 use per_bits::Additions;
 
 /// The bits of the whole message.
 pub fn message_len(msd: &Msd<'_>) -> u32
-    ensures count { HasLength (Canon ecall_message (tree msd.now)) result }
+    ensures count { HasLength (Canon (ecall_message msd.now.format) (tree msd.now)) result }
     ensures few { IsPlain msd.now → result ≤ 302 }
 {
     8 + body_len(msd)
@@ -22,7 +23,7 @@ pub fn message_len(msd: &Msd<'_>) -> u32
 
 // The structure, additional data and additions, behind a mark and one presence bit.
 fn body_len(msd: &Msd<'_>) -> u32
-    ensures count { HasLength (Canon msd_message (message_tree msd.now)) result }
+    ensures count { HasLength (Canon (msd_message msd.now.format) (message_tree msd.now)) result }
     ensures few { result ≤ 32 * 65535 }
     ensures plain { IsPlain msd.now → result ≤ 294 }
 {
@@ -31,12 +32,12 @@ fn body_len(msd: &Msd<'_>) -> u32
 
 // The components of the structure, behind a mark and three presence bits.
 fn structure_len(msd: &Msd<'_>) -> u32
-    ensures count { HasLength (Canon msd_structure (structure_tree msd.now)) result }
+    ensures count { HasLength (Canon (msd_structure msd.now.format) (structure_tree msd.now)) result }
     ensures few { result ≤ 17 * 65535 }
     ensures plain { msd.now.fuel_more ≡ None → msd.now.set_more ≡ None → result ≤ 292 }
 {
     let control = control_len(msd.automatic, msd.test, msd.trusted, msd.kind);
-    let storage = storage_len(msd.fuel, &msd.fuel_more);
+    let storage = storage_len(msd.format, msd.fuel, &msd.fuel_more);
     let vehicle = octet_len(msd.message) + control + vin_len(&msd.vin) + storage;
     let location = location_len(msd.latitude, msd.longitude);
     let place = timestamp_len(msd.time) + location + octet_len(msd.heading);
@@ -96,16 +97,28 @@ fn vin_len(vin: &Vin) -> u32
     6 * vin.text().len() as u32
 }
 
-// A mark, seven presence bits, and a bit for each mark that is set.
-fn storage_len(fuel: Marks, more: &Option<Additions<'_>>) -> u32
-    ensures count { HasLength (Canon propulsion_storage (storage_tree fuel more.now)) result }
+// A mark, a presence bit for each mark, and a bit for each that is set.
+fn storage_len(format: Format, fuel: Marks, more: &Option<Additions<'_>>) -> u32
+    requires { HasMarks format fuel }
+    ensures count { HasLength (Canon (propulsion_storage format) (storage_tree format fuel more.now)) result }
     ensures few { result ≤ 8 * 65535 + 15 }
     ensures plain { more.now ≡ None → result ≤ 15 }
 {
     let gas = flag_len(fuel.natural_gas) + flag_len(fuel.propane);
     let burnt = flag_len(fuel.gasoline) + flag_len(fuel.diesel) + gas;
     let others = flag_len(fuel.electric) + flag_len(fuel.hydrogen) + flag_len(fuel.other);
-    8 + burnt + others + more_len(more)
+    1 + mark_count(format) + burnt + others + more_len(more)
+}
+
+// How many marks a format has.
+fn mark_count(format: Format) -> u32
+    ensures count { result ≡ presence_count (storages format) }
+    ensures few { result ≤ 7 }
+{
+    match format {
+        Format::One => 6,
+        Format::Two => 7,
+    }
 }
 
 fn flag_len(flag: bool) -> u32

@@ -2,36 +2,36 @@
 ghost use Rattle.std.specs.Option.{option_map};
 ghost use Rattle.per_bits.specs.Bits.{octets_of};
 ghost use Rattle.per_types.specs.Types.{bytes, format, octet_string, relative_oid};
-ghost use Rattle.msd_values.specs.Format.{format_number};
 ghost use Rattle.msd_codec.specs.Module.{additional_data, known_formats, msd_message, ecall_message};
+ghost use Rattle.msd_values.specs.Format.{format_number};
 ghost use Rattle.msd_codec.specs.Trees.{count_tree, extra_tree, message_tree, tree};
 ghost use Rattle.msd_codec.specs.inner.Writing.{Puts, Canon, Optional};
 
 use crate::formats::FORMATS;
 use crate::writing::elements::{write_extended, write_more, write_present};
 use crate::writing::structure::write_structure;
-use msd_values::{Extra, FORMAT, Msd};
+use msd_values::{Extra, Format, Msd};
 use per_bits::{BitBuf, Full, Octs, Oid};
 use per_types::{write_format, write_octets, write_oid};
 
 /// The message, behind the number of its format.
 pub fn write_message(to: &mut BitBuf, msd: &Msd<'_>) -> Result<(), Full>
-    ensures { Puts (Canon ecall_message (tree msd.now)) to.old result to.new }
+    ensures { Puts (Canon (ecall_message msd.now.format) (tree msd.now)) to.old result to.new }
 {
-    write_known_format(to)?;
+    write_known_format(to, msd.format)?;
     write_body(to, msd)
 }
 
-// The number of the one known format.
-fn write_known_format(to: &mut BitBuf) -> Result<(), Full>
-    ensures { Puts (Canon (format known_formats) (count_tree format_number)) to.old result to.new }
+// The number of the format.
+fn write_known_format(to: &mut BitBuf, known: Format) -> Result<(), Full>
+    ensures { Puts (Canon (format known_formats) (count_tree (format_number known))) to.old result to.new }
 {
-    write_format(to, FORMAT, &FORMATS)
+    write_format(to, known.number(), &FORMATS)
 }
 
 // The structure, additional data and additions.
 fn write_body(to: &mut BitBuf, msd: &Msd<'_>) -> Result<(), Full>
-    ensures { Puts (Canon msd_message (message_tree msd.now)) to.old result to.new }
+    ensures { Puts (Canon (msd_message msd.now.format) (message_tree msd.now)) to.old result to.new }
 {
     write_extended(to, msd.message_more.is_some())?;
     write_present(to, &[msd.extra.is_some()])?;

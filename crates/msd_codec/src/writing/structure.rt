@@ -1,20 +1,23 @@
 //! Writers of the structure of a set of data and of its components.
 ghost use Rattle.std.specs.Option.{option_map};
-ghost use Rattle.msd_codec.specs.Module.{octet, control_type, vehicle_identification, propulsion_storage, location_delta, msd_structure};
+ghost use Rattle.msd_codec.specs.Module.{octet, control_type, vehicle_identification, storages, propulsion_storage, location_delta, msd_structure};
 ghost use Rattle.msd_codec.specs.Trees.{count_tree, control_tree, vin_tree, storage_tree, way_tree, structure_tree};
-ghost use Rattle.msd_codec.specs.inner.Writing.{Puts, Canon, Optional};
+ghost use Rattle.msd_codec.specs.inner.Writing.{Puts, Canon, Optional, marks_of};
+ghost use Rattle.msd_values.specs.Format.{HasMarks};
+ghost use Rattle.per_types.specs.Types.{presence_count};
+ghost use Rattle.per_types.specs.Spelling.{PresenceElements};
 
 use crate::writing::elements::{
     write_angle_delta, write_angles, write_extended, write_flag, write_more, write_octet,
     write_present, write_timestamp, write_truths, write_vehicle_type,
 };
 use crate::writing::texts::write_text;
-use msd_values::{Delta, Marks, Msd, VehicleKind, Vin};
+use msd_values::{Delta, Format, Marks, Msd, VehicleKind, Vin};
 use per_bits::{Additions, BitBuf, Full};
 
 /// The structure, which is the set of data without what stands beside it.
 pub fn write_structure(to: &mut BitBuf, msd: &Msd<'_>) -> Result<(), Full>
-    ensures { Puts (Canon msd_structure (structure_tree msd.now)) to.old result to.new }
+    ensures { Puts (Canon (msd_structure msd.now.format) (structure_tree msd.now)) to.old result to.new }
 {
     let before1 = msd.before1.is_some();
     let before2 = msd.before2.is_some();
@@ -24,7 +27,7 @@ pub fn write_structure(to: &mut BitBuf, msd: &Msd<'_>) -> Result<(), Full>
     write_octet(to, msd.message)?;
     write_control(to, msd.automatic, msd.test, msd.trusted, msd.kind)?;
     write_vin(to, &msd.vin)?;
-    write_storage(to, msd.fuel, &msd.fuel_more)?;
+    write_storage(to, msd.format, msd.fuel, &msd.fuel_more)?;
     write_timestamp(to, msd.time)?;
     write_angles(to, msd.latitude, msd.longitude)?;
     write_octet(to, msd.heading)?;
@@ -60,8 +63,30 @@ fn write_vin(to: &mut BitBuf, vin: &Vin) -> Result<(), Full>
 }
 
 // What the vehicle stores for its propulsion.
-fn write_storage(to: &mut BitBuf, fuel: Marks, more: &Option<Additions<'_>>) -> Result<(), Full>
-    ensures { Puts (Canon propulsion_storage (storage_tree fuel more.now)) to.old result to.new }
+fn write_storage(
+    to: &mut BitBuf,
+    format: Format,
+    fuel: Marks,
+    more: &Option<Additions<'_>>,
+) -> Result<(), Full>
+    requires { HasMarks format fuel }
+    ensures { Puts (Canon (propulsion_storage format) (storage_tree format fuel more.now)) to.old result to.new }
+{
+    write_extended(to, more.is_some())?;
+    write_marks_present(to, format, fuel)?;
+    write_flag(to, fuel.gasoline)?;
+    write_flag(to, fuel.diesel)?;
+    write_flag(to, fuel.natural_gas)?;
+    write_flag(to, fuel.propane)?;
+    write_flag(to, fuel.electric)?;
+    write_flag(to, fuel.hydrogen)?;
+    write_flag(to, fuel.other)?;
+    write_more(to, more)
+}
+
+// The presence bits of the marks, which are 1 where a mark is set. Format 1 has none for other energies.
+fn write_marks_present(to: &mut BitBuf, format: Format, fuel: Marks) -> Result<(), Full>
+    ensures { Puts (PresenceElements (presence_count (storages format)) (marks_of format fuel)) to.old result to.new }
 {
     let marks = [
         fuel.gasoline,
@@ -72,16 +97,10 @@ fn write_storage(to: &mut BitBuf, fuel: Marks, more: &Option<Additions<'_>>) -> 
         fuel.hydrogen,
         fuel.other,
     ];
-    write_extended(to, more.is_some())?;
-    write_present(to, &marks)?;
-    write_flag(to, fuel.gasoline)?;
-    write_flag(to, fuel.diesel)?;
-    write_flag(to, fuel.natural_gas)?;
-    write_flag(to, fuel.propane)?;
-    write_flag(to, fuel.electric)?;
-    write_flag(to, fuel.hydrogen)?;
-    write_flag(to, fuel.other)?;
-    write_more(to, more)
+    match format {
+        Format::One => write_present(to, &marks[..6]),
+        Format::Two => write_present(to, &marks),
+    }
 }
 
 // The way from a recent location, if it is present.

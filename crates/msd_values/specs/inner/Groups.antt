@@ -5,8 +5,8 @@ use Rattle.per_bits.specs.Bits.{Part, octets_of}
 use Rattle.msd_values.specs.declared.msd.Msd.{Msd}
 use Rattle.msd_values.specs.declared.remarks.Remarks.{Remarks}
 use Rattle.msd_values.specs.Additions.{addition_text}
-use Rattle.msd_values.specs.Civil.{instant_text}
 use Rattle.msd_values.specs.Format.{format_number}
+use Rattle.msd_values.specs.Civil.{instant_text}
 use Rattle.msd_values.specs.Description.{line}
 use Rattle.msd_values.specs.Remarks.{remarks_of}
 use Rattle.msd_values.specs.Texts.{or_none, truth_text, kind_text, marks_text, angle_text, heading_text, way_text}
@@ -14,7 +14,7 @@ use Rattle.msd_values.specs.Texts.{or_none, truth_text, kind_text, marks_text, a
 -- what the set is, and of which vehicle
 unfoldable pub vehicle_lines : Msd → List ℕ
 vehicle_lines msd =
-    line (codes "format") (decimal format_number)
+    line (codes "format") (decimal (format_number msd.format))
     ++ line (codes "message") (decimal msd.message)
     ++ line (codes "automatic") (truth_text msd.automatic)
     ++ line (codes "test") (truth_text msd.test)

@@ -4,12 +4,13 @@ use Rattle.trace_text.specs.declared.draft.Draft.{Draft}
 use Rattle.trace_text.specs.declared.fact_line.FactLine.{FactLine}
 use Rattle.trace_text.specs.declared.fact_line.FactLine.TheVariants as fact
 use Rattle.line_input.specs.Characters.{digit_zero}
-use Rattle.trace_text.specs.Facts.{most_extras, no_marks, unknown_place, unknown_heading}
+use Rattle.trace_text.specs.Facts.{most_extras, no_marks, usual_format, unknown_place, unknown_heading}
 use Rattle.msd_fit.specs.declared.facts.OwnFacts.{OwnFacts}
 
 -- the facts before any line; a number of zeros, the first category and the time 0 hold places
 abbrev pub first_own : OwnFacts
 first_own = record {
+  format = usual_format;
   vin = replicate 17 digit_zero;
   kind = 1;
   fuel = no_marks;
@@ -33,6 +34,7 @@ has_room_for draft _ = true
 abbrev pub own_with : OwnFacts → FactLine → OwnFacts
 own_with own (fact.Vin vin) = record own { vin = vin }
 own_with own (fact.Kind kind) = record own { kind = kind }
+own_with own (fact.Format number) = record own { format = number }
 own_with own (fact.Fuel fuel) = record own { fuel = fuel }
 own_with own (fact.Time time) = record own { time = time }
 own_with own (fact.Place latitude longitude) = record own { latitude = latitude; longitude = longitude }

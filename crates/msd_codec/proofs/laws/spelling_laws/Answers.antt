@@ -1,15 +1,17 @@
-use Rattle.msd_codec.specs.Module.{ecall_message}
-use Rattle.per_types.proofs.Decided.{no_prefix, one_value}
+use Rattle.msd_codec.proofs.BothFormats as both
 use Rattle.msd_codec.proofs.SetLaws as laws
 use Rattle.msd_codec.proofs.CanonicalBits as bits
 use Rattle.msd_codec.specs.Trees.{tree}
 use Rattle.msd_codec.proofs.laws.spelling_laws.Goals as goal
 
 pub returns-clause-no_prefix : goal.returns-clause-no_prefix
-returns-clause-no_prefix c = no_prefix ecall_message
+returns-clause-no_prefix c = both.no_prefix
 
 pub returns-clause-one_value : goal.returns-clause-one_value
-returns-clause-one_value c = one_value ecall_message
+returns-clause-one_value c = both.one_value
+
+pub returns-clause-module : goal.returns-clause-module
+returns-clause-module c = both.module_is
 
 pub returns-clause-shown : goal.returns-clause-shown
 returns-clause-shown c = laws.canonical_shows

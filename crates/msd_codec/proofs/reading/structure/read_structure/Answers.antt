@@ -119,7 +119,7 @@ unfolding digits
 returns-clause-exact c =
     let latitude : SFits w32 c.in_ok-latitude.latitude = search rules in
     let longitude : SFits w32 c.in_ok-latitude.longitude = search rules in
-    structure_is _ _ _ _ _ _ _ _ _ _ _ _ _ _ _ _ _ _ _ _ _ _ _ _ _ _ _ _ _ _ _ _ c.in_ok-extended.ensures.exact c.in_ok-present.ensures.exact c.in_ok-message.ensures.exact c.in_ok-control.ensures.exact c.in_ok-vin.ensures.exact c.in_ok-storage.ensures.exact c.in_ok-time.ensures.exact c.in_ok-latitude.ensures.exact c.in_ok-heading.ensures.exact c.in_ok-before1.ensures.exact c.in_ok-before2.ensures.exact c.in_ok-passengers.ensures.exact c.in_ok-set_more.ensures.exact (to_z-of_z w32 _ latitude) (to_z-of_z w32 _ longitude)
+    structure_is _ _ _ _ _ _ _ _ _ _ _ _ _ _ _ _ _ _ _ _ _ _ _ _ _ _ _ _ _ _ _ _ _ c.in_ok-extended.ensures.exact c.in_ok-present.ensures.exact c.in_ok-message.ensures.exact c.in_ok-control.ensures.exact c.in_ok-vin.ensures.exact c.in_ok-storage.ensures.exact c.in_ok-time.ensures.exact c.in_ok-latitude.ensures.exact c.in_ok-heading.ensures.exact c.in_ok-before1.ensures.exact c.in_ok-before2.ensures.exact c.in_ok-passengers.ensures.exact c.in_ok-set_more.ensures.exact (to_z-of_z w32 _ latitude) (to_z-of_z w32 _ longitude)
 
 pub returns-clause-parts : goal.returns-clause-parts
 returns-clause-parts c =
