@@ -2,6 +2,7 @@
 use Rattle.std.proofs.Common.{◌≡◌, ℕ, ◌≤◌, ◌&&◌, if◌then◌else◌, true, false, Option, Some, None, Result, Ok, Err, OnOk, OnErr, List, [], ◌∷◌, refl, ap, sym, ◌∙◌, subst, arith}
 use Rattle.std.specs.Option.{is_some}
 use Rattle.std.proofs.lemmas.Bool.{eq-eqb}
+use Rattle.link_frames.specs.declared.note.Note.{Note}
 use Rattle.link_frames.specs.declared.note.Note.TheVariants as note
 use Rattle.ivs_machine.specs.Vehicle.{Vehicle, Phase, Standby, InSeries, InCall, vehicle_call, call_in, is_dialling, is_dialling_in, is_reachable, is_standby}
 use Rattle.ivs_machine.specs.VehicleRows as vehicle
@@ -10,7 +11,7 @@ use Rattle.trace_model.specs.History.{told}
 use Rattle.channel_sim.specs.declared.calls.call.Call as kept_call
 use Rattle.channel_sim.specs.declared.channel.Channel as kept_channel
 use Rattle.channel_sim.specs.World.{Call, World, Step, Hears, InCall, is_number, quiet_step, performs, settled, vehicle_did}
-use Rattle.channel_sim.specs.Lines.{Deed, Does, deed, in_its_call, or_nothing, nothing_step}
+use Rattle.channel_sim.specs.Lines.{Deed, Does, deed, in_its_call, or_nothing, item_step, nothing_step}
 use Rattle.channel_sim.specs.inner.Acts.{IsCaught}
 use Rattle.channel_sim.specs.Lag.{CallsLag, StandsAt, StandsNow, CameAt, CameNow}
 use Rattle.channel_sim.proofs.StepLemmas.{quiet_behind}
@@ -36,10 +37,14 @@ all_caught tick c (x ∷ xs) [] h = absurd h
 all_caught tick c (x ∷ xs) (k ∷ ks) h =
     ((λ same. let low : tick ≤ x.passed = h.0.from in let high : x.passed ≤ tick = h.0.passed in omega arith), all_caught tick c xs ks h.1)
 
+-- an item that stands alone
+pub item_came : {Fault : Type 0} (n : Note) (Grew Partly : List Entry → Type 0) (result : Result (Unit {0}) Fault) (kept : kept_channel.Channel) (w : World) → StandsNow kept w → OnOk result (Grew (told kept.tick (n ∷ []))) → OnErr result (Partly (told kept.tick (n ∷ []))) → CameNow Grew Partly result kept (item_step n w)
+item_came n Grew Partly (Ok u) kept w s ok err = (subst (λ t. Grew (told t (n ∷ []))) (sym s.tick) ok, s)
+item_came n Grew Partly (Err e) kept w s ok err = subst (λ t. Partly (told t (n ∷ []))) (sym s.tick) err
+
 -- a line that applies to nothing
 pub nothing_came : {Fault : Type 0} (Grew Partly : List Entry → Type 0) (result : Result (Unit {0}) Fault) (kept : kept_channel.Channel) (w : World) → StandsNow kept w → OnOk result (Grew (told kept.tick (note.Nothing ∷ []))) → OnErr result (Partly (told kept.tick (note.Nothing ∷ []))) → CameNow Grew Partly result kept (nothing_step w)
-nothing_came Grew Partly (Ok u) kept w s ok err = (subst (λ t. Grew (told t (note.Nothing ∷ []))) (sym s.tick) ok, s)
-nothing_came Grew Partly (Err e) kept w s ok err = subst (λ t. Partly (told t (note.Nothing ∷ []))) (sym s.tick) err
+nothing_came Grew Partly result kept w s ok err = item_came note.Nothing Grew Partly result kept w s ok err
 
 -- what the vehicle hears in its own call
 pub in_call_performs : (c : ℕ) (e : vehicle.Heard) (w : World) → is_number c (vehicle_call w.vehicle) ≡ true → performs (InCall c e) w ≡ performs (Hears e) w

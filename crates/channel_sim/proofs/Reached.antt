@@ -1,6 +1,7 @@
 -- How far one event line goes: at most one more call is drawn, and at most its ticks elapse.
 use Rattle.std.proofs.Common.{◌≡◌, ◌≤◌, ℕ, Bool, true, false, List, [], ◌∷◌, ◌+◌, ◌-◌, ◌++◌, Option, Some, None, slice_get, map, zero, suc, if◌then◌else◌, arith, refl}
 use Rattle.link_frames.specs.Row.{Row}
+use Rattle.link_frames.specs.declared.frame.End.TheVariants as «end»
 use Rattle.ivs_machine.specs.Vehicle.{vehicle_call, is_dialling, is_reachable}
 use Rattle.ivs_machine.specs.VehicleRows as vehicle
 use Rattle.link_frames.specs.declared.note.Why.TheVariants as why
@@ -11,7 +12,7 @@ use Rattle.trace_model.specs.declared.event.Event.{Event}
 use Rattle.trace_model.specs.declared.event.Event.TheVariants as event
 use Rattle.channel_sim.specs.World.{World, Step, Act, Hears, InCall, Session, Due, quiet_step, session_of, vehicle_is_in, point_is_in, session_acts, does, does_each, consequences, settled, performs, hands_up, hands_down, each, due_in, unit, units, call_of, session_passes, sessions_pass, vehicle_passes, vehicle_did, flows_up}
 use Rattle.channel_sim.specs.WorldStands.{TicksIn}
-use Rattle.channel_sim.specs.Lines.{Deed, Does, HandsUp, HandsDown, Answers, CallsBack, deed, when, in_its_call, hands_one, sent_up, sent_down, or_nothing, step}
+use Rattle.channel_sim.specs.Lines.{Deed, Does, HandsUp, HandsDown, Answers, CallsBack, deed, when, in_its_call, hands_one, sent_up, sent_down, or_nothing, session_resets, step}
 
 -- so many more calls are drawn at most, and so many ticks elapse
 pub record Reaches (more late : ℕ) (w u : World) : Type 0 where
@@ -148,6 +149,12 @@ step_reaches w (event.Tick n) late h =
     record { drawn = omega (arith, r.drawn); tick = omega (arith, r.tick, h) }
 step_reaches w (event.Flow true delay) late h = record { drawn = omega arith; tick = omega arith }
 step_reaches w (event.Flow false delay) late h = record { drawn = omega arith; tick = omega arith }
+step_reaches w (event.Reset «end».Point) late h =
+    let cs : List ℕ = map (λ k. k.number) w.calls in
+    let r : Reaches 0 0 w (each session_resets cs w).world =
+    all_reach session_resets (λ c u. performs_reaches (Session c point.Reset) u) cs w in
+    record { drawn = omega (arith, r.drawn); tick = omega (arith, r.tick) }
+step_reaches w (event.Reset «end».Vehicle) late h = later w late (deed_reaches (Does (Hears vehicle.Reset)) w)
 step_reaches w (event.Trigger cause) late h = later w late (deed_reaches (Does (Hears (vehicle.Trigger cause))) w)
 step_reaches w event.Cancel late h = later w late (deed_reaches (Does (Hears vehicle.Cancel)) w)
 step_reaches w (event.Net up) late h = later w late (deed_reaches (Does (Hears (vehicle.Net up))) w)
@@ -173,6 +180,7 @@ step_reaches w (event.Deliver false c k) late h =
 -- what holds of every number of elapsed ticks that the line may have
 pub ticks_in : {P : ℕ → Type 0} → (e : Event) → ((n : ℕ) → e ≡ event.Tick n → P n) → TicksIn e P
 ticks_in (event.Tick n) all = all n refl
+ticks_in (event.Reset e) all = tt
 ticks_in (event.Trigger cause) all = tt
 ticks_in event.Cancel all = tt
 ticks_in (event.Net up) all = tt

@@ -1,10 +1,12 @@
 -- Each line of a script keeps a world that fits.
-use Rattle.std.specs.Prelude.{◌≡◌, ◌+◌, ◌-◌, ℕ, ◌==◌, zero, suc, Bool, true, false, List, [], ◌∷◌, ◌++◌, Option, Some, None, IfSome, slice_get, if◌then◌else◌}
+use Rattle.std.specs.Prelude.{◌≡◌, ◌+◌, ◌-◌, ℕ, ◌==◌, zero, suc, Bool, true, false, List, [], ◌∷◌, ◌++◌, Option, Some, None, IfSome, map, slice_get, if◌then◌else◌}
 use Rattle.std.specs.List.{AllByRecursion}
-use Rattle.std.proofs.Common.{refl, sym, subst, ◌∙◌, arith, append_assoc}
+use Rattle.std.proofs.Common.{ap, refl, sym, subst, ◌∙◌, arith, append_assoc}
 use Rattle.std.proofs.lemmas.Bool.{eqb-true}
 use Rattle.std.proofs.lemmas.List.{append-nil}
+use Rattle.link_frames.specs.declared.frame.End.{End}
 use Rattle.link_frames.specs.declared.frame.End.TheVariants as «end»
+use Rattle.link_frames.specs.declared.note.Note.{Note}
 use Rattle.link_frames.specs.declared.note.Note.TheVariants as note
 use Rattle.link_frames.specs.declared.note.Why.TheVariants as why
 use Rattle.link_frames.specs.Owes.{Seat, Owes, InTime}
@@ -20,7 +22,7 @@ use Rattle.trace_model.specs.declared.event.Event.TheVariants as event
 use Rattle.trace_model.specs.History.{Sent, told, sent_by}
 use Rattle.trace_model.proofs.Folds.{sent_append}
 use Rattle.channel_sim.specs.World.{Call, World, Step, Act, Hears, InCall, Session, quiet_step, and_then, call_of, point_is_in, vehicle_is_in, does, performs, hands_up, hands_down, each, unit, units}
-use Rattle.channel_sim.specs.Lines.{Deed, Does, HandsUp, HandsDown, Answers, CallsBack, deed, when, in_its_call, sent_up, sent_down, hands_one, hands_place, deeds_of, nothing_step, or_nothing, step, world_after, trace_from}
+use Rattle.channel_sim.specs.Lines.{Deed, Does, HandsUp, HandsDown, Answers, CallsBack, deed, when, in_its_call, sent_up, sent_down, hands_one, hands_place, deeds_of, item_step, or_nothing, point_resets, session_resets, step, world_after, trace_from}
 use Rattle.channel_sim.specs.Fit.{vehicle_seat, seats_of, FramesFit, CallLinks}
 use Rattle.channel_sim.specs.inner.FitAt.{Came, FitAt, FitsAt, Goes, all_at}
 use Rattle.channel_sim.proofs.Lists.{all_at as element_at}
@@ -50,14 +52,28 @@ stays w t f = subst (λ (u : List Entry). FitsNow w u) (sym (append-nil t)) f
 now_of : (now last : ℕ) (s : Step) (t : List Entry) → Goes (all_at now) now last s t → GoesNow s t
 now_of now last s t g = record { now = now; last = last; fits = g }
 
--- A line that applies to nothing.
+-- An item that is of no call.
 
-nothing_owes : (s : Option Seat) → IfSome s (InTime «end».Vehicle) → Owes «end».Vehicle 0 None s (note.Nothing ∷ []) s
-nothing_owes None h = record { given = ((tt, tt, tt), tt); seat = refl; in_time = tt }
-nothing_owes (Some k) h = record { given = ((tt, tt, tt), tt); seat = refl; in_time = h }
+abbrev IsAlone : Note → Type 0
+IsAlone note.Nothing = Unit {0}
+IsAlone (note.Restart e) = Unit {0}
+IsAlone _ = ⊥
 
-nothing_goes : (w : World) (t : List Entry) → FitsNow w t → GoesNow (nothing_step w) t
-nothing_goes w t f =
+alone_owes : (n : Note) → IsAlone n → (s : Option Seat) → IfSome s (InTime «end».Vehicle) →
+    Owes «end».Vehicle 0 None s (n ∷ []) s
+alone_owes note.Nothing a None h = record { given = ((tt, tt, tt), tt); seat = refl; in_time = tt }
+alone_owes note.Nothing a (Some k) h = record { given = ((tt, tt, tt), tt); seat = refl; in_time = h }
+alone_owes (note.Restart e) a None h = record { given = ((tt, tt, tt), tt); seat = refl; in_time = tt }
+alone_owes (note.Restart e) a (Some k) h = record { given = ((tt, tt, tt), tt); seat = refl; in_time = h }
+alone_owes _ a s h = absurd a
+
+alone_sends : (n : Note) → IsAlone n → (e : End) (c tick : ℕ) → sent_by e c (told tick (n ∷ [])) ≡ []
+alone_sends note.Nothing a e c tick = refl
+alone_sends (note.Restart e) a f c tick = refl
+alone_sends _ a e c tick = absurd a
+
+item_goes : (n : Note) → IsAlone n → (w : World) (t : List Entry) → FitsNow w t → GoesNow (item_step n w) t
+item_goes n alone w t f =
     let g = f.fits in
     record {
       now = f.now;
@@ -67,9 +83,9 @@ nothing_goes w t f =
             tick = g.tick;
             drawn = g.drawn;
             fit =
-                subst (λ (z : ℕ). FitAt (all_at f.now) (seats_of w.vehicle w.calls) f.now f.last (t ++ told z (note.Nothing ∷ []))) (sym g.tick)
-                (event_kept (all_at f.now) (seats_of w.vehicle w.calls) (seats_of w.vehicle w.calls) f.now f.last t «end».Vehicle 0 None (note.Nothing ∷ []) (vehicle_seat 0 w.vehicle) g.fit (omega arith) tt refl
-                (nothing_owes (vehicle_seat 0 w.vehicle) (g.fit.in_time «end».Vehicle 0))
+                subst (λ (z : ℕ). FitAt (all_at f.now) (seats_of w.vehicle w.calls) f.now f.last (t ++ told z (n ∷ []))) (sym g.tick)
+                (event_kept (all_at f.now) (seats_of w.vehicle w.calls) (seats_of w.vehicle w.calls) f.now f.last t «end».Vehicle 0 None (n ∷ []) (vehicle_seat 0 w.vehicle) g.fit (omega arith) tt refl
+                (alone_owes n alone (vehicle_seat 0 w.vehicle) (g.fit.in_time «end».Vehicle 0))
                 (record { here = refl; others = λ h d a. refl; clocks = λ h d a. refl }));
             vehicle = g.vehicle;
             calls = g.calls;
@@ -80,13 +96,19 @@ nothing_goes w t f =
           };
     }
   where
+    none_sent : (e : End) (c : ℕ) → sent_by e c (t ++ told w.tick (n ∷ [])) ≡ sent_by e c t
+    none_sent e c =
+        sent_append e c t (told w.tick (n ∷ []))
+        ∙ ap (λ (l : List Sent). sent_by e c t ++ l) (alone_sends n alone e c w.tick)
+        ∙ append-nil (sent_by e c t)
+
     same_frames : (ks : List Call) → AllByRecursion (FramesFit t) ks →
-        AllByRecursion (FramesFit (t ++ told w.tick (note.Nothing ∷ []))) ks
+        AllByRecursion (FramesFit (t ++ told w.tick (n ∷ []))) ks
     same_frames [] a = tt
     same_frames (k ∷ ks) a = (
       record {
-        up = a.0.up ∙ sym (sent_append «end».Vehicle k.number t (told w.tick (note.Nothing ∷ [])) ∙ append-nil (sent_by «end».Vehicle k.number t));
-        down = a.0.down ∙ sym (sent_append «end».Point k.number t (told w.tick (note.Nothing ∷ [])) ∙ append-nil (sent_by «end».Point k.number t));
+        up = a.0.up ∙ sym (none_sent «end».Vehicle k.number);
+        down = a.0.down ∙ sym (none_sent «end».Point k.number);
       },
       same_frames ks a.1,
     )
@@ -101,6 +123,7 @@ IsQuiet (Hears (vehicle.Net up)) = Unit {0}
 IsQuiet (Hears vehicle.Failed) = Unit {0}
 IsQuiet (Hears vehicle.Sleep) = Unit {0}
 IsQuiet (Hears vehicle.Fault) = Unit {0}
+IsQuiet (Hears vehicle.Reset) = Unit {0}
 IsQuiet (InCall c vehicle.Lost) = Unit {0}
 IsQuiet (Session c (point.Arrives f)) = ⊥
 IsQuiet (Session c e) = Unit {0}
@@ -174,7 +197,7 @@ later_goes (_ ∷ ds) a w t f = absurd a.0
 
 or_nothing_goes : (ds : List Deed) (w : World) (t : List Entry) → AreReady w t ds → FitsNow w t →
     GoesNow (or_nothing ds w) t
-or_nothing_goes [] w t a f = nothing_goes w t f
+or_nothing_goes [] w t a f = item_goes note.Nothing tt w t f
 or_nothing_goes (d ∷ ds) w t a f =
     then_goes t (deed d w) (each deed ds) (deed_goes w t f d a.0) (λ u g. later_goes ds a.1 (deed d w).world u g)
 
@@ -263,6 +286,8 @@ all_ready w t f (event.Deliver false c k) =
     (element_at (λ s. Came «end».Vehicle c t s.frame) (sent_down (call_of c w.calls)) (k - 1)
     (down_sent t c f.fits.fit.links w.calls f.fits.frames)))
 all_ready w t f (event.Flow up delay) = tt
+all_ready w t f (event.Reset «end».Vehicle) = (tt, tt)
+all_ready w t f (event.Reset «end».Point) = tt
 all_ready w t f (event.Tick n) = tt
 
 -- Steps.
@@ -293,11 +318,25 @@ flowed w t a b f =
           };
     }
 
+each_reset_goes : (cs : List ℕ) (w : World) (t : List Entry) → FitsNow w t → GoesNow (each session_resets cs w) t
+each_reset_goes [] w t f = stays w t f
+each_reset_goes (c ∷ cs) w t f =
+    then_goes t (session_resets c w) (each session_resets cs) (act_goes w t f (Session c point.Reset) tt)
+    (λ u g. each_reset_goes cs (session_resets c w).world u g)
+
+point_resets_goes : (w : World) (t : List Entry) → FitsNow w t → GoesNow (point_resets w) t
+point_resets_goes w t f =
+    let sessions : Step = each session_resets (map (λ k. k.number) w.calls) w in
+    let restart : Note = note.Restart «end».Point in
+    then_goes t sessions (item_step restart) (each_reset_goes (map (λ k. k.number) w.calls) w t f)
+    (λ u g. item_goes restart tt sessions.world u g)
+
 pub step_goes : (w : World) (t : List Entry) → FitsNow w t → (e : Event) → GoesNow (step w e) t
 step_goes w t f (event.Flow true delay) =
     stays (record w { up_flow = delay }) t (flowed w t delay w.down_flow f)
 step_goes w t f (event.Flow false delay) =
     stays (record w { down_flow = delay }) t (flowed w t w.up_flow delay f)
+step_goes w t f (event.Reset «end».Point) = point_resets_goes w t f
 step_goes w t f (event.Tick n) = units_goes n w t f
 step_goes w t f e = or_nothing_goes (deeds_of w e) w t (all_ready w t f e) f
 

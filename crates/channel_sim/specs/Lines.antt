@@ -1,6 +1,8 @@
 -- What each event line of a script does in the world, as a list of what the ends hear, and the trace of a script. This
 -- project's profile. Cited by the contracts of `World`, by the laws of this crate and by the reply of `ecall`.
-use Rattle.std.specs.Prelude.{ℕ, Bool, true, false, List, [], ◌∷◌, ◌++◌, ◌+◌, ◌-◌, Option, Some, None, length, slice_get, if◌then◌else◌}
+use Rattle.std.specs.Prelude.{ℕ, Bool, true, false, List, [], ◌∷◌, ◌++◌, ◌+◌, ◌-◌, Option, Some, None, length, map, slice_get, if◌then◌else◌}
+use Rattle.link_frames.specs.declared.frame.End.TheVariants as «end»
+use Rattle.link_frames.specs.declared.note.Note.{Note}
 use Rattle.link_frames.specs.declared.note.Note.TheVariants as note
 use Rattle.link_frames.specs.declared.note.Why.TheVariants as why
 use Rattle.link_frames.specs.Row.{Row}
@@ -98,20 +100,35 @@ deeds_of w (event.Deliver true c k) =
 deeds_of w (event.Deliver false c k) =
     if vehicle_is_in c w then hands_place HandsDown c k (sent_down (call_of c w.calls)) else []
 deeds_of w (event.Flow up delay) = []
+deeds_of w (event.Reset «end».Vehicle) = Does (Hears vehicle.Reset) ∷ []
+deeds_of w (event.Reset «end».Point) = []
 deeds_of w (event.Tick n) = []
 
--- a line that applies to nothing: the item `nothing`, and no change
+-- an item that stands alone, and no change
+abbrev pub item_step : Note → World → Step
+item_step n w = record { entries = told w.tick (n ∷ []); world = w; handed = 0 }
+
+-- a line that applies to nothing: the item `nothing`
 abbrev pub nothing_step : World → Step
-nothing_step w = record { entries = told w.tick (note.Nothing ∷ []); world = w; handed = 0 }
+nothing_step w = item_step note.Nothing w
 
 abbrev pub or_nothing : List Deed → World → Step
 or_nothing [] w = nothing_step w
 or_nothing (d ∷ ds) w = each deed (d ∷ ds) w
 
+-- The point restarts: each session hears it, by call, and then its item stands, also where there is no session.
+abbrev pub session_resets : ℕ → World → Step
+session_resets c w = performs (Session c point.Reset) w
+
+abbrev pub point_resets : World → Step
+point_resets w =
+    and_then (each session_resets (map (λ k. k.number) w.calls) w) (item_step (note.Restart «end».Point))
+
 -- what one event line does
 abbrev pub step : World → Event → Step
 step w (event.Flow true delay) = quiet_step (record w { up_flow = delay })
 step w (event.Flow false delay) = quiet_step (record w { down_flow = delay })
+step w (event.Reset «end».Point) = point_resets w
 step w (event.Tick n) = units n w
 step w e = or_nothing (deeds_of w e) w
 

@@ -93,6 +93,7 @@ impl Channel {
                 self.set_flow(*up, *delay);
                 Ok(())
             }
+            Happening::ResetPoint => self.reset_point(alloc, room, to, moments),
             Happening::Elapse(n) => self.elapses(alloc, *n, room, to, moments),
         }
     }

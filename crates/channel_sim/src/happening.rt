@@ -7,7 +7,7 @@ ghost use Rattle.channel_sim.specs.WorldStands.{NeedsCall, TicksIn};
 ghost use Rattle.channel_sim.specs.inner.Happenings.{DrawsCall, happens, happening_passes};
 
 use ivs_machine::VehicleEvent;
-use link_frames::Why;
+use link_frames::{End, Why};
 use psap_machine::PointEvent;
 use trace_model::Event;
 
@@ -25,6 +25,8 @@ pub(crate) enum Happening<'a> {
     /// A frame is handed over, by its place among those sent in its call and direction, from 0.
     Deliver { up: bool, call: u32, place: usize },
     Flow { up: bool, delay: u32 },
+    /// The point restarts.
+    ResetPoint,
     /// So many ticks elapse.
     Elapse(u32),
 }
@@ -63,6 +65,8 @@ pub(crate) fn happening_of(event: &Event) -> Happening<'_>
             up: *up,
             delay: delay.ticks(),
         },
+        Event::Reset(End::Vehicle) => Happening::Vehicle(VehicleEvent::Reset),
+        Event::Reset(End::Point) => Happening::ResetPoint,
         Event::Tick(n) => Happening::Elapse(n.number()),
     }
 }

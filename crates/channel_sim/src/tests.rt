@@ -7,11 +7,14 @@ use msd_fit::{Cause, Facts};
 use std::alloc::Global;
 use std::process::Abort;
 use std::sync::ledger::Ledger;
-use trace_model::{Delay, Event, Kept, Listener, Positive};
+use trace_model::{Delay, Entry, Event, Kept, Listener, Positive};
 
 mod deaf;
+mod losses;
 mod parts;
-mod rows;
+mod plays;
+mod restarts;
+mod sets;
 
 const SET: [u8; OCTETS] = [7; OCTETS];
 
@@ -193,17 +196,24 @@ impl Played {
         })
     }
 
+    /// Checks that the next entry is this item, at this tick.
+    fn gives_one(&mut self, rt: &impl Abort, tick: u64, note: Note) {
+        let want = Entry { tick, note };
+        same_entry(rt, self.kept.entries().get(self.checked), &want);
+        self.checked = self.checked.wrapping_add(1);
+    }
+
     /// Checks that the next entries are these items, at this tick.
     fn gives(&mut self, rt: &impl Abort, tick: u64, notes: &[Note]) {
         for note in notes {
-            match self.kept.entries().get(self.checked) {
-                Some(entry) => {
-                    assert_eq!(rt; entry.tick, tick);
-                    assert_eq!(rt; entry.note, *note, "at {tick}");
-                }
-                None => panic!(rt; "no more entries at {tick}"),
-            }
-            self.checked = self.checked.wrapping_add(1);
+            self.gives_one(rt, tick, *note);
+        }
+    }
+
+    /// Checks that the next entries are these items, each at its tick.
+    fn gives_each(&mut self, rt: &impl Abort, entries: &[(u64, Note)]) {
+        for (tick, note) in entries {
+            self.gives_one(rt, *tick, *note);
         }
     }
 
@@ -216,4 +226,9 @@ impl Played {
     fn ends(&self, rt: &impl Abort) {
         assert_eq!(rt; self.kept.entries().len(), self.checked);
     }
+}
+
+/// Checks an entry that should be there.
+fn same_entry(rt: &impl Abort, entry: Option<&Entry>, want: &Entry) {
+    assert_eq!(rt; entry, Some(want));
 }

@@ -15,7 +15,7 @@ use Rattle.redial.specs.declared.series.Phase as series
 use Rattle.redial.specs.declared.series.Phase.TheVariants as series_phase
 use Rattle.redial.specs.declared.series.Series.{Series}
 use Rattle.ivs_machine.specs.Vehicle.{Vehicle, Phase, Idle, Standby, Arming, InSeries, InCall, Left, CallStage, octets_for, Initiating, Awaiting, Sending, Confirming, Talking}
-use Rattle.ivs_machine.specs.VehicleRows.{Heard, Trigger, Cancel, Net, Answered, Failed, Incoming, Sleep, Fault, Hangup, Lost, Arrives, vehicle_row, unit_row, units}
+use Rattle.ivs_machine.specs.VehicleRows.{Heard, Trigger, Cancel, Net, Answered, Failed, Incoming, Sleep, Fault, Hangup, Lost, Arrives, Reset, vehicle_row, unit_row, units}
 use Rattle.ivs_machine.specs.VehicleKept.{IsKept}
 use Rattle.ivs_machine.specs.VehicleOwes.{VehicleOwes, EventOwes, came, comes_up, seat_of}
 use Rattle.ivs_machine.proofs.Made.{newest_for, last_for, made_again}
@@ -56,6 +56,9 @@ owes_hangup v h = search rules
 
 owes_lost : RowOwes Lost
 owes_lost v h = search rules
+
+owes_reset : RowOwes Reset
+owes_reset v h = search rules
 
 owes_start : (r : ℕ) → RowOwes (Arrives (frame.Start r))
 owes_start r v h = search (rules, nat_tests, newest_for)
@@ -129,6 +132,7 @@ owes_event Fault = owes_fault
 owes_event Hangup = owes_hangup
 owes_event Lost = owes_lost
 owes_event (Arrives f) = owes_frame f
+owes_event Reset = owes_reset
 
 kept_by : (c : Option ℕ) (v : Vehicle) (e : Heard) (row : Row Vehicle) → EventOwes c v e row → IsKept row.new
 kept_by (Some c) v e row h = h.kept

@@ -48,9 +48,10 @@ comes_up_in _ network _ = None
 abbrev pub comes_up : Heard → Vehicle → Option ℕ
 comes_up e v = comes_up_in e v.network v.phase
 
--- the requests counted behind an item
+-- the requests counted behind an item; a vehicle that restarts has counted none
 abbrev pub counted_moved : List ℕ → Note → List ℕ
 counted_moved counted (note.Acked c r octets) = r ∷ counted
+counted_moved counted (note.Restart e) = []
 counted_moved counted _ = counted
 
 -- a vehicle that is still in a call is in the same one

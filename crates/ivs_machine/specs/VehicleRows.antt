@@ -29,7 +29,7 @@ use Rattle.redial.specs.declared.series.Series.{Series}
 use Rattle.redial.specs.declared.series.Turn.{Turn}
 use Rattle.ivs_machine.specs.declared.event.VehicleEvent.{VehicleEvent}
 use Rattle.ivs_machine.specs.declared.event.VehicleEvent.TheVariants as event
-use Rattle.ivs_machine.specs.Vehicle.{Vehicle, Phase, Idle, Standby, Arming, InSeries, InCall, Left, LeftIdle, LeftStandby, CallStage, Initiating, Awaiting, Sending, Confirming, Talking, served, octets_for, is_settled}
+use Rattle.ivs_machine.specs.Vehicle.{Vehicle, first_vehicle, Phase, Idle, Standby, Arming, InSeries, InCall, Left, LeftIdle, LeftStandby, CallStage, Initiating, Awaiting, Sending, Confirming, Talking, served, octets_for, is_settled}
 
 -- What the vehicle hears: an event whose frame is a whole one.
 pub data Heard : Type 0 where
@@ -44,6 +44,7 @@ pub data Heard : Type 0 where
   Hangup : Heard
   Lost : Heard
   Arrives : Frame → Heard
+  Reset : Heard
 
 abbrev pub heard : VehicleEvent → Heard
 heard (event.Trigger by) = Trigger by
@@ -57,6 +58,7 @@ heard event.Fault = Fault
 heard event.Hangup = Hangup
 heard event.Lost = Lost
 heard (event.Frame f) = Arrives (lent f)
+heard event.Reset = Reset
 
 -- The profile's numbers, in ticks of 100 ms. Those of a dial series and of a standby are those of the crates `redial`
 -- and `callback`.
@@ -250,6 +252,10 @@ counts r v = record v { counted = r ∷ v.counted }
 abbrev pub releases : Vehicle → Row Vehicle
 releases v = behind (down v why.Release ∷ []) (rests v)
 
+-- the vehicle restarts: it is as before anything happened, and knows its facts and the network alone
+abbrev pub restarts : Vehicle → Row Vehicle
+restarts v = gives (note.Restart «end».Vehicle ∷ []) (record (first_vehicle v.facts) { network = v.network })
+
 -- the network comes, or goes
 abbrev pub networked : Bool → Vehicle → Vehicle
 networked up v = record v { network = up }
@@ -302,6 +308,8 @@ named (Arrives (frame.App r answer.Clear)) v (InCall (Sending s)) =
     when (r == s) (behind (acked s v) (releases (counts s v)))
 named (Arrives (frame.App r answer.Clear)) v (InCall (Confirming s)) = when (r == s) (releases v)
 named (Arrives (frame.App r answer.Clear)) v (InCall Talking) = when (is_among r v.counted) (releases v)
+named Reset v (InCall stage) = Some (behind (down v why.Lost ∷ []) (restarts v))
+named Reset v _ = Some (restarts v)
 named _ v _ = None
 
 -- where no line stands, a frame gives no item, every other event the item `nothing`, and neither changes anything

@@ -28,4 +28,6 @@ pub enum VehicleEvent<'a> {
     Lost,
     /// A frame was handed up by the link of the present call.
     Frame(FrameRef<'a>),
+    /// The vehicle restarts, and loses its state.
+    Reset,
 }

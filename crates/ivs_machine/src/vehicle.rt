@@ -91,6 +91,34 @@ struct Call {
     has_counted: bool,
 }
 
+impl Call {
+    ghost use Rattle.std.specs.Prelude.{false, []};
+    ghost use Rattle.link_frames.specs.Requests.{RequestsStandFor};
+
+    /// No call yet.
+    fn none() -> Call
+        ensures number { result.number ≡ 0 }
+        ensures ticks { result.ticks ≡ 0 }
+        ensures settled { result.settled_without_data ≡ false }
+        ensures obeyed { result.greatest_obeyed ≡ 0 }
+        ensures attempt { result.last_attempt ≡ 0 }
+        ensures counted { RequestsStandFor result.counted [] }
+        ensures has_counted { result.has_counted ≡ false }
+    {
+        Call {
+            number: 0,
+            ticks: 0,
+            voice: Switch::muted(MOST_MUTED),
+            settled_without_data: false,
+            greatest_obeyed: 0,
+            set: [0; OCTETS],
+            last_attempt: 0,
+            counted: Requests::none(),
+            has_counted: false,
+        }
+    }
+}
+
 /// The in-vehicle system.
 #[derive(Debug, Drop)]
 pub struct Ivs {
@@ -129,17 +157,7 @@ impl Ivs {
             redial,
             standby: Rest::enter(),
             in_phase: 0,
-            call: Call {
-                number: 0,
-                ticks: 0,
-                voice: Switch::muted(MOST_MUTED),
-                settled_without_data: false,
-                greatest_obeyed: 0,
-                set: [0; OCTETS],
-                last_attempt: 0,
-                counted: Requests::none(),
-                has_counted: false,
-            },
+            call: Call::none(),
         }
     }
 
@@ -171,6 +189,7 @@ impl Ivs {
             VehicleEvent::Hangup => self.hung_up(items),
             VehicleEvent::Lost => self.lost(items),
             VehicleEvent::Frame(frame) => self.frame(frame, items),
+            VehicleEvent::Reset => self.restarts(items),
         }
     }
 

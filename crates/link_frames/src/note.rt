@@ -32,7 +32,7 @@ pub enum Timer {
 }
 
 /// One item of a trace. A call's number is 0 outside a call. In `Voice`, `up` is the direction from the vehicle to
-/// the point, and `true` is open.
+/// the point, and `true` is open. `Restart` is of no call: an end lost its state.
 #[derive(Clone, Copy, Debug, PartialEq, Eq)]
 pub enum Note {
     Dial(DialAttempt),
@@ -87,6 +87,7 @@ pub enum Note {
     Busy(u32),
     Spent(u32),
     Unshown(u32),
+    Restart(End),
 }
 
 impl Default for Note {

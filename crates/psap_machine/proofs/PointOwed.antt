@@ -10,7 +10,7 @@ use Rattle.link_frames.specs.Owes.{HasSet, elapsed}
 use Rattle.link_frames.specs.Ranks.{behind}
 use Rattle.link_frames.specs.Row.{Row, silent}
 use Rattle.psap_machine.specs.Point.{Point, Phase, Listening, Asking, Telling, Talking, Clearing, Over, requests_of}
-use Rattle.psap_machine.specs.PointRows.{Heard, Damaged, Request, Clear, Fault, Hangup, Ended, Arrives, gives, sends, shows, shown_row, with_shown, was_asked, was_shown, content_row, point_row, unit_row, units, acts, arriving, called}
+use Rattle.psap_machine.specs.PointRows.{Heard, Damaged, Request, Clear, Fault, Hangup, Ended, Reset, Arrives, gives, sends, shows, shown_row, with_shown, was_asked, was_shown, content_row, point_row, unit_row, units, acts, arriving, called}
 use Rattle.psap_machine.specs.PointKept.{IsKept, IsKeptBy}
 use Rattle.psap_machine.specs.PointOwes.{PointOwes, ArrivalOwes, came, seat_of}
 use Rattle.psap_machine.proofs.Asked.{head_among, still_among, last_among, has_set, still_shown, next_new, next_in_turn}
@@ -26,6 +26,9 @@ owes_hangup s h = search rules
 
 owes_ended : (w : Why) → RowOwes (Ended w)
 owes_ended w s h = search rules
+
+owes_reset : RowOwes Reset
+owes_reset s h = search rules
 
 owes_damaged : RowOwes Damaged
 owes_damaged s h = search rules
@@ -132,6 +135,7 @@ owes_event Clear = owes_clear
 owes_event Fault = owes_fault
 owes_event Hangup = owes_hangup
 owes_event (Ended w) = owes_ended w
+owes_event Reset = owes_reset
 
 pub row_kept : (e : Heard) (s : Point) → IsKept s → IsKept (point_row s e).new
 row_kept e s h = (owes_event e s h).kept

@@ -30,6 +30,7 @@ pub data Heard : Type 0 where
   Fault : Heard
   Hangup : Heard
   Ended : Why → Heard
+  Reset : Heard
 
 abbrev pub heard : PointEvent → Heard
 heard (event.Frame f) = Arrives (lent f)
@@ -39,6 +40,7 @@ heard event.Clear = Clear
 heard event.Fault = Fault
 heard event.Hangup = Hangup
 heard (event.Ended w) = Ended w
+heard event.Reset = Reset
 
 -- The profile's numbers, in ticks of 100 ms.
 
@@ -166,6 +168,7 @@ named Fault s Talking = Some (gives (note.Fault «end».Point s.call ∷ []) s)
 named Fault s _ = Some (behind (note.Fault «end».Point s.call ∷ []) (opens s))
 named Hangup s _ = Some (ends why.Hangup s)
 named (Ended w) s _ = Some (ends w s)
+named Reset s _ = Some (ends why.Lost s)
 named _ s _ = None
 
 -- where no line stands, a frame gives no item, every other event the item `nothing`, and neither changes anything

@@ -19,4 +19,6 @@ pub enum PointEvent<'a> {
     Hangup,
     /// The call ended otherwise: the vehicle released it or hung up, or it was lost.
     Ended(Why),
+    /// The point restarts, and loses this session.
+    Reset,
 }

@@ -160,6 +160,7 @@ impl Session {
             PointEvent::Fault => self.fault(items),
             PointEvent::Hangup => self.ends(Why::Hangup, items),
             PointEvent::Ended(why) => self.ends(*why, items),
+            PointEvent::Reset => self.ends(Why::Lost, items),
         }
     }
 

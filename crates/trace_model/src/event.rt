@@ -1,5 +1,6 @@
 //! The event lines of a script.
 
+use link_frames::End;
 use msd_fit::Cause;
 use std::marker::Model;
 
@@ -139,6 +140,8 @@ pub enum Event {
         up: bool,
         delay: Delay,
     },
+    /// This end restarts, and loses its state.
+    Reset(End),
     /// So many ticks pass.
     Tick(Positive),
 }

@@ -6,15 +6,15 @@ use Rattle.std.proofs.lemmas.Slice.Eq.{bytes_eq-Decides}
 use Rattle.hex.specs.Hex.{encode_lower}
 use Rattle.link_frames.specs.declared.note.Note.{Note}
 use Rattle.link_frames.specs.declared.note.Note.TheVariants as note
-use Rattle.trace_text.specs.Choices.{direction}
+use Rattle.trace_text.specs.Choices.{direction, end_of}
 use Rattle.trace_text.specs.EntryChoices.{item_of, timer_of, voice_of, why_of}
 use Rattle.trace_text.specs.EntryLine.{end_word, net_word, timer_word, voice_word, why_word, spaced}
-use Rattle.trace_text.specs.EntryLines.{next_leg, next_net, next_set, next_timer, next_voice, next_why, next_item, note_by_words, note_of, summed, net_note, down_note, voice_note, send_note, shown_note, acked_note, ended_note, frame_by_words}
+use Rattle.trace_text.specs.EntryLines.{next_end, next_leg, next_net, next_set, next_timer, next_voice, next_why, next_item, note_by_words, note_of, summed, net_note, down_note, voice_note, send_note, shown_note, acked_note, ended_note, restart_note, frame_by_words}
 use Rattle.trace_text.specs.Summary.{summary_words}
 use Rattle.trace_text.specs.declared.entries.kinds.Item.{Item}
 use Rattle.trace_text.specs.declared.entries.kinds.Item.TheVariants as item
 use Rattle.line_input.specs.declared.reason.Reason.TheVariants as reason
-use Rattle.trace_text.proofs.EntryChoicesBack.{item-back, item_word, net-back, timer-back, voice-back, why-back}
+use Rattle.trace_text.proofs.EntryChoicesBack.{end-back, item-back, item_word, net-back, timer-back, voice-back, why-back}
 use Rattle.trace_text.proofs.EntryReads.{Says, call-note, choice-next, dial-note, followed-back, frames-back, last-back, last-note, leg-next, leg-note, made-back, note-same, set-next}
 
 net-says : (ws : List (List ℕ)) (n : Note) → net_note ws ≡ Ok n → Says (codes "net" ∷ ws) n
@@ -24,6 +24,14 @@ net-says ws n e =
     let p = choice-next _ net_word direction net-back ws a.value a.rest a.says in
     note-same _ (note.Net a.value) n
     (ap (λ (l : List (List ℕ)). codes "net" ∷ l) (p ∙ ap (λ (l : List (List ℕ)). net_word a.value ∷ l) l.0)) tt l.1
+
+restart-says : (ws : List (List ℕ)) (n : Note) → restart_note ws ≡ Ok n → Says (codes "restart" ∷ ws) n
+restart-says ws n e =
+    let a = followed-back (next_end ws) _ n e in
+    let l = last-back (note.Restart a.value) a.rest n a.goes in
+    let p = choice-next _ end_word end_of end-back ws a.value a.rest a.says in
+    note-same _ (note.Restart a.value) n
+    (ap (λ (l : List (List ℕ)). codes "restart" ∷ l) (p ∙ ap (λ (l : List (List ℕ)). end_word a.value ∷ l) l.0)) tt l.1
 
 down-says : (ws : List (List ℕ)) (n : Note) → down_note ws ≡ Ok n → Says (codes "down" ∷ ws) n
 down-says ws n e =
@@ -126,6 +134,7 @@ note-says item.Fault ws n e = leg-note (codes "fault") note.Fault (λ e v. refl)
 note-says item.Busy ws n e = call-note (codes "busy") note.Busy (λ v. refl) (λ v h. h) ws n e
 note-says item.Spent ws n e = call-note (codes "spent") note.Spent (λ v. refl) (λ v h. h) ws n e
 note-says item.Unshown ws n e = call-note (codes "unshown") note.Unshown (λ v. refl) (λ v h. h) ws n e
+note-says item.Restart ws n e = restart-says ws n e
 
 pub notes-say : (ws : List (List ℕ)) (n : Note) → note_by_words ws ≡ Ok n → Says ws n
 notes-say ws n e =

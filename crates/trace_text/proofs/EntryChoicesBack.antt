@@ -12,8 +12,8 @@ use Rattle.link_frames.specs.declared.note.Timer.{Timer}
 use Rattle.link_frames.specs.declared.note.Timer.TheVariants as timer
 use Rattle.link_frames.specs.declared.note.Why.{Why}
 use Rattle.link_frames.specs.declared.note.Why.TheVariants as why
-use Rattle.trace_text.specs.Choices.{direction}
-use Rattle.trace_text.specs.EntryChoices.{answer_of, call_item, dial_item, end_of, first_timer, item_of, kind_of, last_timer, leg_item, other_item, rest_item, timer_of, vehicle_item, voice_of, why_of}
+use Rattle.trace_text.specs.Choices.{direction, end_of}
+use Rattle.trace_text.specs.EntryChoices.{answer_of, call_item, dial_item, first_timer, item_of, kind_of, last_timer, leg_item, other_item, rest_item, timer_of, vehicle_item, voice_of, why_of}
 use Rattle.trace_text.specs.EntryLine.{answer_word, end_word, net_word, timer_word, voice_word, why_word}
 use Rattle.trace_text.specs.declared.entries.kinds.FrameKind.{FrameKind}
 use Rattle.trace_text.specs.declared.entries.kinds.FrameKind.TheVariants as kind
@@ -43,6 +43,7 @@ item_word item.Fault = codes "fault"
 item_word item.Busy = codes "busy"
 item_word item.Spent = codes "spent"
 item_word item.Unshown = codes "unshown"
+item_word item.Restart = codes "restart"
 
 abbrev pub kind_word : FrameKind → List ℕ
 kind_word kind.Init = codes "init"
@@ -172,7 +173,8 @@ rest_item-back text =
     (names-choice item_word text (codes "standby") item.Standby _ refl
     (names-choice item_word text (codes "idle") item.Idle _ refl
     (names-choice item_word text (codes "nothing") item.Nothing _ refl
-    (names-none item_word text)))))
+    (names-choice item_word text (codes "restart") item.Restart _ refl
+    (names-none item_word text))))))
 
 pub item-back : (text : List ℕ) → Names item_word text (item_of text)
 unfolding item_of
@@ -249,3 +251,4 @@ item-read item.Cancelled = (refl, refl)
 item-read item.Standby = (refl, refl)
 item-read item.Idle = (refl, refl)
 item-read item.Nothing = (refl, refl)
+item-read item.Restart = (refl, refl)

@@ -128,3 +128,6 @@ note-reads (note.Spent c) h =
 note-reads (note.Unshown c) h =
     ap note_by_words (behind-all (note_words (note.Unshown c)) (refl, (call-word c h, tt)))
     ∙ rw ((item-read item.Unshown).0, call-read c h) refl
+note-reads (note.Restart e) h =
+    ap note_by_words (behind-all (note_words (note.Restart e)) (refl, ((end-read e).1, tt)))
+    ∙ rw ((item-read item.Restart).0, (end-read e).0) refl

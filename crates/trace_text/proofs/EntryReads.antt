@@ -5,7 +5,8 @@ use Rattle.link_frames.specs.declared.frame.End.{End}
 use Rattle.link_frames.specs.declared.frame.Frame.{Frame}
 use Rattle.link_frames.specs.declared.frame.Frame.TheVariants as frame
 use Rattle.link_frames.specs.declared.note.Note.{Note}
-use Rattle.trace_text.specs.EntryChoices.{answer_of, end_of, kind_of}
+use Rattle.trace_text.specs.Choices.{end_of}
+use Rattle.trace_text.specs.EntryChoices.{answer_of, kind_of}
 use Rattle.trace_text.specs.EntryLine.{answer_word, end_word, frame_words, note_words, spaced}
 use Rattle.trace_text.specs.EntryLines.{IsCall, IsDial, IsFrame, IsNote, IsRequest, IsSet, Taken, taken, judged, followed, made, last, next_answer, next_attempt, next_call, next_dial, next_end, next_kind, next_leg, next_octets, next_request, next_set, next_tick, only_call, only_dial, only_leg, only_request, frame_of, frame_by_words, leg_note}
 use Rattle.line_input.specs.Numbers.{natural_below, positive_below}

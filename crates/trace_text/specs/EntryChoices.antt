@@ -5,8 +5,6 @@ use Rattle.std.specs.Option.{option_or}
 use Rattle.std.specs.Str.{bytes_eq}
 use Rattle.link_frames.specs.declared.frame.Answer.{Answer}
 use Rattle.link_frames.specs.declared.frame.Answer.TheVariants as answer
-use Rattle.link_frames.specs.declared.frame.End.{End}
-use Rattle.link_frames.specs.declared.frame.End.TheVariants as «end»
 use Rattle.link_frames.specs.declared.note.Timer.{Timer}
 use Rattle.link_frames.specs.declared.note.Timer.TheVariants as timer
 use Rattle.link_frames.specs.declared.note.Why.{Why}
@@ -15,12 +13,6 @@ use Rattle.trace_text.specs.declared.entries.kinds.Item.{Item}
 use Rattle.trace_text.specs.declared.entries.kinds.Item.TheVariants as item
 use Rattle.trace_text.specs.declared.entries.kinds.FrameKind.{FrameKind}
 use Rattle.trace_text.specs.declared.entries.kinds.FrameKind.TheVariants as kind
-
-abbrev pub end_of : List ℕ → Option End
-end_of text =
-    if bytes_eq text (codes "vehicle") then Some «end».Vehicle
-    else if bytes_eq text (codes "point") then Some «end».Point
-    else None
 
 -- why a leg went down
 abbrev pub why_of : List ℕ → Option Why
@@ -113,6 +105,7 @@ rest_item text =
     else if bytes_eq text (codes "standby") then Some item.Standby
     else if bytes_eq text (codes "idle") then Some item.Idle
     else if bytes_eq text (codes "nothing") then Some item.Nothing
+    else if bytes_eq text (codes "restart") then Some item.Restart
     else None
 
 abbrev pub vehicle_item : List ℕ → Option Item

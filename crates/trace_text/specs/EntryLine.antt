@@ -91,6 +91,7 @@ note_words (note.Fault e call) = codes "fault" ∷ end_word e ∷ decimal call �
 note_words (note.Busy call) = codes "busy" ∷ decimal call ∷ []
 note_words (note.Spent call) = codes "spent" ∷ decimal call ∷ []
 note_words (note.Unshown call) = codes "unshown" ∷ decimal call ∷ []
+note_words (note.Restart e) = codes "restart" ∷ end_word e ∷ []
 
 -- each word behind a single space
 abbrev pub spaced : List (List ℕ) → List ℕ

@@ -13,8 +13,8 @@ use Rattle.link_frames.specs.declared.note.Note.TheVariants as note
 use Rattle.link_frames.specs.declared.note.Timer.{Timer}
 use Rattle.link_frames.specs.declared.note.Why.{Why}
 use Rattle.per_bits.specs.Parts.{AreOctets}
-use Rattle.trace_text.specs.Choices.{direction}
-use Rattle.trace_text.specs.EntryChoices.{answer_of, end_of, item_of, kind_of, timer_of, voice_of, why_of}
+use Rattle.trace_text.specs.Choices.{direction, end_of}
+use Rattle.trace_text.specs.EntryChoices.{answer_of, item_of, kind_of, timer_of, voice_of, why_of}
 use Rattle.trace_text.specs.EntryLine.{spaced}
 use Rattle.trace_text.specs.Hexadecimal.{octets_of}
 use Rattle.line_input.specs.Numbers.{is_digit, natural_below, positive_below}
@@ -159,6 +159,9 @@ only_dial left = followed (next_dial left) last
 abbrev pub net_note : List (List ℕ) → Result Note Reason
 net_note left = followed (next_net left) (λ up left. last (note.Net up) left)
 
+abbrev pub restart_note : List (List ℕ) → Result Note Reason
+restart_note left = followed (next_end left) (λ e left. last (note.Restart e) left)
+
 abbrev pub only_leg : List (List ℕ) → Result (End × ℕ) Reason
 only_leg left = followed (next_leg left) last
 
@@ -233,6 +236,7 @@ note_of item.Fault left = leg_note note.Fault left
 note_of item.Busy left = made note.Busy (only_call left)
 note_of item.Spent left = made note.Spent (only_call left)
 note_of item.Unshown left = made note.Unshown (only_call left)
+note_of item.Restart left = restart_note left
 
 abbrev pub note_by_words : List (List ℕ) → Result Note Reason
 note_by_words left = followed (next_item left) note_of

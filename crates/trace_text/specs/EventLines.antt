@@ -2,7 +2,7 @@
 -- of a script.
 use Rattle.std.specs.Prelude.{ℕ, ◌+◌, Bool, List, [], ◌∷◌, codes, Option, Some, None, Result, Ok, Err, if◌then◌else◌}
 use Rattle.std.specs.Str.{bytes_eq}
-use Rattle.trace_text.specs.Choices.{cause_of, direction}
+use Rattle.trace_text.specs.Choices.{cause_of, direction, end_of}
 use Rattle.line_input.specs.Numbers.{positive, natural_below}
 use Rattle.trace_model.specs.Delays.{longest_delay}
 use Rattle.trace_model.specs.declared.event.Event.{Event}
@@ -97,7 +97,12 @@ abbrev pub drop_line : List (List ℕ) → Result Event Reason
 drop_line [] = Err reason.Count
 drop_line (second ∷ rest) = drop_of second rest
 
--- an event of the channel or of time, by the first word of its line and the words behind it
+-- `reset vehicle|point`
+abbrev pub reset_line : List (List ℕ) → Result Event Reason
+reset_line (text ∷ []) = event_or reason.Word event.Reset (end_of text)
+reset_line _ = Err reason.Count
+
+-- an event of the channel, of either end or of time, by the first word of its line and the words behind it
 abbrev pub channel_event : List ℕ → List (List ℕ) → Option (Result Event Reason)
 channel_event first rest =
     if bytes_eq first (codes "deliver") then Some (deliver_line rest)
@@ -105,6 +110,7 @@ channel_event first rest =
     else if bytes_eq first (codes "flow") then Some (flow_line rest)
     else if bytes_eq first (codes "drop") then Some (drop_line rest)
     else if bytes_eq first (codes "fault") then Some (fault_line rest)
+    else if bytes_eq first (codes "reset") then Some (reset_line rest)
     else None
 
 -- an event at the vehicle

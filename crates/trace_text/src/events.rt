@@ -2,11 +2,11 @@
 
 ghost use Rattle.std.specs.Prelude.{◌≡◌};
 ghost use Rattle.std.specs.Option.{option_copied};
-ghost use Rattle.trace_text.specs.EventLines.{channel_event, deliver_line, drop_line, drop_of, end_event, event_line, fault_line, fault_of, flow_line, lone_line, net_line, number_line, only_number, point_event, trigger_line, vehicle_event};
+ghost use Rattle.trace_text.specs.EventLines.{channel_event, deliver_line, drop_line, drop_of, end_event, event_line, fault_line, fault_of, flow_line, lone_line, net_line, number_line, only_number, point_event, reset_line, trigger_line, vehicle_event};
 ghost use Rattle.trace_model.specs.declared.event.Event.TheVariants as event;
 ghost use Rattle.line_input.specs.Arguments.{words_behind};
 
-use crate::choices::{read_cause, read_direction};
+use crate::choices::{read_cause, read_direction, read_end};
 use crate::numbers::{read_delay, read_positive};
 use line_input::{Reason, is_word, only_argument, split_word, three_arguments, two_arguments};
 use trace_model::{Event, Positive};
@@ -21,7 +21,7 @@ pub fn read_event(first: &[u8], rest: Option<&[u8]>) -> Result<Event, Reason>
     }
 }
 
-/// An event of the channel or of time.
+/// An event of the channel, of either end or of time.
 fn read_channel_event(first: &[u8], rest: Option<&[u8]>) -> Option<Result<Event, Reason>>
     ensures { result ≡ channel_event first.now (words_behind (option_copied rest.entry)) }
 {
@@ -35,6 +35,8 @@ fn read_channel_event(first: &[u8], rest: Option<&[u8]>) -> Option<Result<Event,
         Some(read_drop(rest))
     } else if is_word(first, "fault") {
         Some(read_fault(rest))
+    } else if is_word(first, "reset") {
+        Some(read_reset(rest))
     } else {
         None
     }
@@ -181,6 +183,15 @@ fn read_fault_of(second: &[u8], rest: Option<&[u8]>) -> Result<Event, Reason>
     } else {
         Err(Reason::Word)
     }
+}
+
+/// `reset vehicle|point`.
+fn read_reset(rest: Option<&[u8]>) -> Result<Event, Reason>
+    ensures { result ≡ reset_line (words_behind (option_copied rest.entry)) }
+{
+    let text = only_argument(rest).ok_or(Reason::Count)?;
+    let end = read_end(text).ok_or(Reason::Word)?;
+    Ok(Event::Reset(end))
 }
 
 /// `trigger auto|manual|test`.

@@ -23,6 +23,8 @@ mod script;
 #[cfg(test)]
 mod script_tests;
 mod summary;
+#[cfg(test)]
+mod tests;
 mod text_out;
 mod write;
 

@@ -55,6 +55,7 @@ pub fn push_note_words<const N: usize>(line: &mut ArrayVec<u8, N>, note: &Note)
         Note::Busy(call) => push_call(line, "busy", *call),
         Note::Spent(call) => push_call(line, "spent", *call),
         Note::Unshown(call) => push_call(line, "unshown", *call),
+        Note::Restart(end) => push_restart(line, *end),
     }
 }
 
@@ -194,6 +195,16 @@ fn push_net<const N: usize>(line: &mut ArrayVec<u8, N>, up: bool)
 {
     push_word(line, "net");
     push_word(line, net_name(up));
+}
+
+/// Appends the words of an item on an end that restarts.
+fn push_restart<const N: usize>(line: &mut ArrayVec<u8, N>, end: End)
+    requires { array_vec_len line.old + 41 ≤ N }
+    ensures bytes { line.new.items ≡ line.old.items ++ spaced (codes "restart" ∷ end_word end ∷ []) }
+    ensures len { array_vec_len line.new ≤ array_vec_len line.old + 41 }
+{
+    push_word(line, "restart");
+    push_end(line, end);
 }
 
 /// Appends the words of an item on a leg that went down.

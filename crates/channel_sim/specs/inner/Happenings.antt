@@ -8,7 +8,7 @@ use Rattle.psap_machine.specs.PointRows as point
 use Rattle.channel_sim.specs.declared.happening.Happening.{Happening}
 use Rattle.channel_sim.specs.declared.happening.Happening.TheVariants as happening
 use Rattle.channel_sim.specs.World.{World, Step, Hears, InCall, quiet_step, call_of, vehicle_is_in, point_is_in, units, ends}
-use Rattle.channel_sim.specs.Lines.{Does, HandsUp, HandsDown, Answers, CallsBack, at_point, hands_one, in_its_call, or_nothing, sent_down, sent_up, when}
+use Rattle.channel_sim.specs.Lines.{Does, HandsUp, HandsDown, Answers, CallsBack, at_point, hands_one, in_its_call, or_nothing, point_resets, sent_down, sent_up, when}
 
 abbrev pub happens : Happening → World → Step
 happens (happening.Vehicle e) w = or_nothing (Does (Hears (vehicle.heard e)) ∷ []) w
@@ -26,6 +26,7 @@ happens (happening.Deliver false c place) w =
     (if vehicle_is_in c w then hands_one HandsDown c (slice_get (sent_down (call_of c w.calls)) place) else []) w
 happens (happening.Flow true delay) w = quiet_step (record w { up_flow = delay })
 happens (happening.Flow false delay) w = quiet_step (record w { down_flow = delay })
+happens happening.ResetPoint w = point_resets w
 happens (happening.Elapse n) w = units n w
 
 -- a happening that may draw a call number

@@ -1,13 +1,13 @@
 //! What an event line has happen at this very tick.
 
 use super::Channel;
-use crate::calls::{add_call, admit, has_session, hear_session, sent_frame};
+use crate::calls::{add_call, admit, has_session, hear_session, list_numbers, sent_frame};
 use crate::fault::SimFault;
 use crate::kept::KeptFrame;
-use crate::room::Given;
+use crate::room::{Given, Room};
 use crate::telling::tell;
 use ivs_machine::VehicleEvent;
-use link_frames::{Note, Steps, Why};
+use link_frames::{End, Note, Steps, Why};
 use psap_machine::{PointEvent, Session};
 use std::alloc::Global;
 use std::sync::ledger::Ledger;
@@ -145,6 +145,45 @@ impl Channel {
         } else {
             Ok(())
         }
+    }
+
+    /// The sessions of these calls hear that the point restarts.
+    fn each_session_resets<H: Listener, L: Ledger>(
+        &mut self,
+        alloc: Global,
+        numbers: &[u32],
+        given: &mut Given,
+        to: &mut H,
+        moments: &mut Steps<L>,
+    ) -> Result<(), SimFault>
+        ensures step { (w : model.World) → StandsNow self.old w →
+            CameNow (H.grew to.old to.new) (H.partly to.old to.new) result self.new
+            (model.each lines.session_resets numbers.now w) }
+        ensures faults { CountsFaults result (H.faults to.old) (H.faults to.new) }
+        ensures still { self.old.passed ≡ self.old.tick → moments.new ≡ moments.old }
+    {
+        for number in numbers {
+            self.session_performs(alloc, *number, &PointEvent::Reset, given, to, moments)?;
+        }
+        Ok(())
+    }
+
+    /// The point restarts: each session hears it, by call, and then its item stands.
+    pub(super) fn reset_point<H: Listener, L: Ledger>(
+        &mut self,
+        alloc: Global,
+        room: &mut Room,
+        to: &mut H,
+        moments: &mut Steps<L>,
+    ) -> Result<(), SimFault>
+        ensures step { (w : model.World) → StandsNow self.old w →
+            CameNow (H.grew to.old to.new) (H.partly to.old to.new) result self.new (lines.point_resets w) }
+        ensures faults { CountsFaults result (H.faults to.old) (H.faults to.new) }
+        ensures still { self.old.passed ≡ self.old.tick → moments.new ≡ moments.old }
+    {
+        list_numbers(self.calls.all(), &mut room.numbers)?;
+        self.each_session_resets(alloc, &room.numbers, &mut room.given, to, moments)?;
+        tell(alloc, self.tick, &[Note::Restart(End::Point)], to)
     }
 
     /// A call of the next number comes up at the vehicle, and then at the point.

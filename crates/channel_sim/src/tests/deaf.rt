@@ -52,35 +52,49 @@ impl Listener for Failing {
     ghost longer = { λ _ _ _ _ _. tt };
 }
 
-/// The fault of the first event that fails, for a listener that takes so many entries.
-fn fault_after<L: Ledger>(
+/// A call is dialled and answered, and a second answer has none.
+fn events(rt: &impl Abort) -> [Event; 4] {
+    [
+        TRIGGER,
+        Event::Answer,
+        deliver(rt, true, 1, 1),
+        Event::Answer,
+    ]
+}
+
+/// The fault of the first event that fails.
+fn first_fault<L: Ledger>(
+    rt: &impl Abort,
+    alloc: Global,
+    moments: &mut Steps<L>,
+    to: &mut Failing,
+) -> Option<SimFault> {
+    let mut world = World::new(alloc, Facts::Ready(SET));
+    for event in &events(rt) {
+        match step(rt, alloc, moments, world, to, event) {
+            Ok(next) => world = next,
+            Err(fault) => return Some(fault),
+        }
+    }
+    None
+}
+
+/// Checks that a listener took all entries that it takes, and then which fault came.
+fn expect_fault<L: Ledger>(
     rt: &impl Abort,
     alloc: Global,
     moments: &mut Steps<L>,
     left: usize,
     why: Deaf,
-) -> Option<SimFault> {
+    fault: Option<SimFault>,
+) {
     let mut to = Failing {
         left,
         why,
         faults: 0,
     };
-    let mut world = World::new(alloc, Facts::Ready(SET));
-    for event in [
-        TRIGGER,
-        Event::Answer,
-        deliver(rt, true, 1, 1),
-        Event::Answer,
-    ] {
-        match step(rt, alloc, moments, world, &mut to, &event) {
-            Ok(next) => world = next,
-            Err(fault) => {
-                assert_eq!(rt; to.left, 0);
-                return Some(fault);
-            }
-        }
-    }
-    None
+    let found = first_fault(rt, alloc, moments, &mut to);
+    assert_eq!(rt; (found, to.left), (fault, 0));
 }
 
 /// Each fault comes out as what it is, wherever the listener fails.
@@ -90,29 +104,27 @@ fn faults_come_out<L: Ledger>(rt: &impl Abort, alloc: Global, blank: Blank)
     requires some { 0 < blank.parts }
 {
     let mut moments = Steps::<L>::start(blank);
+    let (write, memory) = (Some(SimFault::Write), Some(SimFault::Memory));
     for left in 0..8 {
-        for (why, fault) in [
-            (Deaf::Write, SimFault::Write),
-            (Deaf::Memory, SimFault::Memory),
-        ] {
-            let found = fault_after(rt, alloc, &mut moments, left, why);
-            assert_eq!(rt; found, Some(fault));
-        }
+        expect_fault(rt, alloc, &mut moments, left, Deaf::Write, write);
+        expect_fault(rt, alloc, &mut moments, left, Deaf::Memory, memory);
     }
-    let none = fault_after(rt, alloc, &mut moments, 8, Deaf::Write);
-    assert_eq!(rt; none, None);
+    expect_fault(rt, alloc, &mut moments, 8, Deaf::Write, None);
 }
 
 #[test]
-fn hands_on_each_fault(rt: HostRuntime) -> Result<(), Fail> {
+fn hands_on_each_fault(rt: HostRuntime) {
     faults_come_out::<Brand>(&rt, rt.alloc(), Blank::new(1));
-    assert_eq!(rt;
-        format!(in rt.alloc(); "{}", SimFault::Write)?.as_str(),
-        "write failed"
-    );
-    assert_eq!(rt;
-        format!(in rt.alloc(); "{}", SimFault::Memory)?.as_str(),
-        "no memory"
-    );
+}
+
+/// Checks the text of a fault.
+fn expect_text(rt: &impl Abort, alloc: Global, fault: SimFault, text: &str) -> Result<(), Fail> {
+    assert_eq!(rt; format!(in alloc; "{fault}")?.as_str(), text);
     Ok(())
+}
+
+#[test]
+fn tells_each_fault(rt: HostRuntime) -> Result<(), Fail> {
+    expect_text(&rt, rt.alloc(), SimFault::Write, "write failed")?;
+    expect_text(&rt, rt.alloc(), SimFault::Memory, "no memory")
 }

@@ -2,7 +2,7 @@
 ghost use Rattle.std.specs.Prelude.{◌≡◌, ◌<◌};
 
 use super::{Played, SET, TRIGGER, flow, tick};
-use crate::SimFault;
+use crate::{SimFault, World};
 use link_frames::Steps;
 use std::alloc::Global;
 use std::marker::Brand;
@@ -44,6 +44,70 @@ fn comes<L: Ledger>(
     flows(alloc, moments, played, false)
 }
 
+/// A call that is answered over a link of 3 ticks.
+fn linked<L: Ledger>(
+    rt: &impl Abort,
+    alloc: Global,
+    moments: &mut Steps<L>,
+) -> Result<Played, SimFault> {
+    let steps = [
+        flow(rt, true, 3),
+        flow(rt, false, 3),
+        TRIGGER,
+        Event::Answer,
+    ];
+    Played::new(alloc, SET).play(rt, alloc, moments, &steps)
+}
+
+/// Checks when the next moment is, if not at tick 101.
+fn same_next(rt: &impl Abort, world: &World, want: u64) {
+    assert_eq!(rt; world.next_tick(101), want);
+}
+
+/// This tick comes, and gives nothing if it is before the next moment.
+fn comes_quietly<L: Ledger>(
+    rt: &impl Abort,
+    alloc: Global,
+    moments: &mut Steps<L>,
+    played: &mut Played,
+    tick: u64,
+) -> Result<(), SimFault> {
+    let next = played.world.next_tick(101);
+    let told = played.kept.entries().len();
+    comes(alloc, moments, played, tick)?;
+    assert!(rt; tick >= next || played.kept.entries().len() == told);
+    Ok(())
+}
+
+/// A hundred ticks come, each by its parts.
+fn passed<L: Ledger>(
+    rt: &impl Abort,
+    alloc: Global,
+    moments: &mut Steps<L>,
+) -> Result<Played, SimFault> {
+    let mut parts = linked(rt, alloc, moments)?;
+    same_next(rt, &parts.world, 3);
+    for tick in 1..101 {
+        comes_quietly(rt, alloc, moments, &mut parts, tick)?;
+    }
+    parts.world.catch_all_up(moments);
+    Ok(parts)
+}
+
+/// Checks that both gave the same entries.
+fn same_entries(rt: &impl Abort, whole: &Played, parts: &mut Played) {
+    for entry in whole.kept.entries() {
+        parts.gives_one(rt, entry.tick, entry.note);
+    }
+    parts.ends(rt);
+}
+
+/// Checks the tick of a world, and that it draws on to call 7.
+fn draws_on(rt: &impl Abort, played: &mut Played) {
+    played.world.draw_on(7);
+    assert_eq!(rt; (played.world.tick(), played.world.calls()), (100, 7));
+}
+
 /// So many ticks by their parts give what the line of so many ticks gives, and nothing before the next moment.
 fn parts_run<L: Ledger>(rt: &impl Abort, alloc: Global, blank: Blank) -> Result<(), SimFault>
     requires name { blank.name ≡ L.name }
@@ -51,32 +115,11 @@ fn parts_run<L: Ledger>(rt: &impl Abort, alloc: Global, blank: Blank) -> Result<
     requires some { 0 < blank.parts }
 {
     let mut moments = Steps::<L>::start(blank);
-    let steps = [
-        flow(rt, true, 3),
-        flow(rt, false, 3),
-        TRIGGER,
-        Event::Answer,
-    ];
-    let whole = Played::new(alloc, SET)
-        .play(rt, alloc, &mut moments, &steps)?
-        .play(rt, alloc, &mut moments, &[tick(rt, 100)])?;
-    let mut parts = Played::new(alloc, SET).play(rt, alloc, &mut moments, &steps)?;
-    let mut next = parts.world.next_tick(101);
-    assert_eq!(rt; next, 3);
-    for tick in 1..101 {
-        let told = parts.kept.entries().len();
-        comes(alloc, &mut moments, &mut parts, tick)?;
-        assert!(rt; tick >= next || parts.kept.entries().len() == told);
-        next = parts.world.next_tick(101);
-    }
-    parts.world.catch_all_up(&mut moments);
-    parts.world.draw_on(7);
-    assert_eq!(rt; parts.world.tick(), 100);
-    assert_eq!(rt; parts.world.calls(), 7);
-    for entry in whole.kept.entries() {
-        parts.gives(rt, entry.tick, &[entry.note]);
-    }
-    parts.ends(rt);
+    let whole = linked(rt, alloc, &mut moments)?;
+    let whole = whole.play(rt, alloc, &mut moments, &[tick(rt, 100)])?;
+    let mut parts = passed(rt, alloc, &mut moments)?;
+    draws_on(rt, &mut parts);
+    same_entries(rt, &whole, &mut parts);
     Ok(())
 }
 

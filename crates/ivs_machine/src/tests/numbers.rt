@@ -5,7 +5,7 @@ use crate::{Ivs, VehicleEvent};
 use arrayvec::ArrayVec;
 use link_frames::{End, Frame, Note, OCTETS, Why};
 use msd_fit::{Cause, Facts, OwnFacts};
-use msd_values::{Marks, RootKind, Vin};
+use msd_values::{Format, Marks, RootKind, Vin};
 use std::process::Abort;
 
 /// The least set of a vehicle at the beginning of 2020, with number 1 and an automatic trigger: a vector of the format.
@@ -15,6 +15,7 @@ const LEAST: &[u8; 31] =
 
 fn own(rt: &impl Abort) -> OwnFacts {
     OwnFacts {
+        format: Format::Two,
         vin: Vin::read(b"WM9VDSVDSYA123456").ok().expect(rt, "a number"),
         kind: RootKind::new(1).expect(rt, "a category"),
         fuel: Marks {

@@ -3,10 +3,10 @@ ghost use Rattle.std.specs.Prelude.{◌≡◌, ◌≤◌};
 ghost use Rattle.link_frames.specs.declared.frame.End.TheVariants as «end»;
 ghost use Rattle.link_frames.specs.declared.note.Note.TheVariants as note;
 
-use super::{CallStage, Ivs, Phase};
+use super::{Call, CallStage, Ivs, Phase};
 use callback::Rest;
 use link_frames::{End, Frame, Items, Note, Request, Timer, Why, fill};
-use msd_fit::make;
+use msd_fit::{Cause, make};
 
 impl Ivs {
     ghost use Rattle.std.specs.Prelude.{true, [], ◌∷◌, ◌+◌, ℕ, min, if◌then◌else◌, List};
@@ -16,6 +16,8 @@ impl Ivs {
     ghost use Rattle.link_frames.specs.declared.note.Timer.TheVariants as timer;
     ghost use Rattle.link_frames.specs.declared.note.Why.TheVariants as why;
     ghost use Rattle.msd_fit.specs.Fitting.{made};
+    ghost use Rattle.ivs_machine.specs.IvsStands.{IvsIs};
+    ghost use Rattle.ivs_machine.specs.Vehicle.{first_vehicle};
 
     /// The standby begins.
     pub(super) fn rests(&mut self) -> Note
@@ -25,6 +27,18 @@ impl Ivs {
         self.phase = Phase::Standby;
         self.standby = Rest::enter();
         Note::Standby
+    }
+
+    /// All is lost but the facts and the network.
+    pub(super) fn forgets(&mut self)
+        ensures { IvsIs self.new (record (first_vehicle self.old.facts) { network = self.old.network }) }
+    {
+        self.phase = Phase::Idle;
+        self.cause = Cause::Auto;
+        self.sets_made = 0;
+        self.standby = Rest::enter();
+        self.in_phase = 0;
+        self.call = Call::none();
     }
 
     /// A stage of the call begins, with the voice as it is.

@@ -1,10 +1,10 @@
-//! What the vehicle does at events outside a call, and as a call comes up. After EN 16072.
+//! What the vehicle does at events outside a call, as a call comes up, and as it restarts. After EN 16072.
 ghost use Rattle.std.specs.Prelude.{◌≡◌};
 ghost use Rattle.link_frames.specs.declared.note.Note.TheVariants as note;
 
 use super::{CallStage, Ivs, Left, MOST_MUTED, Phase};
 use audio_switch::Switch;
-use link_frames::{Frame, Items, Note, Requests, Why, fill};
+use link_frames::{End, Frame, Items, Note, Requests, Why, fill};
 use msd_fit::Cause;
 
 impl Ivs {
@@ -210,5 +210,17 @@ impl Ivs {
             }
             _ => fill(items, &[Note::Nothing]),
         }
+    }
+
+    /// The vehicle restarts: its leg of a call is lost.
+    pub(super) fn restarts(&mut self, items: &mut Items)
+        ensures { Does IvsStandsFor IvsIs self.old self.new items.new.items (λ v. vehicle_row v rows.Reset) }
+    {
+        let restart = Note::Restart(End::Vehicle);
+        match self.phase {
+            Phase::InCall(_) => fill(items, &[self.goes_down(Why::Lost), restart]),
+            _ => fill(items, &[restart]),
+        }
+        self.forgets()
     }
 }

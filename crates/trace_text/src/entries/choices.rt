@@ -1,23 +1,10 @@
 //! The later words of a line of a trace that are one of a few.
 
 ghost use Rattle.std.specs.Prelude.{◌≡◌};
-ghost use Rattle.trace_text.specs.EntryChoices.{answer_of, end_of, first_timer, last_timer, timer_of, voice_of, why_of};
+ghost use Rattle.trace_text.specs.EntryChoices.{answer_of, first_timer, last_timer, timer_of, voice_of, why_of};
 
 use line_input::is_word;
-use link_frames::{Answer, End, Timer, Why};
-
-/// `vehicle` or `point`.
-pub fn read_end(text: &[u8]) -> Option<End>
-    ensures { result ≡ end_of text.now }
-{
-    if is_word(text, "vehicle") {
-        Some(End::Vehicle)
-    } else if is_word(text, "point") {
-        Some(End::Point)
-    } else {
-        None
-    }
-}
+use link_frames::{Answer, Timer, Why};
 
 /// Why a leg went down.
 pub fn read_why(text: &[u8]) -> Option<Why>

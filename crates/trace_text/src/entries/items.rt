@@ -1,7 +1,7 @@
 //! The items of a trace's lines, each read by a function of its own.
 
 ghost use Rattle.std.specs.Prelude.{◌≡◌};
-ghost use Rattle.trace_text.specs.EntryLines.{acked_note, down_note, ended_note, last, leg_note, net_note, note_by_words, note_of, only_call, only_dial, only_leg, send_note, shown_note, voice_note};
+ghost use Rattle.trace_text.specs.EntryLines.{acked_note, down_note, ended_note, last, leg_note, net_note, note_by_words, note_of, only_call, only_dial, only_leg, restart_note, send_note, shown_note, voice_note};
 
 use super::frames::read_frame;
 use super::kinds::Item;
@@ -43,6 +43,7 @@ fn read_note_of(item: Item, words: &mut NextWords<'_>) -> Result<Note, Reason>
         Item::Busy => Ok(Note::Busy(read_only_call(words)?)),
         Item::Spent => Ok(Note::Spent(read_only_call(words)?)),
         Item::Unshown => Ok(Note::Unshown(read_only_call(words)?)),
+        Item::Restart => read_restart(words),
     }
 }
 
@@ -178,4 +179,13 @@ fn read_fault(words: &mut NextWords<'_>) -> Result<Note, Reason>
 {
     let (end, call) = read_only_leg(words)?;
     Ok(Note::Fault { end, call })
+}
+
+/// `restart <end>`.
+fn read_restart(words: &mut NextWords<'_>) -> Result<Note, Reason>
+    ensures { result ≡ restart_note words.old }
+{
+    let end = words.end()?;
+    words.no_more()?;
+    Ok(Note::Restart(end))
 }

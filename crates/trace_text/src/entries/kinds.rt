@@ -29,6 +29,7 @@ pub enum Item {
     Busy,
     Spent,
     Unshown,
+    Restart,
 }
 
 /// Which frame a `send` item has.
@@ -146,6 +147,8 @@ fn read_rest_item(text: &[u8]) -> Option<Item>
         Some(Item::Idle)
     } else if is_word(text, "nothing") {
         Some(Item::Nothing)
+    } else if is_word(text, "restart") {
+        Some(Item::Restart)
     } else {
         None
     }

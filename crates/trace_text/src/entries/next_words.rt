@@ -4,9 +4,9 @@ ghost use Rattle.std.specs.Prelude.{◌≡◌, ◌∷◌};
 ghost use Rattle.std.specs.Str.{bytes_eq};
 ghost use Rattle.line_input.specs.Characters.{space};
 
-use super::choices::{read_answer, read_end, read_timer, read_voice, read_why};
+use super::choices::{read_answer, read_timer, read_voice, read_why};
 use super::kinds::{FrameKind, Item, read_item, read_kind};
-use crate::choices::read_direction;
+use crate::choices::{read_direction, read_end};
 use crate::hexadecimal::read_full_set;
 use crate::numbers::{read_dial_attempt, read_request};
 use crate::summary::{LONGEST_SUMMARY, push_summary};

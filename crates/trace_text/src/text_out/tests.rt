@@ -9,6 +9,7 @@ use super::*;
 use crate::{Kept, Tally, TextOut};
 use call_io::{MemSink, Sink};
 use link_frames::{End, Note, OCTETS, Request};
+use std::process::Abort;
 use std::test::Fail;
 
 /// Lets a listener hear entries until one fails.
@@ -56,48 +57,82 @@ fn three_entries() -> [Entry; 3] {
 /// 38 bytes: 9, 13 and 16.
 const THREE_LINES: &str = "0 arming\n49 cancelled\n50 up vehicle 7\n";
 
+/// Checks what was written: so many bytes of the three lines.
+fn same_front(rt: &impl Abort, written: &[u8], count: usize) {
+    assert_eq!(rt;
+        Some(written),
+        THREE_LINES.as_bytes().get(..count),
+        "{count} bytes"
+    );
+}
+
 #[test]
 fn text_out_writes_the_lines(rt: HostRuntime) -> Result<(), Fail> {
     let mut sink = MemSink::new(rt.alloc(), 100, Vec::new(rt.alloc()))?;
     write_lines(rt.alloc(), &three_entries(), &mut sink)?;
-    assert_eq!(rt; sink.bytes(), THREE_LINES.as_bytes());
+    same_front(&rt, sink.bytes(), 38);
+    Ok(())
+}
+
+/// Checks that a write failed.
+fn no_write(rt: &impl Abort, answer: Result<(), Deaf>) {
+    assert_eq!(rt; answer, Err(Deaf::Write));
+}
+
+/// Checks that a write of the three lines fails, and leaves so many of their bytes.
+fn expect_front(
+    rt: &impl Abort,
+    alloc: Global,
+    room: usize,
+    fails: Vec<u64>,
+    count: usize,
+) -> Result<(), Fail> {
+    let mut sink = MemSink::new(alloc, room, fails)?;
+    no_write(rt, write_lines(alloc, &three_entries(), &mut sink));
+    same_front(rt, sink.bytes(), count);
     Ok(())
 }
 
 #[test]
 fn a_failed_write_leaves_the_lines_before(rt: HostRuntime) -> Result<(), Fail> {
     let alloc = rt.alloc();
-    let lines = THREE_LINES.as_bytes();
-    for (call, whole) in [(1, 0), (2, 9), (3, 22)] {
-        let mut sink = MemSink::new(alloc, 100, vec![in alloc; call]?)?;
-        assert_eq!(rt;
-            write_lines(alloc, &three_entries(), &mut sink),
-            Err(Deaf::Write)
-        );
-        assert_eq!(rt; sink.bytes(), &lines[..whole], "at write {call}");
-    }
-    for room in 0..38 {
-        let mut sink = MemSink::new(alloc, room, Vec::new(alloc))?;
-        assert_eq!(rt;
-            write_lines(alloc, &three_entries(), &mut sink),
-            Err(Deaf::Write)
-        );
-        assert_eq!(rt; sink.bytes(), &lines[..room], "with room for {room}");
+    for (call, count) in [(1, 0), (2, 9), (3, 22)] {
+        expect_front(&rt, alloc, 100, vec![in alloc; call]?, count)?;
     }
     Ok(())
 }
 
 #[test]
+fn a_full_sink_leaves_what_had_room(rt: HostRuntime) -> Result<(), Fail> {
+    for room in 0..38 {
+        expect_front(&rt, rt.alloc(), room, Vec::new(rt.alloc()), room)?;
+    }
+    Ok(())
+}
+
+/// Checks which entries were kept.
+fn same_entries(rt: &impl Abort, kept: &Kept, entries: &[Entry]) {
+    assert_eq!(rt; kept.entries(), entries);
+}
+
+#[test]
+fn kept_begins_with_none(rt: HostRuntime) {
+    same_entries(&rt, &Kept::new(rt.alloc()), &[]);
+}
+
+/// These entries, and the first of them again.
+fn first_again(entries: [Entry; 3]) -> [Entry; 4] {
+    let [first, second, third] = entries;
+    [first, second, third, first]
+}
+
+#[test]
 fn kept_has_what_it_heard(rt: HostRuntime) -> Result<(), Fail> {
-    let entries = three_entries();
-    let entries = entries.as_slice();
+    let three = three_entries();
     let mut kept = Kept::new(rt.alloc());
-    assert!(rt; kept.entries().is_empty());
-    hear_all(rt.alloc(), entries, &mut kept)?;
-    hear_all(rt.alloc(), &entries[..1], &mut kept)?;
-    assert_eq!(rt; kept.entries().len(), 4);
-    assert_eq!(rt; &kept.entries()[..3], entries);
-    assert_eq!(rt; &kept.entries()[3..], &entries[..1]);
+    hear_all(rt.alloc(), &three, &mut kept)?;
+    hear_all(rt.alloc(), &three[..1], &mut kept)?;
+    same_entries(&rt, &kept, &first_again(three));
     Ok(())
 }
 
@@ -130,20 +165,30 @@ fn answered_call() -> [Entry; 5] {
     ]
 }
 
+/// Checks the five counts.
+fn same_counts(rt: &impl Abort, tally: &Tally, counts: [u64; 5]) {
+    assert_eq!(rt; tally.counts(), counts);
+}
+
 #[test]
 fn tally_counts_what_it_heard(rt: HostRuntime) -> Result<(), Fail> {
     let mut tally = Tally::new();
-    assert_eq!(rt; tally.counts(), [0; 5]);
+    same_counts(&rt, &tally, [0; 5]);
     hear_all(rt.alloc(), &three_entries(), &mut tally)?;
-    assert_eq!(rt; tally.counts(), [3, 0, 0, 0, 50]);
+    same_counts(&rt, &tally, [3, 0, 0, 0, 50]);
     hear_all(rt.alloc(), &answered_call(), &mut tally)?;
-    assert_eq!(rt; tally.counts(), [8, 1, 1, 2, 90]);
+    same_counts(&rt, &tally, [8, 1, 1, 2, 90]);
+    Ok(())
+}
+
+/// Checks the text of an error.
+fn expect_text(rt: &impl Abort, alloc: Global, deaf: Deaf, text: &str) -> Result<(), Fail> {
+    assert_eq!(rt; deaf.to_string(alloc)?.as_str(), text);
     Ok(())
 }
 
 #[test]
 fn texts_of_the_errors(rt: HostRuntime) -> Result<(), Fail> {
-    assert_eq!(rt; Deaf::Write.to_string(rt.alloc())?.as_str(), "write failed");
-    assert_eq!(rt; Deaf::Memory.to_string(rt.alloc())?.as_str(), "no memory");
-    Ok(())
+    expect_text(&rt, rt.alloc(), Deaf::Write, "write failed")?;
+    expect_text(&rt, rt.alloc(), Deaf::Memory, "no memory")
 }
