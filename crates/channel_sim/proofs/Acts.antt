@@ -26,53 +26,18 @@ use Rattle.psap_machine.proofs.PointOwed as point_owed
 use Rattle.trace_model.specs.declared.entry.Entry.{Entry}
 use Rattle.trace_model.specs.History.{told, sets_of}
 use Rattle.trace_model.specs.Safety.{is_leg, leg_at}
-use Rattle.channel_sim.specs.World.{Call, World, Step, Act, InCall, Session, quiet_step, and_then, vehicle_is_in, call_of, session_in, session_of, left_by, seated, carries, with_legs, did, vehicle_did, session_did, session_acts, does, does_each, consequence, consequences, settled}
-use Rattle.channel_sim.specs.Fit.{vehicle_seat, point_seat, seats_of, FramesFit, IsSessionOf, IsCall}
+use Rattle.channel_sim.specs.World.{Call, World, Step, Act, InCall, Session, quiet_step, and_then, vehicle_is_in, call_of, session_in, session_of, seated, carries, with_legs, did, vehicle_did, session_did, session_acts, does, does_each, consequence, consequences, settled}
+use Rattle.trace_fit.specs.Seats.{left_by}
+use Rattle.channel_sim.specs.Fit.{seats_of, FramesFit, IsCall}
+use Rattle.trace_fit.specs.Seats.{vehicle_seat, point_seat, IsSessionOf}
 use Rattle.channel_sim.specs.Tidy.{AreAbove, numbers_of}
-use Rattle.channel_sim.specs.inner.FitAt.{SeatBy, Came, Seats, Clocks, FitAt, FitsAt, Goes, Settles}
-use Rattle.channel_sim.proofs.Lists.{all_append}
-use Rattle.channel_sim.proofs.RowOwes.{event_kept, end_kept}
+use Rattle.channel_sim.specs.inner.FitAt.{FitsAt, Goes, Settles}
+use Rattle.trace_fit.specs.inner.FitAt.{SeatBy, Came, Seats, Clocks, FitAt}
+use Rattle.trace_fit.proofs.Lists.{all_append}
+use Rattle.trace_fit.proofs.RowOwes.{event_kept, end_kept}
 use Rattle.channel_sim.proofs.CallsKept.{carried_session, carried_listed, carried_order, carried_calls, carried_frames, is_listed, seated_here, seated_other, seated_listed, seated_order, seated_calls, seated_frames, kept_all, kept_legs, kept_order, kept_listed, kept_session, found_session}
-use Rattle.channel_sim.proofs.Seats.{stays_own, seat_as, seat_apart, number_none, call_none, call_some, stays_call, number_as, none_through, left_seat, left_session, ended, was_drawn}
-
--- clocks of legs that are down are free
-pub reclock : (clock clock' : Clocks) (seat : Seats) (tick last : ℕ) (t : List Entry) → FitAt clock seat tick last t →
-    ((e : End) (c : ℕ) → IfSome (seat e c) (λ s. clock' e c ≡ clock e c)) →
-    ((e : End) (c : ℕ) → tick ≤ clock' e c + 1) → FitAt clock' seat tick last t
-reclock clock clock' seat tick last t fit same near =
-    record {
-      seats = λ e c. again e c (seat e c) (same e c) (fit.seats e c);
-      in_time = fit.in_time;
-      near = near;
-      links = fit.links;
-      drawn = fit.drawn;
-      rises = fit.rises;
-      agreed = fit.agreed;
-      ordered = fit.ordered;
-      safe = fit.safe;
-    }
-  where
-    again : (e : End) (c : ℕ) → (s : Option Seat) → IfSome s (λ k. clock' e c ≡ clock e c) →
-        SeatBy (λ n. n ≡ clock e c) s (leg_at e c t) (sets_of e c t) →
-        SeatBy (λ n. n ≡ clock' e c) s (leg_at e c t) (sets_of e c t)
-    again e c None f h = h
-    again e c (Some k) f h = record { up = h.up; talks = h.talks; time = h.time ∙ sym f; sets = h.sets }
-
--- the same seats, found another way
-pub reseat : (clock : Clocks) (seat seat' : Seats) (tick last : ℕ) (t : List Entry) → FitAt clock seat tick last t →
-    ((e : End) (c : ℕ) → seat' e c ≡ seat e c) → FitAt clock seat' tick last t
-reseat clock seat seat' tick last t fit same =
-    record {
-      seats = λ e c. rw (same e c) (fit.seats e c);
-      in_time = λ e c. rw (same e c) (fit.in_time e c);
-      near = fit.near;
-      links = fit.links;
-      drawn = fit.drawn;
-      rises = fit.rises;
-      agreed = fit.agreed;
-      ordered = fit.ordered;
-      safe = fit.safe;
-    }
+use Rattle.trace_fit.proofs.Seats.{stays_own, seat_as, seat_apart, number_none, call_none, call_some, stays_call, number_as, none_through, left_seat, left_session, ended, was_drawn}
+use Rattle.trace_fit.proofs.Clocks.{reseat}
 
 -- An end did something.
 pub did_goes : (clock : Clocks) (now last : ℕ) (w : World) (t : List Entry) (items : List Note) (v : Vehicle)

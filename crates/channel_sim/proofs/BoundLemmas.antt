@@ -17,7 +17,8 @@ use Rattle.trace_model.specs.declared.entry.Entry.{Entry}
 use Rattle.trace_model.specs.History.{told}
 use Rattle.channel_sim.specs.declared.calls.call.Call as kept_call
 use Rattle.channel_sim.specs.World as model
-use Rattle.channel_sim.specs.World.{Call, World, Step, Act, Due, quiet_step, and_then, session_count, ends, carries, with_legs, seated, session_of, session_in, call_of, left_by, did, vehicle_did, session_did, session_acts, does, does_each, consequences, settled, performs, one_handed, hands_up, hands_down, each, is_number, vehicle_is_in, point_is_in, due_in, flows_up, flows_down, vehicle_passes, session_passes, sessions_pass, unit, units}
+use Rattle.channel_sim.specs.World.{Call, World, Step, Act, Due, quiet_step, and_then, session_count, ends, carries, with_legs, seated, session_of, session_in, call_of, did, vehicle_did, session_did, session_acts, does, does_each, consequences, settled, performs, one_handed, hands_up, hands_down, each, vehicle_is_in, point_is_in, due_in, flows_up, flows_down, vehicle_passes, session_passes, sessions_pass, unit, units}
+use Rattle.trace_fit.specs.Seats.{left_by, is_number}
 use Rattle.channel_sim.specs.Lag.{SessionLags, SeatLags, CallLags, CallsLag}
 use Rattle.channel_sim.specs.inner.Passes.{once_if}
 use Rattle.channel_sim.specs.Passes.{passes_of}

@@ -22,27 +22,23 @@ use Rattle.trace_model.specs.declared.entry.Entry.{Entry}
 use Rattle.trace_model.specs.History.{told, sent_by, sets_step, sets_of}
 use Rattle.trace_model.specs.Safety.{first_leg, leg_step, leg_at}
 use Rattle.trace_model.proofs.Folds.{AllOf, sends_none}
-use Rattle.channel_sim.specs.World.{Call, World, and_then, call_of, left_by, seated, vehicle_did, session_did}
+use Rattle.channel_sim.specs.World.{Call, World, and_then, call_of, seated, vehicle_did, session_did}
+use Rattle.trace_fit.specs.Seats.{left_by}
 use Rattle.channel_sim.specs.Lines.{with_call}
-use Rattle.channel_sim.specs.Fit.{IsDrawn, point_seat, seats_of, FramesFit, IsCall}
+use Rattle.channel_sim.specs.Fit.{seats_of, FramesFit, IsCall}
+use Rattle.trace_fit.specs.Order.{IsDrawn}
+use Rattle.trace_fit.specs.Seats.{point_seat}
 use Rattle.channel_sim.specs.Tidy.{AreAbove, numbers_of}
-use Rattle.channel_sim.specs.inner.FitAt.{FitAt, FitsAt, Goes, all_at}
-use Rattle.channel_sim.proofs.Lists.{all_append, all_into}
-use Rattle.channel_sim.proofs.RowKept.{over}
-use Rattle.channel_sim.proofs.RowOwes.{arrival_kept}
+use Rattle.channel_sim.specs.inner.FitAt.{FitsAt, Goes, all_at}
+use Rattle.trace_fit.specs.inner.FitAt.{FitAt}
+use Rattle.trace_fit.proofs.Lists.{all_append, all_into}
+use Rattle.trace_fit.proofs.RowKept.{over}
+use Rattle.trace_fit.proofs.RowOwes.{arrival_kept}
 use Rattle.channel_sim.proofs.CallsKept.{more_session, more_listed, more_order, seated_here}
-use Rattle.channel_sim.proofs.Seats.{seat_as, stays_call, left_seat, left_session, undrawn, untold, arrived}
-use Rattle.channel_sim.proofs.Acts.{reseat, did_goes, seated_goes, vehicle_others, session_others}
-
-along_own : (e : End) (c : ℕ) (came : Option Frame) (s : Option Seat) (ns : List Note) →
-    Along (MayGive e c came) e s ns → AllOf e c ns
-along_own e c came s [] a = tt
-along_own e c came s (n ∷ ns) a = (a.0.0, along_own e c came (seat_moved e s n) ns a.1)
-
-arrival_own : (e : End) (c : ℕ) (ns : List Note) (new : Option Seat) → OwesArrival e c ns new → AllOf e c ns
-arrival_own e c ns new h =
-    subst (λ (z : List Note). AllOf e c z) (sym h.up)
-    ((refl, refl), along_own e c None (Some fresh_seat) h.rest h.owes.given)
+use Rattle.trace_fit.proofs.Seats.{seat_as, stays_call, left_seat, left_session, undrawn, untold, arrived}
+use Rattle.channel_sim.proofs.Acts.{did_goes, seated_goes, vehicle_others, session_others}
+use Rattle.trace_fit.proofs.Clocks.{reseat}
+use Rattle.trace_fit.proofs.ComingUp.{along_own, arrival_own, drawn_more, out_stays_in, dialling_out, dialling_comes, answered_in, reachable_out, reachable_comes, called_in, owes_arrival}
 
 -- an end sent nothing in a call whose number wasn't drawn
 unsent : (e : End) (c last : ℕ) → last < c → (t : List Entry) → AllByRecursion (λ x. IsDrawn last (owner x.note)) t →
@@ -51,10 +47,6 @@ unsent e c last above [] a = refl
 unsent e c last above (x ∷ t) a =
     unsent e c last above t a.1
     ∙ sym (sends_none e c x.tick x.note (sent_by e c t) (undrawn e c last above (owner x.note) a.0))
-
-drawn_more : (last : ℕ) → (o : Option (End × ℕ)) → IsDrawn last o → IsDrawn (last + 1) o
-drawn_more last None h = tt
-drawn_more last (Some o) h = omega (arith, h)
 
 -- the next call, before its legs are up
 abbrev next_call : World → Call
@@ -106,14 +98,6 @@ drawn_fits n w t f =
     same «end».Vehicle c = refl
     same «end».Point c =
         ap point_seat (more_session c (next_call w) refl w.calls)
-
--- a vehicle in no call is in every call's number, in the sense of its own items
-out_stays_in : (c : ℕ) (v : Vehicle) (p : Phase) → seat_in v p ≡ None → StaysIn c v p
-out_stays_in c v (InCall stage) h = cc
-out_stays_in c v Idle h = tt
-out_stays_in c v Standby h = tt
-out_stays_in c v (Arming before) h = tt
-out_stays_in c v (InSeries s) h = tt
 
 -- the call comes up at the vehicle
 vehicle_up : (n : ℕ) (w : World) (t : List Entry) (row : Row Vehicle)
@@ -186,60 +170,6 @@ comes_up_goes n w t row session f out owes in_call arrives =
     (over leg_step first_leg «end».Vehicle «end».Point c c w.tick t row.items refl mine ∙ untold leg_step first_leg «end».Point c w.drawn above t f.fit.drawn)
     (over (sets_step «end».Point) [] «end».Vehicle «end».Point c c w.tick t row.items refl mine ∙ untold (sets_step «end».Point) [] «end».Point c w.drawn above t f.fit.drawn)
     arrives)
-
--- The rows at which a call comes up.
-
-dialling_out : (v : Vehicle) (p : Phase) → is_dialling_in p ≡ true → seat_in v p ≡ None
-dialling_out v (InSeries s) h = refl
-dialling_out v Idle h = absurd (false≢true h)
-dialling_out v Standby h = absurd (false≢true h)
-dialling_out v (Arming before) h = absurd (false≢true h)
-dialling_out v (InCall stage) h = absurd (false≢true h)
-
-dialling_comes : (c : ℕ) (network : Bool) (p : Phase) → is_dialling_in p ≡ true → comes_up_in (Answered c) network p ≡ Some c
-dialling_comes c network (InSeries s) h = rw h refl
-dialling_comes c network Idle h = absurd (false≢true h)
-dialling_comes c network Standby h = absurd (false≢true h)
-dialling_comes c network (Arming before) h = absurd (false≢true h)
-dialling_comes c network (InCall stage) h = absurd (false≢true h)
-
-answered_in : (c : ℕ) (v : Vehicle) (p : Phase) → is_dialling_in p ≡ true →
-    vehicle_call (unwrap_or (named (Answered c) v p) (unnamed (Answered c) v)).new ≡ Some c
-answered_in c v (InSeries s) h = rw h refl
-answered_in c v Idle h = absurd (false≢true h)
-answered_in c v Standby h = absurd (false≢true h)
-answered_in c v (Arming before) h = absurd (false≢true h)
-answered_in c v (InCall stage) h = absurd (false≢true h)
-
-reachable_out : (v : Vehicle) (p : Phase) → (is_standby p && v.network) ≡ true → seat_in v p ≡ None
-reachable_out v Standby h = refl
-reachable_out v Idle h = absurd (false≢true h)
-reachable_out v (InSeries s) h = absurd (false≢true h)
-reachable_out v (Arming before) h = absurd (false≢true h)
-reachable_out v (InCall stage) h = absurd (false≢true h)
-
-reachable_comes : (c : ℕ) (network : Bool) (p : Phase) → (is_standby p && network) ≡ true →
-    comes_up_in (Incoming c) network p ≡ Some c
-reachable_comes c true Standby h = refl
-reachable_comes c false Standby h = absurd (false≢true h)
-reachable_comes c network Idle h = absurd (false≢true h)
-reachable_comes c network (InSeries s) h = absurd (false≢true h)
-reachable_comes c network (Arming before) h = absurd (false≢true h)
-reachable_comes c network (InCall stage) h = absurd (false≢true h)
-
-called_in : (c : ℕ) (v : Vehicle) (p : Phase) → (is_standby p && v.network) ≡ true →
-    vehicle_call (unwrap_or (named (Incoming c) v p) (unnamed (Incoming c) v)).new ≡ Some c
-called_in c v Standby h = rw h refl
-called_in c v Idle h = absurd (false≢true h)
-called_in c v (InSeries s) h = absurd (false≢true h)
-called_in c v (Arming before) h = absurd (false≢true h)
-called_in c v (InCall stage) h = absurd (false≢true h)
-
--- what the row of such an event owes
-owes_arrival : (c : ℕ) (v : Vehicle) (e : Heard) → vehicle_kept.IsKept v → comes_up_of e v ≡ Some c →
-    ArrivalOwes c (vehicle_row v e)
-owes_arrival c v e kept comes =
-    subst (λ (z : Option ℕ). EventOwes z v e (vehicle_row v e)) comes (vehicle_owed.owes_event e v kept)
 
 -- the call that is dialled is answered
 pub answer_goes : (n : ℕ) (w : World) (t : List Entry) (session : Row Point)

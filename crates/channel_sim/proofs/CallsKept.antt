@@ -10,8 +10,10 @@ use Rattle.psap_machine.specs.Point.{Point}
 use Rattle.trace_model.specs.declared.entry.Entry.{Entry}
 use Rattle.trace_model.specs.History.{sent_by}
 use Rattle.trace_model.proofs.Folds.{sent_append}
-use Rattle.channel_sim.specs.World.{Call, is_number, call_of, session_in, session_of, seated, carries, with_legs}
-use Rattle.channel_sim.specs.Fit.{FramesFit, IsSessionOf, IsCall}
+use Rattle.channel_sim.specs.World.{Call, call_of, session_in, session_of, seated, carries, with_legs}
+use Rattle.trace_fit.specs.Seats.{is_number}
+use Rattle.channel_sim.specs.Fit.{FramesFit, IsCall}
+use Rattle.trace_fit.specs.Seats.{IsSessionOf}
 use Rattle.channel_sim.specs.Tidy.{AreAbove, numbers_of, HasLeg}
 
 -- calls in order

@@ -6,7 +6,8 @@ use Rattle.psap_machine.specs.declared.session.Session.{Session}
 use Rattle.psap_machine.specs.Point.{Point}
 use Rattle.psap_machine.specs.SessionStands.{SessionStandsFor}
 use Rattle.channel_sim.specs.declared.calls.call.Call as kept_call
-use Rattle.channel_sim.specs.World.{Call, call_of, seated, left_by}
+use Rattle.channel_sim.specs.World.{Call, call_of, seated}
+use Rattle.trace_fit.specs.Seats.{left_by}
 use Rattle.channel_sim.specs.Lines.{sent_up, sent_down}
 use Rattle.channel_sim.specs.inner.Acts.{IsCaught}
 use Rattle.channel_sim.specs.Lag.{CallLags, CallsLag}

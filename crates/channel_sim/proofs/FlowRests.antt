@@ -10,7 +10,8 @@ use Rattle.psap_machine.specs.Point.{Point}
 use Rattle.psap_machine.specs.PointRows as point
 use Rattle.trace_model.specs.History.{Sent, told, sent_by}
 use Rattle.channel_sim.specs.World as model
-use Rattle.channel_sim.specs.World.{Call, World, Step, Act, Due, quiet_step, carries, seated, session_of, left_by, did, vehicle_did, session_acts, does, does_each, consequences, settled, performs, one_handed, hands_up, each, vehicle_is_in, point_is_in, due_in, flows_up, flows_down, vehicle_passes, session_passes, sessions_pass}
+use Rattle.channel_sim.specs.World.{Call, World, Step, Act, Due, quiet_step, carries, seated, session_of, did, vehicle_did, session_acts, does, does_each, consequences, settled, performs, one_handed, hands_up, each, vehicle_is_in, point_is_in, due_in, flows_up, flows_down, vehicle_passes, session_passes, sessions_pass}
+use Rattle.trace_fit.specs.Seats.{left_by}
 use Rattle.channel_sim.specs.Quiet.{FramesRest, UpRests, DownRests, aged_call, aged_world}
 use Rattle.channel_sim.proofs.Jump.{quiet_up, quiet_down}
 use Rattle.channel_sim.proofs.TidyLemmas.{with_legs_all, sent_now}

@@ -17,7 +17,8 @@ use Rattle.ivs_machine.specs.VehicleRows as vehicle
 use Rattle.psap_machine.specs.Point as at_point
 use Rattle.psap_machine.specs.Point.{Point}
 use Rattle.psap_machine.specs.PointRows as point
-use Rattle.channel_sim.specs.World.{Call, World, Step, quiet_step, and_then, left_by, unit, units, carries, with_legs, did, vehicle_did, session_did, settled, vehicle_passes, session_passes, session_acts, sessions_pass, each, call_of, session_in, session_of, seated, Due, due_frames, due_in, hands_up, hands_down, flows_up, flows_down}
+use Rattle.channel_sim.specs.World.{Call, World, Step, quiet_step, and_then, unit, units, carries, with_legs, did, vehicle_did, session_did, settled, vehicle_passes, session_passes, session_acts, sessions_pass, each, call_of, session_in, session_of, seated, Due, due_frames, due_in, hands_up, hands_down, flows_up, flows_down}
+use Rattle.trace_fit.specs.Seats.{left_by}
 use Rattle.channel_sim.specs.Tidy.{AreAbove, ticks_of, HasLeg, IsTidy, InTime, CallInTime, numbers_of}
 use Rattle.channel_sim.specs.Quiet.{SessionRests, CallRests, FramesRest, QuietFor, aged_call, aged_world}
 

@@ -12,7 +12,8 @@ use Rattle.psap_machine.specs.Point.{Point}
 use Rattle.psap_machine.specs.PointRows as point
 use Rattle.psap_machine.specs.SessionStands.{SessionStandsFor}
 use Rattle.channel_sim.specs.declared.calls.call.Call as kept_call
-use Rattle.channel_sim.specs.World.{Call, left_by}
+use Rattle.channel_sim.specs.World.{Call}
+use Rattle.trace_fit.specs.Seats.{left_by}
 use Rattle.channel_sim.specs.inner.Acts.{CallDid, seat_items, seat_after}
 use Rattle.channel_sim.specs.Lag.{SessionLags, SeatLags, CallLags, VehicleLags}
 use Rattle.channel_sim.proofs.SeatLemmas.{stands_now}

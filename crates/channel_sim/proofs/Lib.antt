@@ -20,13 +20,7 @@ mod HandLemmas
 -- quiet time: n unit ticks in which nothing is due give nothing
 pub mod Jump
 mod LagLemmas
--- a row of a leg, told: the entries say of the leg where the end is
-pub mod LegRow
 mod LineLemmas
--- a row keeps what ties the sets of a call
-pub mod LinksRow
--- what holds of each element of a list
-pub mod Lists
 -- the world that jumps over quiet ticks, as it is kept
 pub mod MomentLemmas
 mod PassLemmas
@@ -37,21 +31,14 @@ mod Played
 mod PlayedLong
 -- how far one event line goes: calls drawn, and ticks
 mod Reached
--- a row keeps a trace that fits
-pub mod RowKept
--- a row that owes keeps a trace that fits
-pub mod RowOwes
 -- each line of a script keeps a world that fits
 pub mod Running
 mod SeatLemmas
--- both ends as seats in their calls
-pub mod Seats
 mod SendsLemmas
 mod SessionLemmas
 -- between lines: what is kept stands for the world
 mod Standing
 mod StepLemmas
-mod TellingLemmas
 mod TickLemmas
 -- a unit tick of the world keeps a world that fits
 pub mod Ticks

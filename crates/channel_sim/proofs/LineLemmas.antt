@@ -10,7 +10,8 @@ use Rattle.trace_model.specs.declared.entry.Entry.{Entry}
 use Rattle.trace_model.specs.History.{told}
 use Rattle.channel_sim.specs.declared.calls.call.Call as kept_call
 use Rattle.channel_sim.specs.declared.channel.Channel as kept_channel
-use Rattle.channel_sim.specs.World.{Call, World, Step, Hears, InCall, is_number, quiet_step, performs, settled, vehicle_did}
+use Rattle.channel_sim.specs.World.{Call, World, Step, Hears, InCall, quiet_step, performs, settled, vehicle_did}
+use Rattle.trace_fit.specs.Seats.{is_number}
 use Rattle.channel_sim.specs.Lines.{Deed, Does, deed, in_its_call, or_nothing, item_step, nothing_step}
 use Rattle.channel_sim.specs.inner.Acts.{IsCaught}
 use Rattle.channel_sim.specs.Lag.{CallsLag, StandsAt, StandsNow, CameAt, CameNow}

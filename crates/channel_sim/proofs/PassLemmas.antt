@@ -12,7 +12,8 @@ use Rattle.ivs_machine.specs.VehicleRows as vehicle
 use Rattle.psap_machine.specs.Point.{Point}
 use Rattle.channel_sim.specs.declared.calls.call.Call as kept_call
 use Rattle.channel_sim.specs.declared.channel.Channel as kept_channel
-use Rattle.channel_sim.specs.World.{Call, World, Step, quiet_step, vehicle_passes, settled, session_acts, session_of, seated, did, carries, with_legs, left_by}
+use Rattle.channel_sim.specs.World.{Call, World, Step, quiet_step, vehicle_passes, settled, session_acts, session_of, seated, did, carries, with_legs}
+use Rattle.trace_fit.specs.Seats.{left_by}
 use Rattle.channel_sim.specs.inner.Acts.{SessionDid, IsReady, OtherHasLeg, seat_items, seat_after}
 use Rattle.channel_sim.specs.Lag.{AreSameBut, VehicleLags, CallLags, CallsLag, StandsAt, waits, clock_of}
 use Rattle.channel_sim.specs.Tidy.{AreAbove, HasLeg, numbers_of}

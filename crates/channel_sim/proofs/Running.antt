@@ -23,10 +23,13 @@ use Rattle.trace_model.specs.History.{Sent, told, sent_by}
 use Rattle.trace_model.proofs.Folds.{sent_append}
 use Rattle.channel_sim.specs.World.{Call, World, Step, Act, Hears, InCall, Session, quiet_step, and_then, call_of, point_is_in, vehicle_is_in, does, performs, hands_up, hands_down, each, unit, units}
 use Rattle.channel_sim.specs.Lines.{Deed, Does, HandsUp, HandsDown, Answers, CallsBack, deed, when, in_its_call, sent_up, sent_down, hands_one, hands_place, deeds_of, item_step, or_nothing, point_resets, session_resets, step, world_after, trace_from}
-use Rattle.channel_sim.specs.Fit.{vehicle_seat, seats_of, FramesFit, CallLinks}
-use Rattle.channel_sim.specs.inner.FitAt.{Came, FitAt, FitsAt, Goes, all_at}
-use Rattle.channel_sim.proofs.Lists.{all_at as element_at}
-use Rattle.channel_sim.proofs.RowOwes.{event_kept}
+use Rattle.channel_sim.specs.Fit.{seats_of, FramesFit}
+use Rattle.trace_fit.specs.Links.{CallLinks}
+use Rattle.trace_fit.specs.Seats.{vehicle_seat}
+use Rattle.channel_sim.specs.inner.FitAt.{FitsAt, Goes, all_at}
+use Rattle.trace_fit.specs.inner.FitAt.{Came, FitAt}
+use Rattle.trace_fit.proofs.Lists.{all_at as element_at}
+use Rattle.trace_fit.proofs.RowOwes.{event_kept}
 use Rattle.channel_sim.proofs.Acts.{IsPlain, hears_goes, in_call_goes, session_act_goes, settled_goes}
 use Rattle.channel_sim.proofs.Ticks.{DueFits, up_fits, down_fits, settles_all, hands_up_goes, hands_down_goes, unit_goes}
 use Rattle.channel_sim.proofs.CallUp.{answer_goes, callback_goes}

@@ -12,7 +12,8 @@ use Rattle.psap_machine.specs.Point.{Point, Phase, Listening, Asking, Telling, T
 use Rattle.psap_machine.specs.PointRows.{aged, aged_in, due_of, deadlines, point_row, Ended}
 use Rattle.psap_machine.specs.SessionStands.{SessionStandsFor}
 use Rattle.channel_sim.specs.declared.calls.call.Call as kept_call
-use Rattle.channel_sim.specs.World.{Call, left_by, unless_over}
+use Rattle.channel_sim.specs.World.{Call}
+use Rattle.trace_fit.specs.Seats.{left_by, unless_over}
 use Rattle.channel_sim.specs.inner.Acts.{seat_items, seat_after, CallDid}
 use Rattle.channel_sim.specs.Lag.{SessionLags, SeatLags, CallLags}
 use Rattle.channel_sim.proofs.Jump.{point_none}

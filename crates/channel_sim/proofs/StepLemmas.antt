@@ -4,7 +4,7 @@ use Rattle.std.proofs.lemmas.List.{take_more, take-append-drop}
 use Rattle.link_frames.specs.declared.note.Note.{Note}
 use Rattle.trace_model.specs.declared.entry.Entry.{Entry}
 use Rattle.trace_model.specs.History.{told}
-use Rattle.channel_sim.proofs.TellingLemmas.{told-append, told-take_more}
+use Rattle.trace_fit.proofs.TellingLemmas.{told-append, told-take_more}
 use Rattle.channel_sim.specs.World.{World, Step, Act, quiet_step, and_then, does, does_each, consequence, consequences, each}
 
 -- a step, and then one that is known

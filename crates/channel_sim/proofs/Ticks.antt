@@ -22,16 +22,22 @@ use Rattle.trace_model.specs.declared.entry.Entry.{Entry}
 use Rattle.trace_model.specs.History.{Sent, told, sets_step, sets_of}
 use Rattle.trace_model.specs.Safety.{is_leg, is_own, own}
 use Rattle.trace_model.proofs.Folds.{through_append}
-use Rattle.channel_sim.specs.World.{Call, World, Step, InCall, Session, Due, quiet_step, and_then, call_of, session_in, session_of, point_is_in, vehicle_is_in, left_by, seated, vehicle_did, session_did, session_acts, does, performs, one_handed, hands_up, hands_down, each, due_frames, due_in, flows_up, flows_down, vehicle_passes, session_passes, sessions_pass, unit}
-use Rattle.channel_sim.specs.Fit.{Rises, vehicle_seat, point_seat, seats_of, FramesFit, CarriesMade, ConfirmsShown, CallLinks, IsSessionOf}
+use Rattle.channel_sim.specs.World.{Call, World, Step, InCall, Session, Due, quiet_step, and_then, call_of, session_in, session_of, point_is_in, vehicle_is_in, seated, vehicle_did, session_did, session_acts, does, performs, one_handed, hands_up, hands_down, each, due_frames, due_in, flows_up, flows_down, vehicle_passes, session_passes, sessions_pass, unit}
+use Rattle.trace_fit.specs.Seats.{left_by}
+use Rattle.channel_sim.specs.Fit.{seats_of, FramesFit}
+use Rattle.trace_fit.specs.Links.{CarriesMade, ConfirmsShown, CallLinks}
+use Rattle.trace_fit.specs.Order.{Rises}
+use Rattle.trace_fit.specs.Seats.{vehicle_seat, point_seat, IsSessionOf}
 use Rattle.channel_sim.specs.Tidy.{AreAbove, numbers_of}
-use Rattle.channel_sim.specs.inner.FitAt.{Came, Clocks, FitsAt, Goes, Settles, all_at}
-use Rattle.channel_sim.proofs.Lists.{all_append, all_into}
-use Rattle.channel_sim.proofs.LinksRow.{sets_stay}
-use Rattle.channel_sim.proofs.RowOwes.{unit_kept}
+use Rattle.channel_sim.specs.inner.FitAt.{FitsAt, Goes, Settles, all_at}
+use Rattle.trace_fit.specs.inner.FitAt.{Came, Clocks}
+use Rattle.trace_fit.proofs.Lists.{all_append, all_into}
+use Rattle.trace_fit.proofs.LinksRow.{sets_stay}
+use Rattle.trace_fit.proofs.RowOwes.{unit_kept}
 use Rattle.channel_sim.proofs.CallsKept.{found_session}
-use Rattle.channel_sim.proofs.Seats.{stays_own, seat_as, seat_apart, none_through, left_session}
-use Rattle.channel_sim.proofs.Acts.{reclock, did_goes, vehicle_others, own_seat, number_drawn, still_listed, session_others, session_here, seated_goes, owes_here, session_drawn, quiet_goes, then_goes, in_call_goes, session_act_goes, settled_goes}
+use Rattle.trace_fit.proofs.Seats.{stays_own, seat_as, seat_apart, none_through, left_session}
+use Rattle.channel_sim.proofs.Acts.{did_goes, vehicle_others, own_seat, number_drawn, still_listed, session_others, session_here, seated_goes, owes_here, session_drawn, quiet_goes, then_goes, in_call_goes, session_act_goes, settled_goes}
+use Rattle.trace_fit.proofs.Clocks.{reclock}
 
 -- the vehicle was passed, and no session
 abbrev pub vehicle_passed : ℕ → Clocks

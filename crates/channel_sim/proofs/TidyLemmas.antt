@@ -12,7 +12,8 @@ use Rattle.trace_model.specs.declared.entry.Entry.{Entry}
 use Rattle.trace_model.specs.History.{Sent, told, sends, sent_by}
 use Rattle.trace_model.specs.Safety.{is_leg}
 use Rattle.channel_sim.specs.declared.calls.call.Call as kept_call
-use Rattle.channel_sim.specs.World.{Call, is_number, with_legs, carries}
+use Rattle.channel_sim.specs.World.{Call, with_legs, carries}
+use Rattle.trace_fit.specs.Seats.{is_number}
 use Rattle.channel_sim.specs.inner.Acts.{OtherHasLeg}
 use Rattle.channel_sim.specs.Lag.{CallsLag}
 use Rattle.channel_sim.specs.inner.Places.{place_of}

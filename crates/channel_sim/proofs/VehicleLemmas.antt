@@ -10,7 +10,8 @@ use Rattle.ivs_machine.specs.VehicleKept.{IsKept}
 use Rattle.ivs_machine.specs.VehicleRows.{aged, due_of, deadlines}
 use Rattle.ivs_machine.proofs.Ticks.{aged_none}
 use Rattle.channel_sim.specs.declared.channel.Channel as kept_channel
-use Rattle.channel_sim.specs.World.{Call, World, is_number}
+use Rattle.channel_sim.specs.World.{Call, World}
+use Rattle.trace_fit.specs.Seats.{is_number}
 use Rattle.channel_sim.specs.inner.Acts.{OtherHasLeg, IsReady}
 use Rattle.channel_sim.specs.Lag.{VehicleLags, StandsAt}
 use Rattle.channel_sim.specs.Tidy.{HasLeg}

@@ -22,48 +22,21 @@ use Rattle.trace_model.specs.declared.event.Event.{Event}
 use Rattle.trace_model.specs.History.{Sent, sends, sent_by, sets_of}
 use Rattle.trace_model.specs.Safety.{is_leg, Leg, first_leg, leg_behind, leg_at, AtEach, MustOpen, OpensNext, OwesOpening, IsBounded}
 use Rattle.trace_model.proofs.Folds.{is_leg_same}
-use Rattle.channel_sim.specs.World.{World, Call, first_world, is_number, session_of, vehicle_is_in, point_is_in, unless_over, unit, units, call_of, session_in}
+use Rattle.channel_sim.specs.World.{World, Call, first_world, session_of, vehicle_is_in, point_is_in, unit, units, call_of, session_in}
+use Rattle.trace_fit.specs.Seats.{is_number, unless_over}
 use Rattle.channel_sim.specs.Lines.{step, trace, trace_from, world_after}
-use Rattle.channel_sim.specs.Fit.{Fit, LegFits, CarriesMade, IsSent, WasSent, vehicle_seat, point_seat, seats_of, IsCall}
-use Rattle.channel_sim.specs.inner.FitAt.{SeatBy, OpensSoon, SafeFrom, FitsAt, all_at}
-use Rattle.channel_sim.proofs.RowKept.{within_of}
+use Rattle.channel_sim.specs.Fit.{Fit, seats_of, IsCall}
+use Rattle.trace_fit.specs.Links.{CarriesMade}
+use Rattle.trace_fit.specs.Order.{IsSent, WasSent}
+use Rattle.trace_fit.specs.Seats.{LegFits, vehicle_seat, point_seat}
+use Rattle.channel_sim.specs.inner.FitAt.{FitsAt, all_at}
+use Rattle.trace_fit.specs.inner.FitAt.{SeatBy, OpensSoon, SafeFrom}
+use Rattle.trace_fit.proofs.RowKept.{within_of}
 use Rattle.channel_sim.proofs.CallsKept.{found_leg, found_session}
 use Rattle.channel_sim.proofs.Running.{FitsNow, unit_now, step_goes, trace_goes}
+use Rattle.trace_fit.proofs.SafeLegs.{opened_from, finished_from, bounded_from, safe_from}
 
 -- A leg that is safe, as the rules have it.
-
-abbrev MustFrom : End → ℕ → Leg → List Entry → Type 0
-MustFrom e c leg t = AtEach (λ leg x next. MustOpen e c leg x → OpensNext e c next) e c leg t
-
-abbrev BoundedFrom : End → ℕ → Leg → List Entry → Type 0
-BoundedFrom e c leg t = AtEach (λ leg x next. IsBounded e c leg x) e c leg t
-
-opened_from : (e : End) (c : ℕ) (leg : Leg) → (t : List Entry) → SafeFrom e c leg t → MustFrom e c leg t
-opened_from e c leg [] h = tt
-opened_from e c leg (x ∷ t) h = (λ d. weaker t (h.0.opened d), opened_from e c (leg_behind e c leg x) t h.1)
-  where
-    weaker : (t : List Entry) → OpensSoon e c t → OpensNext e c t
-    weaker [] k = tt
-    weaker (y ∷ t) k = k
-
-finished_from : (e : End) (c : ℕ) (leg : Leg) → (t : List Entry) → SafeFrom e c leg t → OwesOpening e c leg t → ⊥
-finished_from e c leg [] h owes = owes
-finished_from e c leg (x ∷ []) h owes = h.0.opened owes
-finished_from e c leg (x ∷ y ∷ t) h owes = finished_from e c (leg_behind e c leg x) (y ∷ t) h.1 owes
-
-bounded_from : (e : End) (c : ℕ) (leg : Leg) → (t : List Entry) → SafeFrom e c leg t → BoundedFrom e c leg t
-bounded_from e c leg [] h = tt
-bounded_from e c leg (x ∷ t) h = (h.0.bounded, bounded_from e c (leg_behind e c leg x) t h.1)
-
-safe_from : (e : End) (c : ℕ) (leg : Leg) → (t : List Entry) → MustFrom e c leg t → BoundedFrom e c leg t →
-    (OwesOpening e c leg t → ⊥) → SafeFrom e c leg t
-safe_from e c leg [] must bounded finished = tt
-safe_from e c leg (x ∷ []) must bounded finished =
-    (record { opened = λ d. finished d; bounded = bounded.0 }, tt)
-safe_from e c leg (x ∷ y ∷ t) must bounded finished = (
-  record { opened = λ d. must.0 d; bounded = bounded.0 },
-  safe_from e c (leg_behind e c leg x) (y ∷ t) must.1 bounded.1 finished,
-)
 
 -- Seats at the world's tick.
 

@@ -22,47 +22,17 @@ use Rattle.trace_model.specs.declared.entry.Entry.{Entry}
 use Rattle.trace_model.specs.History.{Sent, sent_by, sets_of}
 use Rattle.trace_model.specs.Safety.{Leg, leg_at, WasShown, Safe, Finished}
 use Rattle.channel_sim.specs.Tidy.{AreAbove, HasLeg, numbers_of}
-use Rattle.channel_sim.specs.World.{World, Call, is_number, call_of, session_of, left_by}
-
--- Call numbers and ticks.
-
--- an item is of no call whose number wasn't drawn
-abbrev pub IsDrawn : (drawn : ℕ) → Option (End × ℕ) → Type 0
-IsDrawn drawn None = Unit {0}
-IsDrawn drawn (Some o) = o.1 ≤ drawn
-
--- ticks never fall, from the first of these two to the second
-abbrev pub Rises : (from : ℕ) → List Entry → (to : ℕ) → Type 0
-Rises from [] to = from ≤ to
-Rises from (x ∷ xs) to = (from ≤ x.tick) × Rises x.tick xs to
+use Rattle.channel_sim.specs.World.{World, Call, call_of, session_of}
+use Rattle.trace_fit.specs.Seats.{is_number, left_by}
+use Rattle.trace_fit.specs.Links.{CallLinks}
+use Rattle.trace_fit.specs.Order.{IsDrawn, Rises, OrderedFrom}
+use Rattle.trace_fit.specs.Seats.{vehicle_seat, point_seat, LegFits, IsSessionOf}
 
 -- Both ends as seats in their calls.
-
--- the vehicle's seat in a call, if it is in it
-abbrev pub vehicle_seat : ℕ → Vehicle → Option Seat
-vehicle_seat c v = if is_number c (vehicle_call v) then seat_of v else None
-
--- the seat of a session, if there is one
-abbrev pub point_seat : Option Point → Option Seat
-point_seat None = None
-point_seat (Some s) = session.seat_of s
 
 abbrev pub seats_of : Vehicle → List Call → End → ℕ → Option Seat
 seats_of v calls «end».Vehicle c = vehicle_seat c v
 seats_of v calls «end».Point c = point_seat (session_of c calls)
-
--- An end is in a call as the entries say: its leg is up, its voice is as they say and has been so since the tick that
--- they say, and the sets that it made or showed are exactly theirs.
-pub record SeatFits (now : ℕ) (k : Seat) (leg : Leg) (had : List Kept) : Type 0 where
-  pub up : leg.up ≡ true
-  pub talks : leg.talks ≡ k.talks
-  pub time : leg.since + k.ticks ≡ now
-  pub sets : had ≡ k.sets
-
--- an end that isn't in the call has no leg up by the entries
-abbrev pub LegFits : (now : ℕ) → Option Seat → Leg → List Kept → Type 0
-LegFits now None leg sets = leg.up ≡ false
-LegFits now (Some k) leg sets = SeatFits now k leg sets
 
 -- Frames in flight.
 
@@ -71,64 +41,7 @@ pub record FramesFit (entries : List Entry) (k : Call) : Type 0 where
   pub up : k.up ≡ sent_by «end».Vehicle k.number entries
   pub down : k.down ≡ sent_by «end».Point k.number entries
 
--- Sets made, shown and acknowledged in a call.
-
--- a set in a frame is the one made for its request
-abbrev pub CarriesMade : (made : List Kept) → Frame → Type 0
-CarriesMade made (frame.Content r attempt octets) = set_for r made ≡ Some octets
-CarriesMade made _ = Unit {0}
-
--- an acknowledgement of either layer is of a request whose set was shown
-abbrev pub ConfirmsShown : (shown : List Kept) → Frame → Type 0
-ConfirmsShown shown (frame.Ack r) = HasSet r shown
-ConfirmsShown shown (frame.App r answer) = HasSet r shown
-ConfirmsShown shown _ = Unit {0}
-
--- Each set that the vehicle sent, by whichever attempt, is the one set made for its request; so is each set shown; and
--- each acknowledgement is of a set shown.
-pub record Links (made shown : List Kept) (up down : List Sent) : Type 0 where
-  pub carried : AllByRecursion (λ s. CarriesMade made s.frame) up
-  pub same : (r : ℕ) (octets : List ℕ) → set_for r shown ≡ Some octets → set_for r made ≡ Some octets
-  pub confirmed : AllByRecursion (λ s. ConfirmsShown shown s.frame) down
-
-abbrev pub CallLinks : List Entry → ℕ → Type 0
-CallLinks entries c =
-    Links (sets_of «end».Vehicle c entries) (sets_of «end».Point c entries) (sent_by «end».Vehicle c entries)
-    (sent_by «end».Point c entries)
-
--- the item sends these octets for this request of this call
-abbrev pub IsSent : ℕ → ℕ → List ℕ → Note → Type 0
-IsSent call request octets (note.Send «end».Vehicle c (frame.Content r attempt o)) =
-    (c ≡ call) × (r ≡ request) × (o ≡ octets)
-IsSent call request octets _ = ⊥
-
--- among these entries is one that sends these octets for this request of this call
-abbrev pub WasSent : ℕ → ℕ → List ℕ → List Entry → Type 0
-WasSent call request octets [] = ⊥
-WasSent call request octets (x ∷ xs) = IsSent call request octets x.note ⊎ WasSent call request octets xs
-
--- some set was shown for this request of this call
-abbrev pub SomeShown : ℕ → ℕ → List Entry → Type 0
-SomeShown call request entries = (octets : List ℕ) × WasShown call request octets entries
-
--- A set is shown behind its sending, and acknowledged, by either layer, behind its showing.
-abbrev pub ComesBehind : (before : List Entry) → Note → Type 0
-ComesBehind before (note.Shown c r octets) = WasSent c r octets before
-ComesBehind before (note.Send «end».Point c (frame.Ack r)) = SomeShown c r before
-ComesBehind before (note.Send «end».Point c (frame.App r answer)) = SomeShown c r before
-ComesBehind before _ = Unit {0}
-
-abbrev pub OrderedFrom : (before : List Entry) → List Entry → Type 0
-OrderedFrom before [] = Unit {0}
-OrderedFrom before (x ∷ xs) = ComesBehind before x.note × OrderedFrom (before ++ x ∷ []) xs
-
 -- The calls with a leg up.
-
--- a session is its call's, isn't over, and keeps what the states of a session keep
-pub record IsSessionOf (c : ℕ) (s : Point) : Type 0 where
-  pub call : s.call ≡ c
-  pub stays : left_by s ≡ Some s
-  pub kept : point.IsKept s
 
 pub record IsCall (drawn : ℕ) (k : Call) : Type 0 where
   pub number : k.number ≤ drawn

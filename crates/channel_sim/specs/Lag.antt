@@ -15,7 +15,8 @@ use Rattle.psap_machine.specs.PointRows as point
 use Rattle.psap_machine.specs.SessionStands.{SessionStandsFor}
 use Rattle.channel_sim.specs.declared.calls.call.Call as kept_call
 use Rattle.channel_sim.specs.declared.channel.Channel as kept_channel
-use Rattle.channel_sim.specs.World.{Call, World, Step, left_by}
+use Rattle.channel_sim.specs.World.{Call, World, Step}
+use Rattle.trace_fit.specs.Seats.{left_by}
 use Rattle.channel_sim.specs.Tidy.{IsTidy}
 
 -- the session that is kept is so many ticks behind this one, which did nothing in them and is not over

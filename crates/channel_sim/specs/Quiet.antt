@@ -7,7 +7,8 @@ use Rattle.trace_model.specs.History.{Sent}
 use Rattle.ivs_machine.specs.VehicleRows as vehicle
 use Rattle.psap_machine.specs.Point.{Point}
 use Rattle.psap_machine.specs.PointRows as point
-use Rattle.channel_sim.specs.World.{Call, World, left_by}
+use Rattle.channel_sim.specs.World.{Call, World}
+use Rattle.trace_fit.specs.Seats.{left_by}
 
 -- a session that isn't over, and isn't due in n ticks
 pub record SessionRests (n : ℕ) (s : Point) : Type 0 where

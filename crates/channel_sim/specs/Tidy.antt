@@ -6,7 +6,8 @@ use Rattle.std.specs.Option.{is_some}
 use Rattle.std.specs.List.{AllByRecursion}
 use Rattle.trace_model.specs.History.{Sent}
 use Rattle.ivs_machine.specs.Vehicle.{vehicle_call}
-use Rattle.channel_sim.specs.World.{Call, World, is_number}
+use Rattle.channel_sim.specs.World.{Call, World}
+use Rattle.trace_fit.specs.Seats.{is_number}
 
 -- each is above the one before it
 abbrev pub AreAbove : ℕ → List ℕ → Type 0

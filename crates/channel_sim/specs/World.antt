@@ -16,6 +16,7 @@ use Rattle.psap_machine.specs.Point.{Point, Phase, Over}
 use Rattle.psap_machine.specs.PointRows as point
 use Rattle.trace_model.specs.declared.entry.Entry.{Entry}
 use Rattle.trace_model.specs.History.{Sent, sent_by, told}
+use Rattle.trace_fit.specs.Seats.{is_number, left_by}
 
 -- A call with a leg up: its number, the point's session, where that leg is up, and the frames sent in it, in order: up
 -- by the vehicle, down by the point.
@@ -62,10 +63,6 @@ and_then first second =
 
 -- Legs.
 
-abbrev pub is_number : ℕ → Option ℕ → Bool
-is_number c None = false
-is_number c (Some d) = d == c
-
 -- whether the vehicle's leg of this call is up
 abbrev pub vehicle_is_in : ℕ → World → Bool
 vehicle_is_in c w = is_number c (vehicle_call w.vehicle)
@@ -86,14 +83,6 @@ session_of c calls = session_in (call_of c calls)
 -- whether the point's leg of this call is up
 abbrev pub point_is_in : ℕ → World → Bool
 point_is_in c w = is_some (session_of c w.calls)
-
--- what a session leaves: one that is over is gone
-abbrev pub unless_over : Point → Phase → Option Point
-unless_over s Over = None
-unless_over s p = Some s
-
-abbrev pub left_by : Point → Option Point
-left_by s = unless_over s s.phase
 
 -- the calls, with this session in the call of this number
 abbrev pub seated : ℕ → Option Point → List Call → List Call

@@ -12,7 +12,8 @@ use Rattle.psap_machine.specs.SessionStands.{SessionStandsFor}
 use Rattle.channel_sim.specs.declared.calls.call.Call as kept_call
 use Rattle.channel_sim.specs.declared.channel.Channel as kept_channel
 use Rattle.channel_sim.specs.declared.world.World as kept_world
-use Rattle.channel_sim.specs.World.{Call, World, Step, left_by}
+use Rattle.channel_sim.specs.World.{Call, World, Step}
+use Rattle.trace_fit.specs.Seats.{left_by}
 use Rattle.channel_sim.specs.Tidy.{IsTidy}
 
 -- there is a session on both sides, and it stands for the other, or there is none on either

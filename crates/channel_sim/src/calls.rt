@@ -8,6 +8,7 @@ mod sessions;
 ghost use Rattle.std.specs.Prelude.{◌≡◌, ◌<◌, ◌++◌, ◌∷◌, ◌-◌, ◌+◌, ℕ, List, [], Option, false, Some, None, OnOk, IfSome, length, map, slice_get, if◌then◌else◌};
 ghost use Rattle.std.specs.List.{AllByRecursion};
 ghost use Rattle.std.specs.Option.{option_map};
+ghost use Rattle.trace_fit.specs.Seats.{is_number};
 ghost use Rattle.trace_model.specs.History.{told};
 ghost use Rattle.channel_sim.specs.Lines as lines;
 ghost use Rattle.channel_sim.specs.World as model;
@@ -170,7 +171,7 @@ pub(crate) fn drop_without_session(calls: &mut Calls, number: u32)
     ensures { (floor : ℕ) (clock : ℕ → ℕ) (in_call : Option ℕ) (ks : List model.Call) →
         CallsLag floor clock calls.old ks →
         AreAbove 0 (numbers_of ks) → AllByRecursion (OtherHasLeg in_call (Some number)) ks →
-        model.is_number number in_call ≡ false → CallsLag floor clock calls.new (model.with_legs in_call ks) }
+        is_number number in_call ≡ false → CallsLag floor clock calls.new (model.with_legs in_call ks) }
 {
     if let Some(i) = find(&calls.list, number) {
         if calls.list[i].session.is_none() {

@@ -9,7 +9,8 @@ ghost use Rattle.trace_model.specs.declared.event.Event.{Event};
 ghost use Rattle.trace_model.specs.Safety.{Finished, Safe, leg_at};
 ghost use Rattle.channel_sim.specs.World.{World, call_of, first_world, point_is_in, unit, units, vehicle_is_in};
 ghost use Rattle.channel_sim.specs.Lines.{step, trace, trace_from, world_after};
-ghost use Rattle.channel_sim.specs.Fit.{Fit, WasSent};
+ghost use Rattle.channel_sim.specs.Fit.{Fit};
+ghost use Rattle.trace_fit.specs.Order.{WasSent};
 
 /// For every script, whatever is lost, late, repeated or out of order: each set that the vehicle counts as acknowledged
 /// was shown earlier by the point for that call, octet for octet; where a wait for data ends, or a fault comes, a muted

@@ -7,7 +7,7 @@ ghost use Rattle.trace_model.specs.History.{told};
 use crate::fault::SimFault;
 use link_frames::Note;
 use std::alloc::Global;
-use trace_model::{Entry, Listener};
+use trace_model::Listener;
 
 /// Tells a listener these items, each as an entry at this tick.
 pub(crate) fn tell<H: Listener>(
@@ -20,8 +20,6 @@ pub(crate) fn tell<H: Listener>(
     ensures err { OnErr result (H.partly to.old to.new (told tick items.now)) }
     ensures faults { CountsFaults result (H.faults to.old) (H.faults to.new) }
 {
-    for note in items {
-        to.hear(alloc, &Entry { tick, note: *note })?;
-    }
+    trace_fit::tell(alloc, tick, items, to)?;
     Ok(())
 }

@@ -10,7 +10,7 @@ use Rattle.std.proofs.lemmas.List.Sums.{position_or_len_is}
 use Rattle.memchr.specs.Find.{IsFirstByte, IsLastByte, is_byte}
 use Rattle.line_input.specs.Characters.{newline, is_newline}
 use Rattle.line_input.specs.Reading.{may_begin_line, begins_line, begins_with_line}
-use Rattle.line_input.specs.inner.Gathering.{EndsLines}
+use Rattle.line_input.specs.Giving.{EndsLines}
 use Rattle.line_input.proofs.FeedLemmas.{slice_range-cons}
 
 -- no newline stands from a place on

@@ -11,7 +11,8 @@ use Rattle.call_io.specs.Bytes.{Took, EndsExactly}
 use Rattle.call_io.proofs.BytesLemmas.{Took-nothing, Took-append}
 use Rattle.line_input.specs.Characters.{is_newline}
 use Rattle.line_input.specs.Feed.{Feed, Draws, IsInner}
-use Rattle.line_input.specs.inner.Gathering.{GivesRun, run_of, Refills, KeepsFeed, NextByte}
+use Rattle.line_input.specs.Giving.{GivesRun, run_of, NextByte}
+use Rattle.line_input.specs.inner.Gathering.{Refills, KeepsFeed}
 
 -- what is left of a part
 pub slice_range-empty : (xs : List ℕ) (at end : ℕ) → end ≤ at → slice_range xs at end ≡ []

@@ -10,7 +10,8 @@ use Rattle.line_input.specs.declared.fault.LineFault.TheVariants as fault
 use Rattle.line_input.specs.declared.gather.Ending.TheVariants as ending
 use Rattle.line_input.specs.Characters.{newline, is_newline}
 use Rattle.line_input.specs.Feed.{Feed, Draws, IsInner}
-use Rattle.line_input.specs.inner.Gathering.{NextByte, GivesByte, GivesRun, GathersLine, GathersText}
+use Rattle.line_input.specs.Giving.{NextByte, GivesByte, GivesRun}
+use Rattle.line_input.specs.inner.Gathering.{GathersLine, GathersText}
 use Rattle.line_input.proofs.FeedLemmas.{Draws-nothing, Draws-append}
 
 -- these bytes of a line were gathered

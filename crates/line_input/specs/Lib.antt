@@ -1,6 +1,7 @@
 pub mod Arguments
 pub mod Characters
 pub mod Feed
+pub mod Giving
 pub mod Inputs
 pub mod Lines
 pub mod Numbers

@@ -38,7 +38,7 @@ impl Model for Bytes {
     ghost use Rattle.line_input.specs.Feed.{Feed};
     ghost use Rattle.line_input.specs.Lines.{most_bytes};
     ghost use Rattle.line_input.specs.declared.bytes.TheConstants.{BLOCK};
-    ghost use Rattle.line_input.specs.inner.Gathering.{EndsLines};
+    ghost use Rattle.line_input.specs.Giving.{EndsLines};
 
     ghost Value = { Feed };
 
@@ -51,7 +51,8 @@ impl Model for Bytes {
 impl Bytes {
     ghost use Rattle.line_input.specs.Feed.{first_feed};
     ghost use Rattle.line_input.specs.Reading.{begins_with_line};
-    ghost use Rattle.line_input.specs.inner.Gathering.{NextByte, GivesRun, run_of, Refills, KeepsFeed};
+    ghost use Rattle.line_input.specs.Giving.{NextByte, GivesRun, run_of};
+    ghost use Rattle.line_input.specs.inner.Gathering.{Refills, KeepsFeed};
 
     /// Before anything was read.
     pub fn new() -> Bytes

@@ -14,6 +14,7 @@ mod push;
 mod reason;
 mod words;
 
+pub use bytes::Bytes;
 pub use fault::LineFault;
 pub use line::Line;
 pub use lines::Lines;

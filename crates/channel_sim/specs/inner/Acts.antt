@@ -20,7 +20,8 @@ use Rattle.channel_sim.specs.declared.calls.call.Call as kept_call
 use Rattle.channel_sim.specs.declared.consequence.Consequence.{Consequence}
 use Rattle.channel_sim.specs.declared.consequence.Consequence.TheVariants as consequence
 use Rattle.channel_sim.specs.declared.channel.Channel as kept_channel
-use Rattle.channel_sim.specs.World.{Act, Due, Session, InCall, Call, World, Step, due_in, each, is_number, left_by, seated, session_of}
+use Rattle.channel_sim.specs.World.{Act, Due, Session, InCall, Call, World, Step, due_in, each, seated, session_of}
+use Rattle.trace_fit.specs.Seats.{is_number, left_by}
 use Rattle.channel_sim.specs.Handing.{flow_way, hands_way, sent_way}
 use Rattle.channel_sim.specs.Lag.{VehicleLags, CallLags, CallsLag}
 use Rattle.channel_sim.specs.Tidy.{AreAbove, HasLeg, CallInTime, numbers_of}

@@ -3,6 +3,7 @@
 ghost use Rattle.std.specs.Prelude.{◌≡◌, ◌≤◌, ◌<◌, ◌-◌, ◌+◌, ℕ, List, [], false, Some, None, length, ◌^◌};
 ghost use Rattle.std.specs.Option.{is_some};
 ghost use Rattle.psap_machine.specs.Point.{Point};
+ghost use Rattle.trace_fit.specs.Seats.{left_by};
 ghost use Rattle.psap_machine.specs.PointRows as point;
 ghost use Rattle.psap_machine.specs.SessionStands.{SessionStandsFor};
 ghost use Rattle.channel_sim.specs.World as model;
@@ -32,7 +33,7 @@ pub(crate) fn has_session(calls: &[Call], number: u32) -> bool
 /// A session comes up in the call of a number.
 pub(crate) fn admit(calls: &mut Calls, number: u32, session: Session)
     ensures { (tick : ℕ) (s : Point) (ks : List model.Call) → CallsLag tick (λ c. tick) calls.old ks →
-        AreAbove 0 (numbers_of ks) → SessionStandsFor session s → model.left_by s ≡ Some s →
+        AreAbove 0 (numbers_of ks) → SessionStandsFor session s → left_by s ≡ Some s →
         CallsLag tick (λ c. tick) calls.new (model.seated number (Some s) ks) }
 {
     if let Some(i) = find(&calls.list, number) {

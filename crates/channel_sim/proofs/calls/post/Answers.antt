@@ -4,7 +4,7 @@ use Rattle.channel_sim.specs.World.{carries}
 use Rattle.channel_sim.specs.Lag.{CallsLag}
 use Rattle.channel_sim.specs.Tidy.{AreAbove}
 use Rattle.channel_sim.proofs.CallsLemmas.{all_carry, carried_numbers, carries_none}
-use Rattle.channel_sim.proofs.TellingLemmas.{told-take_more}
+use Rattle.trace_fit.proofs.TellingLemmas.{told-take_more}
 use Rattle.channel_sim.proofs.calls.post.Goals as goal
 
 pub loop-note-init : goal.loop-note-init

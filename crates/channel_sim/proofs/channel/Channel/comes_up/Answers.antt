@@ -2,6 +2,7 @@ use Rattle.std.proofs.Common.{◌≡◌, ℕ, ◌+◌, Some, [], refl, ap, sym, 
 use Rattle.std.proofs.lemmas.Result.{err_from_is_err_and}
 use Rattle.ivs_machine.specs.IvsStands.{IvsStandsFor}
 use Rattle.ivs_machine.specs.VehicleRows as vehicle
+use Rattle.trace_fit.specs.Seats.{left_by}
 use Rattle.trace_model.specs.History.{told}
 use Rattle.channel_sim.specs.World as model
 use Rattle.channel_sim.specs.Lines as lines
@@ -59,7 +60,7 @@ returns-clause-step g c =
     (seated_ready kept.tick kept.tick clock clock c.did.new.self (record c.did.new.self { calls = c.admit.new.calls }) first.world (kept.drawn + 1) (Some came.new) did.1 refl admitted) in
     let Then = λ (z : model.Step). CameAt (g.H.Listener.grew c.did.new.to c.did-2.new.to) (g.H.Listener.partly c.did.new.to c.did-2.new.to) c.did-2.result kept.tick kept.tick clock c.did-2.new.self z in
     let u = first.world in
-    let then = subst (λ n. Then (model.did u came.items u.vehicle (model.seated n (model.left_by came.new) u.calls))) number
+    let then = subst (λ n. Then (model.did u came.items u.vehicle (model.seated n (left_by came.new) u.calls))) number
     (subst (λ o. Then (model.did u came.items u.vehicle (model.seated (kept.drawn + 1) o u.calls))) (sym arrives.live)
     (subst (λ ns. Then (model.did u ns u.vehicle (model.seated (kept.drawn + 1) (Some came.new) u.calls)))
     (c.as_slice-2.ensures.value ∙ arrives.items) second)) in

@@ -1,6 +1,6 @@
 use Rattle.std.proofs.Common.{ap, sym, ◌∙◌, subst}
 use Rattle.ivs_machine.specs.Vehicle.{vehicle_call}
-use Rattle.channel_sim.specs.World.{is_number}
+use Rattle.trace_fit.specs.Seats.{is_number}
 use Rattle.channel_sim.specs.Lag.{CallsLag}
 use Rattle.channel_sim.proofs.TidyLemmas.{concerned_has}
 use Rattle.channel_sim.proofs.VehicleLemmas.{lagging_call, same_number, not_is_true, not_is_false}

@@ -2,7 +2,7 @@ use Rattle.std.proofs.Common.{ℕ, List, ◌-◌, ◌++◌, ap, ◌∙◌, take,
 use Rattle.std.specs.Prelude.{◌==◌, min}
 use Rattle.std.specs.List.{slice_range, position_or_len}
 use Rattle.line_input.specs.Feed.{Feed}
-use Rattle.line_input.specs.inner.Gathering.{run_of}
+use Rattle.line_input.specs.Giving.{run_of}
 use Rattle.line_input.proofs.FeedLemmas.{GivesRun-range, run_is}
 use Rattle.line_input.proofs.bytes.Bytes.put_run.Goals as goal
 

@@ -12,7 +12,7 @@ use Rattle.trace_model.specs.History.{told, sets_step}
 use Rattle.trace_model.specs.Safety.{own, Leg, revoiced, leg_moved, leg_step, ends_wait, mutes, IsWithin}
 use Rattle.trace_model.proofs.Folds.{own_leg, own_sets}
 use Rattle.trace_model.proofs.Fronts.{moved_within}
-use Rattle.channel_sim.specs.inner.FitAt.{SeatedBy, SeatBy, OpensSoon, SafeAt, SafeFrom}
+use Rattle.trace_fit.specs.inner.FitAt.{SeatedBy, SeatBy, OpensSoon, SafeAt, SafeFrom}
 
 revoice : (K : ℕ → Type 0) (now : ℕ) (k : Seat) (leg : Leg) (sets : List Kept) → K now → SeatedBy K k leg sets →
     (a b will : Bool) → leg.talks ≡ a → k.talks ≡ b → SeatedBy K (reseated k b will) (revoiced leg now a will) sets

@@ -1,6 +1,6 @@
 use Rattle.std.proofs.Common.{◌≡◌, take}
 use Rattle.trace_model.specs.History.{told}
-use Rattle.channel_sim.proofs.telling.tell.Given as goal
+use Rattle.trace_fit.proofs.telling.tell.Given as goal
 
 -- the listener grew by the items so far, and its count stood
 abbrev pub invariant-loop-note : goal.invariant-loop-note

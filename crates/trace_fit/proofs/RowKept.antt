@@ -14,10 +14,11 @@ use Rattle.trace_model.specs.declared.entry.Entry.{Entry}
 use Rattle.trace_model.specs.History.{told, sent_by, sets_step, sets_of}
 use Rattle.trace_model.specs.Safety.{is_leg, is_owned, own, Leg, first_leg, leg_step, leg_behind, leg_at, AgreedFrom, IsWithin}
 use Rattle.trace_model.proofs.Folds.{each_leg, through_append, AllOf, not_of, passed_over, sent_append, sent_over}
-use Rattle.channel_sim.specs.Fit.{IsDrawn, Rises, CallLinks, OrderedFrom}
-use Rattle.channel_sim.specs.inner.FitAt.{SeatBy, SetsFit, Tells, Came, OpensSoon, SafeFrom, FollowsFrom, Seats, Clocks, FitAt, Moves}
-use Rattle.channel_sim.proofs.Lists.{all_append}
-use Rattle.channel_sim.proofs.LinksRow.{RowTells, vehicle_tells, point_tells}
+use Rattle.trace_fit.specs.Links.{CallLinks}
+use Rattle.trace_fit.specs.Order.{IsDrawn, Rises, OrderedFrom}
+use Rattle.trace_fit.specs.inner.FitAt.{SeatBy, SetsFit, Tells, Came, OpensSoon, SafeFrom, FollowsFrom, Seats, Clocks, FitAt, Moves}
+use Rattle.trace_fit.proofs.Lists.{all_append}
+use Rattle.trace_fit.proofs.LinksRow.{RowTells, vehicle_tells, point_tells}
 
 -- another leg's history is as it was
 pub over : {H : Type 0} (step : H → Entry → H) (h : H) (e f : End) (c d now : ℕ) (t : List Entry) (ns : List Note) →

@@ -19,9 +19,10 @@ use Rattle.psap_machine.specs.PointRows.{Ended, named, unnamed, point_row}
 use Rattle.trace_model.specs.declared.entry.Entry.{Entry}
 use Rattle.trace_model.specs.History.{sets_of}
 use Rattle.trace_model.specs.Safety.{is_leg, is_owned, own, first_leg, leg_step, leg_at}
-use Rattle.channel_sim.specs.World.{is_number, unless_over, left_by}
-use Rattle.channel_sim.specs.Fit.{IsDrawn, vehicle_seat, point_seat, IsSessionOf}
-use Rattle.channel_sim.specs.inner.FitAt.{SeatedBy, SeatBy, Seats, Clocks, FitAt}
+use Rattle.trace_fit.specs.Seats.{is_number, unless_over, left_by}
+use Rattle.trace_fit.specs.Order.{IsDrawn}
+use Rattle.trace_fit.specs.Seats.{vehicle_seat, point_seat, IsSessionOf}
+use Rattle.trace_fit.specs.inner.FitAt.{SeatedBy, SeatBy, Seats, Clocks, FitAt}
 
 -- The vehicle.
 

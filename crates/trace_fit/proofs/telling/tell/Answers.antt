@@ -1,8 +1,8 @@
 use Rattle.std.proofs.Common.{◌+◌, drop, subst, sym, ◌∙◌}
 use Rattle.std.proofs.lemmas.Result.{err_from_is_err_and}
 use Rattle.trace_model.specs.History.{told}
-use Rattle.channel_sim.proofs.TellingLemmas.{told-take_more, told-around}
-use Rattle.channel_sim.proofs.telling.tell.Goals as goal
+use Rattle.trace_fit.proofs.TellingLemmas.{told-take_more, told-around}
+use Rattle.trace_fit.proofs.telling.tell.Goals as goal
 
 pub returns-in_err-hear-clause-err : goal.returns-in_err-hear-clause-err
 returns-in_err-hear-clause-err g c =

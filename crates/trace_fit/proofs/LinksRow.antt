@@ -16,9 +16,10 @@ use Rattle.trace_model.specs.declared.entry.Entry.{Entry}
 use Rattle.trace_model.specs.History.{Sent, told, sends, sent_by, sets_step, sets_of}
 use Rattle.trace_model.specs.Safety.{is_leg, is_own, own, IsShown, WasShown, IsShownFirst}
 use Rattle.trace_model.proofs.Folds.{through_append, is_leg_same, not_of, own_sets, passed_over, sends_none, sent_append}
-use Rattle.channel_sim.specs.Fit.{CarriesMade, ConfirmsShown, Links, CallLinks, IsSent, WasSent, ComesBehind}
-use Rattle.channel_sim.specs.inner.FitAt.{SetsFit, Tells, CameBy, Came, FollowsFrom}
-use Rattle.channel_sim.proofs.Lists.{all_append, all_into}
+use Rattle.trace_fit.specs.Links.{CarriesMade, ConfirmsShown, Links, CallLinks}
+use Rattle.trace_fit.specs.Order.{IsSent, WasSent, ComesBehind}
+use Rattle.trace_fit.specs.inner.FitAt.{SetsFit, Tells, CameBy, Came, FollowsFrom}
+use Rattle.trace_fit.proofs.Lists.{all_append, all_into}
 
 -- a set that was kept for a request stays
 set_stays : (r : ℕ) (o : List ℕ) (m : Kept) (ms : List Kept) → set_for r ms ≡ Some o → set_for r (m ∷ ms) ≡ Some o

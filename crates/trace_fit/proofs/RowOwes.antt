@@ -13,9 +13,9 @@ use Rattle.trace_model.specs.declared.entry.Entry.{Entry}
 use Rattle.trace_model.specs.History.{told, sets_step, sets_of}
 use Rattle.trace_model.specs.Safety.{own, Leg, first_leg, leg_step, leg_at, IsWithin}
 use Rattle.trace_model.proofs.Folds.{through_append, own_leg, own_sets}
-use Rattle.channel_sim.specs.inner.FitAt.{SeatBy, SetsFit, Tells, Came, SafeAt, SafeFrom, Seats, Clocks, FitAt, Moves}
-use Rattle.channel_sim.proofs.LegRow.{leg_row}
-use Rattle.channel_sim.proofs.RowKept.{along_into, within_of, row_kept}
+use Rattle.trace_fit.specs.inner.FitAt.{SeatBy, SetsFit, Tells, Came, SafeAt, SafeFrom, Seats, Clocks, FitAt, Moves}
+use Rattle.trace_fit.proofs.LegRow.{leg_row}
+use Rattle.trace_fit.proofs.RowKept.{along_into, within_of, row_kept}
 
 seat_into : (K L : ℕ → Type 0) → (s : Option Seat) → IfSome s (λ k. (n : ℕ) → K n → L n) → (leg : Leg) (sets : List Kept) → SeatBy K s leg sets → SeatBy L s leg sets
 seat_into K L None f leg sets h = h

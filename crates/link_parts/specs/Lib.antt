@@ -1,0 +1,4 @@
+pub mod Messages
+pub mod MessageReading
+pub mod PartReading
+pub mod Rounds

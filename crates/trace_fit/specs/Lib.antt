@@ -1,0 +1,4 @@
+pub mod inner
+pub mod Links
+pub mod Order
+pub mod Seats
