@@ -1,0 +1,4 @@
+pub mod Noise
+pub mod ToneReading
+pub mod Tones
+pub mod inner

@@ -1,0 +1,14 @@
+//! A fixed-point modem: the bits of a frame as samples, and frames read from samples that noise has changed.
+#![tactic(auto)]
+
+mod fault;
+mod reading;
+mod sums;
+#[cfg(test)]
+mod tests;
+mod writing;
+
+pub use fault::ToneFault;
+pub use reading::tone_read;
+pub use sums::bit_sum;
+pub use writing::{MOST_SAMPLES, tone_write};
