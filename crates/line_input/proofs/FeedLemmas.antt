@@ -65,11 +65,13 @@ Refills-read block count old left left' none opened within ends took = record {
 }
 
 -- nothing was taken
-pub KeepsFeed-same : (feed : Feed) (left left' : Option (List ℕ)) → (feed.ended ≡ true → feed.pending ≡ []) → left' ≡ left → KeepsFeed feed feed left left'
-KeepsFeed-same feed left left' done kept = record {
+pub KeepsFeed-same : (feed : Feed) (left left' : Option (List ℕ)) → feed.pending ≡ [] → feed.ended ≡ false → left' ≡ left → KeepsFeed feed feed left left'
+KeepsFeed-same feed left left' none alive kept = record {
   draws = record { took = subst (λ r. Took left r []) (sym kept) (Took-nothing left); idle = λ _. refl; stays = λ e. e; «end» = λ e. inl e };
-  done = done;
+  done = λ _. none;
   same = refl;
+  none = none;
+  alive = alive;
 }
 
 -- a part, by its first element

@@ -126,8 +126,16 @@ GathersLine-fault old now new left between left' text e so next = record {
   where
     fault_text : (e : LineFault) → GivesByte now new (now.pending ++ next.taken) (Err e) → GathersText old new (old.pending ++ (so.taken ++ next.taken)) text (Err e)
     fault_text (fault.Bad bad) gives = gives
-    fault_text fault.ReadFault gives = tt
-    fault_text fault.TooLong gives = (now.pending ++ next.taken, bytes_more old now left between text next.taken so, gives.0, omega (arith, so.given, gives.1))
+    fault_text fault.ReadFault gives = (
+      bytes_more old now left between text next.taken so ∙ ap (λ (r : List ℕ). text ++ r) gives.0 ∙ append-nil text,
+      gives.1,
+      omega (arith, so.given, next.grows),
+    )
+    fault_text fault.TooLong gives = (
+      bytes_more old now left between text next.taken so ∙ ap (λ (r : List ℕ). text ++ r) gives.2,
+      subst (λ (r : List ℕ). 0 < length r) gives.2 gives.0,
+      omega (arith, so.given, gives.1),
+    )
 
 -- a line that isn't full has room
 pub below_full : (n : ℕ) → false ≡ eqb n 512 → n ≤ 512 → n < 512
@@ -135,7 +143,7 @@ below_full n unequal most = let different : n ≢ 512 = λ e. false≢true (uneq
 
 -- ---- a newline at hand
 
-inner_none : (run : List ℕ) → AllByRecursion IsInner run → list_any is_newline run ≡ false
+pub inner_none : (run : List ℕ) → AllByRecursion IsInner run → list_any is_newline run ≡ false
 inner_none [] all = refl
 inner_none (b ∷ run) all =
     let here : is_newline b ≡ false = false_from_ne_true (is_newline b) (λ e. all.0 (eqb-true b newline e)) in

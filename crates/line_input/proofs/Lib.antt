@@ -8,3 +8,4 @@ pub mod SkimLemmas
 pub mod Takings
 pub mod WholeLines
 pub mod WordsLemmas
+pub mod PartLemmas

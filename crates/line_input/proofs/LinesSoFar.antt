@@ -1,32 +1,38 @@
 -- What the lines that were read say of an input: where a line was found, or couldn't be read, and at the end.
-use Rattle.std.specs.Prelude.{◌≡◌, ℕ, ◌+◌, ◌<◌, ◌≤◌, ◌⊎◌, Bool, true, false, List, [], ◌∷◌, ◌++◌, length, Option, Some, Ok, Err}
+use Rattle.std.specs.Prelude.{◌≡◌, ℕ, ◌+◌, ◌<◌, ◌≤◌, ◌⊎◌, Bool, true, false, List, [], ◌∷◌, ◌++◌, length, Option, Some, None, Ok, Err}
 use Rattle.std.specs.Io.KnownBytes.{IsAtEnd}
 use Rattle.std.proofs.Common.{sym, ◌∙◌, ap, refl, subst, append_assoc, inl, inr, arith, length-append}
-use Rattle.std.proofs.lemmas.Bool.{false≢true}
+use Rattle.std.proofs.lemmas.Bool.{cases_lt, false≢true}
 use Rattle.std.proofs.lemmas.List.{append-nil}
 use Rattle.call_io.specs.Bytes.{Took}
 use Rattle.line_input.specs.Feed.{Draws, Feed, IsDone}
-use Rattle.line_input.specs.Inputs.{IsSettledBy, RunsOver}
-use Rattle.line_input.specs.Lines.{IsWhole, line_fault, lines_of, most_bytes}
-use Rattle.line_input.specs.Reading.{FindsBad, FindsEnd, FindsLine, FindsTooMany, MayFollow, Reading, ReadsLine, first_reading}
-use Rattle.line_input.specs.Taken.{LinesSoFar, TakenSoFar}
+use Rattle.line_input.specs.Inputs.{EndsInLine, IsSettledBy, RunsOver, StopsWithin}
+use Rattle.line_input.specs.Lines.{IsWhole, line_fault, lines_of, most_at_once, most_bytes}
+use Rattle.line_input.specs.Reading.{FindsBad, FindsLine, FindsPart, FindsTooMany, MayFollow, Reading, ReadsLine, first_reading}
+use Rattle.line_input.specs.Taken.{LinesSoFar}
 use Rattle.line_input.specs.declared.fault.LineFault.TheVariants as fault
 use Rattle.line_input.specs.declared.reason.BadLine.{BadLine}
-use Rattle.line_input.proofs.Takings.{AtHand, at_end, at_hand, front_follows, front_whole, front_within, taken_behind, taken_first, taken_whole, too_many_follow, too_many_whole, whole_end}
+use Rattle.line_input.specs.declared.reason.Reason.{Reason}
+use Rattle.line_input.specs.declared.reason.Reason.TheVariants as reason
+use Rattle.line_input.proofs.LinesLemmas.{line_fault-long}
+use Rattle.line_input.proofs.Takings.{AtHand, at_end, at_hand, front_follows, front_whole, front_within, still_open, taken_behind, taken_first, taken_whole, too_many_follow, too_many_whole, whole_end}
+use Rattle.line_input.proofs.WholeLines.{whole_append, whole_lines}
 
 -- What is settled settles all that it implies,
-pub settled_as : (Holds Holds' : List ℕ → Type 0) (left : Option (List ℕ)) (input : List ℕ)
-    → ((bytes : List ℕ) → Holds bytes → Holds' bytes) → IsSettledBy Holds input ⊎ IsWhole left input
-    → IsSettledBy Holds' input ⊎ IsWhole left input
-settled_as Holds Holds' left input gives (inl s) =
+pub settled_as : (Holds Holds' : List ℕ → Type 0) (left : Option (List ℕ)) (number : ℕ) (input : List ℕ)
+    → ((bytes : List ℕ) → Holds bytes → Holds' bytes) → IsSettledBy Holds number input ⊎ IsWhole left input
+    → IsSettledBy Holds' number input ⊎ IsWhole left input
+settled_as Holds Holds' left number input gives (inl s) =
     inl (record {
       front = s.front;
       rest = s.rest;
       split = s.split;
       within = s.within;
+      ends = s.ends;
+      near = s.near;
       holds = λ more. gives (s.front ++ more) (s.holds more);
     })
-settled_as Holds Holds' left input gives (inr w) = inr w
+settled_as Holds Holds' left number input gives (inr w) = inr w
 
 -- and so for an input that is too long.
 pub over_as : (Holds Holds' : List ℕ → Type 0) (input : List ℕ) → ((bytes : List ℕ) → Holds bytes → Holds' bytes)
@@ -39,6 +45,7 @@ over_as Holds Holds' input gives o =
       split = o.split;
       full = o.full;
       beyond = o.beyond;
+      near = o.near;
       lines = o.lines;
       inner = o.inner;
       short = o.short;
@@ -50,8 +57,19 @@ pub lines_first : (start : Option (List ℕ)) → LinesSoFar start start first_r
 lines_first start =
     record { front = []; taken = taken_first start; split = λ more follows. refl; number = refl }
 
+no_lines : lines_of [] ≡ []
+unfolding lines_of
+no_lines = refl
+
+-- a line that isn't refused is short
+short_line : (text : List ℕ) → line_fault text ≡ None → length text ≤ 513
+short_line text fine = elim (cases_lt 512 (length text)) [
+  | inl long ↦ (let both : ◌≡◌ {A = Option Reason} (Some reason.LineLong) None = sym (line_fault-long text long) ∙ fine in absurd (cc))
+  | inr short ↦ omega (arith, short)
+]
+
 -- The reading stops at a line: so much of the input is in lines, and whatever may follow it, these lines stand in front
--- of one that is as said.
+-- of one that is as said. No more of it was taken than to that line, and what was read at once with its end.
 pub record StopsAt (start left : Option (List ℕ)) (feed : Feed) (before : List (List ℕ)) (number : ℕ)
     (IsThis : List ℕ → Type 0) : Type 0 where
   pub front : List ℕ
@@ -59,6 +77,8 @@ pub record StopsAt (start left : Option (List ℕ)) (feed : Feed) (before : List
   pub done : IsDone feed
   pub at_end : feed.ended ≡ true → IsAtEnd left
   pub within : length front ≤ most_bytes
+  pub near : length feed.pending ≤ most_at_once
+  pub ends : EndsInLine number front
   pub place : number ≡ length before + 1
   pub lines :
       (more : List ℕ) → MayFollow feed more
@@ -69,6 +89,10 @@ module _ (start left : Option (List ℕ)) (feed : Feed) (before : List (List ℕ
   -- what was taken
   abbrev pub stopped_input : List ℕ
   stopped_input = s.front ++ feed.pending
+
+  -- is no more than an input may have, and what is read at once
+  pub stopped_few : length stopped_input ≤ most_bytes + most_at_once
+  stopped_few = simp length-append (omega (arith, s.within, s.near))
 
   module _ (Holds : List (List ℕ) → Type 0)
       (is : (text : List ℕ) (rest : List (List ℕ)) → IsThis text → Holds (before ++ text ∷ rest)) where
@@ -85,10 +109,10 @@ module _ (start left : Option (List ℕ)) (feed : Feed) (before : List (List ℕ
     stopped_all = stopped_front feed.pending s.done
 
     -- and is settled, or the input is whole
-    pub stopped_by : IsSettledBy HoldsOf stopped_input ⊎ IsWhole left stopped_input
+    pub stopped_by : IsSettledBy HoldsOf number stopped_input ⊎ IsWhole left stopped_input
     stopped_by = at feed.ended refl
       where
-        at : (b : Bool) → feed.ended ≡ b → IsSettledBy HoldsOf stopped_input ⊎ IsWhole left stopped_input
+        at : (b : Bool) → feed.ended ≡ b → IsSettledBy HoldsOf number stopped_input ⊎ IsWhole left stopped_input
         at true ended =
             inr (record {
               «end» = s.at_end ended;
@@ -102,6 +126,8 @@ module _ (start left : Option (List ℕ)) (feed : Feed) (before : List (List ℕ
               rest = feed.pending;
               split = refl;
               within = s.within;
+              ends = s.ends;
+              near = s.near;
               holds = λ more. stopped_front more (λ other. absurd (false≢true (sym ended ∙ other)));
             })
 
@@ -146,6 +172,19 @@ module _ (start now left : Option (List ℕ)) (old new : Reading) (lines : List 
         done = reads.done;
         at_end = at_end start now old new left s.front reads.taken s.taken reads.draws;
         within = front_within start now old new s.front f.front s.taken f.given reads.limit;
+        near = reads.near;
+        ends =
+            record {
+              before = lines ++ f.passed;
+              text = new.text;
+              lines =
+                  ap lines_of (sym (append-nil (s.front ++ f.front)))
+                  ∙ split_behind f.front [] f.passed (new.text ∷ [])
+                  (front_follows old new (old.feed.pending ++ reads.taken) f.front [] hand f.split (λ _. refl))
+                  (f.lines [] (λ _. refl) ∙ ap (λ (z : List (List ℕ)). f.passed ++ new.text ∷ z) no_lines);
+              place = simp length-append (omega (arith, s.number, f.last));
+              short = short_line new.text f.says.0;
+            };
         place = simp length-append (omega (arith, s.number, f.last));
         lines = λ more follows. (
           new.text,
@@ -174,6 +213,17 @@ module _ (start now left : Option (List ℕ)) (old new : Reading) (lines : List 
         done = reads.done;
         at_end = at_end start now old new left s.front reads.taken s.taken reads.draws;
         within = front_within start now old new s.front f.front s.taken f.given reads.limit;
+        near = reads.near;
+        ends =
+            record {
+              before = lines ++ f.passed;
+              text = f.ends.0;
+              lines =
+                  s.split f.front (front_only f hand)
+                  ∙ (ap (λ (z : List (List ℕ)). lines ++ z) f.ends.1 ∙ sym (append_assoc lines f.passed (f.ends.0 ∷ [])));
+              place = simp length-append (omega (arith, s.number, f.number));
+              short = f.ends.2;
+            };
         place = simp length-append (omega (arith, s.number, f.number));
         lines = λ more follows.
             let l = f.lines more follows in (
@@ -184,6 +234,12 @@ module _ (start now left : Option (List ℕ)) (old new : Reading) (lines : List 
               l.3,
             );
       }
+    where
+      front_only : (f : FindsBad old new (old.feed.pending ++ reads.taken) bad)
+          → AtHand old new (old.feed.pending ++ reads.taken) → MayFollow old.feed f.front
+      front_only f hand ended =
+          sym (append-nil f.front)
+          ∙ front_follows old new (old.feed.pending ++ reads.taken) f.front [] hand f.split (λ _. refl) ended
 
   -- what was taken where no line was found
   abbrev pub taken_input : List ℕ → List ℕ
@@ -222,6 +278,7 @@ module _ (start now left : Option (List ℕ)) (old new : Reading) (lines : List 
         split = ap (λ b. s.front ++ b) f.split ∙ sym (append_assoc s.front f.front (f.«open» ++ f.rest));
         full = simp length-append (omega (arith, s.taken.given, f.full));
         beyond = f.beyond;
+        near = f.near;
         lines = too_many_whole start now old new left s.front reads.taken s.taken reads.draws f;
         inner = f.inner;
         short = f.short;
@@ -229,6 +286,47 @@ module _ (start now left : Option (List ℕ)) (old new : Reading) (lines : List 
             subst (λ (b : List ℕ). Holds (lines_of b)) (append-nil (s.front ++ f.front))
             (subst Holds (sym (same ∙ append-nil (lines ++ f.passed))) holds);
       }
+
+  -- The source couldn't be read within a line.
+  pub part_lines : (Holds : List (List ℕ) → Type 0) → (reads : ReadsLine old new now left (Err fault.ReadFault))
+      → Holds (lines ++ reads.finds.passed) → StopsWithin (λ bytes. Holds (lines_of bytes)) (taken_input reads.taken)
+  part_lines Holds reads holds =
+      let f : FindsPart old new (old.feed.pending ++ reads.taken) = reads.finds in
+      let alive : old.feed.ended ≡ false = still_open old new reads.draws.stays f.alive in
+      let same : lines_of ((s.front ++ f.front) ++ []) ≡ (lines ++ f.passed) ++ [] =
+      split_behind f.front [] f.passed [] (λ ended. absurd (false≢true (sym alive ∙ ended)))
+      (f.lines [] ∙ ap (λ (z : List (List ℕ)). f.passed ++ z) no_lines) in
+      record {
+        front = s.front ++ f.front;
+        unended = f.«open»;
+        split = ap (λ b. s.front ++ b) f.split ∙ sym (append_assoc s.front f.front f.«open»);
+        lines = whole_append s.front f.front (s.taken.lines alive) (whole_lines f.front f.passed f.lines);
+        inner = f.inner;
+        short = f.short;
+        holds =
+            subst (λ (b : List ℕ). Holds (lines_of b)) (append-nil (s.front ++ f.front))
+            (subst Holds (sym (same ∙ append-nil (lines ++ f.passed))) holds);
+      }
+
+  -- how much was taken then, or where the input is too long
+  pub part_few : (reads : ReadsLine old new now left (Err fault.ReadFault))
+      → length (taken_input reads.taken) ≤ most_bytes + most_at_once
+  part_few reads =
+      let f : FindsPart old new (old.feed.pending ++ reads.taken) = reads.finds in
+      let parts : length (old.feed.pending ++ reads.taken) ≡ length f.front + length f.«open» =
+      ap length f.split ∙ length-append f.front f.«open» in
+      rw (length-append s.front (old.feed.pending ++ reads.taken))
+      (omega (arith, parts, f.short, f.given, s.taken.given, reads.limit))
+
+  pub over_few : (reads : ReadsLine old new now left (Err fault.TooLong))
+      → length (taken_input reads.taken) ≤ most_bytes + most_at_once
+  over_few reads =
+      let f : FindsTooMany old (old.feed.pending ++ reads.taken) = reads.finds in
+      let parts : length (old.feed.pending ++ reads.taken) ≡ length f.front + (length f.«open» + length f.rest) =
+      ap length f.split ∙ (length-append f.front (f.«open» ++ f.rest)
+      ∙ ap (λ n. length f.front + n) (length-append f.«open» f.rest)) in
+      rw (length-append s.front (old.feed.pending ++ reads.taken))
+      (omega (arith, parts, f.near, f.full, s.taken.given))
 
   -- how many lines were read
   pub lines_counted : (reads : ReadsLine old new now left (Ok true)) → (old.lines < new.lines) × (new.lines ≤ most_bytes)

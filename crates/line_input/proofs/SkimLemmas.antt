@@ -29,12 +29,13 @@ pub record Cuts (old new : Feed) (bytes text : List ℕ) : Type 0 where
   pub some : 0 < length piece
   pub lines : (more : List ℕ) → MayFollow new more → lines_of (piece ++ more) ≡ text ∷ lines_of more
 
--- A front of the bytes begins a line that is refused, whatever may follow.
+-- A front of the bytes begins a line that is refused, whatever may follow, and goes no further than it must.
 pub record CutsBad (old new : Feed) (bytes : List ℕ) (why : Reason) : Type 0 where
   pub piece : List ℕ
   pub split : bytes ≡ piece ++ new.pending
   pub given : new.given ≡ old.given + length piece
   pub some : 0 < length piece
+  pub ends : (text : List ℕ) × (lines_of piece ≡ text ∷ []) × (length text ≤ 513)
   pub lines : (more : List ℕ) → MayFollow new more →
       (text : List ℕ) × (rest : List (List ℕ)) × (lines_of (piece ++ more) ≡ text ∷ rest) × (line_fault text ≡ Some why)
 
@@ -66,12 +67,13 @@ Cuts-end old new left left' text line some = record {
 }
 
 -- a split line that is refused
-pub CutsBad-line : (old new : Feed) (bytes text : List ℕ) (why : Reason) → Cuts old new bytes text → line_fault text ≡ Some why → CutsBad old new bytes why
-CutsBad-line old new bytes text why cut bad = record {
+pub CutsBad-line : (old new : Feed) (bytes text : List ℕ) (why : Reason) → Cuts old new bytes text → length text ≤ 512 → line_fault text ≡ Some why → CutsBad old new bytes why
+CutsBad-line old new bytes text why cut short bad = record {
   piece = cut.piece;
   split = cut.split;
   given = cut.given;
   some = cut.some;
+  ends = (text, ap lines_of (sym (append-nil cut.piece)) ∙ cut.lines [] (λ _. refl) ∙ ap (λ (r : List (List ℕ)). text ∷ r) lines_of-nil, omega arith);
   lines = λ more follows. (text, lines_of more, cut.lines more follows, bad);
 }
 
@@ -86,6 +88,7 @@ CutsBad-full old new left left' text line =
       split = line.gathers.3 ∙ sym (append_assoc text (b ∷ []) new.pending);
       given = omega (arith, line.gathers.4, length-push text b);
       some = omega arith;
+      ends = (text ++ b ∷ [], lines_of-last (text ++ b ∷ []) (AllByRecursion-push text b line.inner line.gathers.1) (omega arith), omega arith);
       lines = λ more _. let long = lines_of-long (text ++ b ∷ []) more (AllByRecursion-push text b line.inner line.gathers.1) (omega arith) in
           (long.0, long.1, long.2, line_fault-long long.0 (omega (arith, long.3)));
     }
@@ -169,17 +172,19 @@ Skimmed-more old now new left between left' taken text so draws done cut passed 
 
 -- a line
 pub ReadsLine-found : (old now : Reading) (new : Feed) (left between left' : Option (List ℕ)) (taken text : List ℕ)
-    → Skimmed old now left between → Draws now.feed new between left' taken → IsDone new → new.given ≤ 16777216 → Cuts now.feed new (now.feed.pending ++ taken) text → IsLine text
+    → Skimmed old now left between → Draws now.feed new between left' taken → IsDone new → new.given ≤ 16777216 → length new.pending ≤ 8192 → Cuts now.feed new (now.feed.pending ++ taken) text → IsLine text
     → ReadsLine old (reading new (now.lines + 1) text) left left' (Ok true)
-ReadsLine-found old now new left between left' taken text so draws done limit cut says = record {
+ReadsLine-found old now new left between left' taken text so draws done limit near cut says = record {
   done = done;
   taken = so.taken ++ taken;
   draws = Draws-append old.feed now.feed new left between left' so.taken taken so.draws draws;
   limit = limit;
+  near = near;
   few = omega (arith, so.few, cut.given, cut.some);
   finds = (
     record {
       front = so.front ++ cut.piece;
+      some = omega (arith, cut.some, length-append so.front cut.piece);
       passed = so.passed;
       split = skim_more old now left between so taken cut.piece new.pending cut.split;
       given = omega (arith, so.given, cut.given, length-append so.front cut.piece);
@@ -194,15 +199,16 @@ ReadsLine-found old now new left between left' taken text so draws done limit cu
 
 -- a line that is refused
 pub ReadsLine-bad : (old now : Reading) (new : Feed) (left between left' : Option (List ℕ)) (taken text : List ℕ) (why : Reason)
-    → Skimmed old now left between → Draws now.feed new between left' taken → IsDone new → new.given ≤ 16777216 → CutsBad now.feed new (now.feed.pending ++ taken) why
+    → Skimmed old now left between → Draws now.feed new between left' taken → IsDone new → new.given ≤ 16777216 → length new.pending ≤ 8192 → CutsBad now.feed new (now.feed.pending ++ taken) why
     → ReadsLine old (reading new (now.lines + 1) text) left left' (Err (fault.Bad (record { line = now.lines + 1; reason = why })))
-ReadsLine-bad old now new left between left' taken text why so draws done limit cut =
+ReadsLine-bad old now new left between left' taken text why so draws done limit near cut =
     let some : 0 < length (cut.piece ++ new.pending) = omega (arith, length-append cut.piece new.pending, cut.some) in
     record {
       done = done;
       taken = so.taken ++ taken;
       draws = Draws-append old.feed now.feed new left between left' so.taken taken so.draws draws;
       limit = limit;
+      near = near;
       few = omega (arith, so.few, cut.given, cut.some);
       finds = record {
         front = so.front ++ cut.piece;
@@ -211,6 +217,12 @@ ReadsLine-bad old now new left between left' taken text why so draws done limit 
         given = omega (arith, so.given, cut.given, length-append so.front cut.piece);
         each = so.each;
         number = omega (arith, so.counted);
+        ends = (
+          cut.ends.0,
+          so.lines cut.piece (before_end now.feed new between left' taken cut.piece new.pending so.done draws cut.split some cut.piece)
+              ∙ ap (λ (r : List (List ℕ)). so.passed ++ r) cut.ends.1,
+          cut.ends.2,
+        );
         lines = λ more follows. let bad = cut.lines more follows in (
           bad.0,
           bad.1,
@@ -224,9 +236,9 @@ ReadsLine-bad old now new left between left' taken text why so draws done limit 
 
 -- the end of the input
 pub ReadsLine-end : (old now : Reading) (new : Feed) (left between left' : Option (List ℕ)) (text : List ℕ)
-    → Skimmed old now left between → (line : GathersLine now.feed new between left' text (Ok ending.InputEnd)) → new.given ≤ 16777216 → length text ≡ 0
+    → Skimmed old now left between → (line : GathersLine now.feed new between left' text (Ok ending.InputEnd)) → new.given ≤ 16777216 → length new.pending ≤ 8192 → length text ≡ 0
     → ReadsLine old (reading new now.lines text) left left' (Ok false)
-ReadsLine-end old now new left between left' text so line limit none =
+ReadsLine-end old now new left between left' text so line limit near none =
     let empty : text ≡ [] = nil_from_length text none in
     let at_hand : now.feed.pending ++ line.taken ≡ [] = line.gathers.0 ∙ empty in
     let all : old.feed.pending ++ (so.taken ++ line.taken) ≡ so.front =
@@ -236,6 +248,7 @@ ReadsLine-end old now new left between left' text so line limit none =
       taken = so.taken ++ line.taken;
       draws = Draws-append old.feed now.feed new left between left' so.taken line.taken so.draws line.draws;
       limit = limit;
+      near = near;
       few = omega (arith, so.few, line.gathers.2);
       finds = (
         record {
@@ -252,13 +265,14 @@ ReadsLine-end old now new left between left' text so line limit none =
 
 -- a fault of the source or of the input's length
 pub ReadsLine-fault : (old now : Reading) (new : Feed) (left between left' : Option (List ℕ)) (text : List ℕ) (e : LineFault)
-    → Skimmed old now left between → GathersLine now.feed new between left' text (Err e) → new.given ≤ 16777216
+    → Skimmed old now left between → GathersLine now.feed new between left' text (Err e) → new.given ≤ 16777216 → length new.pending ≤ 8192
     → ReadsLine old (reading new now.lines text) left left' (Err e)
-ReadsLine-fault old now new left between left' text e so line limit = record {
+ReadsLine-fault old now new left between left' text e so line limit near = record {
   done = line.done;
   taken = so.taken ++ line.taken;
   draws = Draws-append old.feed now.feed new left between left' so.taken line.taken so.draws line.draws;
   limit = limit;
+  near = near;
   few = omega (arith, so.few, line.grows);
   finds = fault_finds e line.gathers;
 }
@@ -266,19 +280,33 @@ ReadsLine-fault old now new left between left' text e so line limit = record {
     fault_finds : (e : LineFault) → GathersText now.feed new (now.feed.pending ++ line.taken) text (Err e)
         → Finds old (reading new now.lines text) (old.feed.pending ++ (so.taken ++ line.taken)) (Err e)
     fault_finds (fault.Bad bad) gathers = absurd gathers
-    fault_finds fault.ReadFault gathers = tt
-    fault_finds fault.TooLong gathers = let beyond : 0 < length gathers.0 = gathers.2 in record {
+    fault_finds fault.ReadFault gathers =
+        let at_hand : now.feed.pending ++ line.taken ≡ text ++ [] = gathers.0 ∙ sym (append-nil text) in
+        record {
+          front = so.front;
+          passed = so.passed;
+          «open» = text;
+          split = skim_more old now left between so line.taken text [] at_hand ∙ append-nil (so.front ++ text);
+          given = omega (arith, so.given, gathers.2);
+          each = so.each;
+          inner = line.inner;
+          short = line.short;
+          alive = gathers.1;
+          lines = λ more. so.lines more (λ ended. absurd (false≢true (sym gathers.1 ∙ line.draws.stays ended)));
+        }
+    fault_finds fault.TooLong gathers = let beyond : 0 < length new.pending = gathers.1 in record {
       front = so.front;
       passed = so.passed;
       «open» = text;
-      rest = gathers.0;
-      split = skim_more old now left between so line.taken text gathers.0 gathers.1 ∙ append_assoc so.front text gathers.0;
-      full = omega (arith, so.given, gathers.3);
+      rest = new.pending;
+      split = skim_more old now left between so line.taken text new.pending gathers.0 ∙ append_assoc so.front text new.pending;
+      full = omega (arith, so.given, gathers.2);
       beyond = beyond;
+      near = near;
       each = so.each;
       inner = line.inner;
       short = line.short;
-      lines = λ more. so.lines more (before_end now.feed new between left' line.taken text gathers.0 so.done line.draws gathers.1 (omega (arith, length-append text gathers.0)) more);
+      lines = λ more. so.lines more (before_end now.feed new between left' line.taken text new.pending so.done line.draws gathers.0 (omega (arith, length-append text new.pending)) more);
     }
 
 -- what a split line is
@@ -325,10 +353,10 @@ pub CutsBad-refused : (old new : Feed) (left left' : Option (List ℕ)) (how : E
 CutsBad-refused old new left left' ending.Full text why line e =
     let long : reason.LineLong ≡ why = cc in subst (CutsBad old new (old.pending ++ line.taken)) long (CutsBad-full old new left left' text line)
 CutsBad-refused old new left left' ending.Newline text why line e =
-    CutsBad-line old new (old.pending ++ line.taken) text why (Cuts-newline old new left left' text line) (from_refused (line_fault text) (is_comment text) why e)
+    CutsBad-line old new (old.pending ++ line.taken) text why (Cuts-newline old new left left' text line) line.short (from_refused (line_fault text) (is_comment text) why e)
 CutsBad-refused old new left left' ending.InputEnd [] why line e = let no : ⊥ = cc in absurd no
 CutsBad-refused old new left left' ending.InputEnd (b ∷ bytes) why line e =
-    CutsBad-line old new (old.pending ++ line.taken) (b ∷ bytes) why (Cuts-end old new left left' (b ∷ bytes) line (omega arith)) (from_refused (line_fault (b ∷ bytes)) (is_comment (b ∷ bytes)) why e)
+    CutsBad-line old new (old.pending ++ line.taken) (b ∷ bytes) why (Cuts-end old new left left' (b ∷ bytes) line (omega arith)) line.short (from_refused (line_fault (b ∷ bytes)) (is_comment (b ∷ bytes)) why e)
 
 -- no line
 pub GathersLine-none : (old new : Feed) (left left' : Option (List ℕ)) (how : Ending) (text : List ℕ)
@@ -348,7 +376,7 @@ no_comment (b ∷ pending) taken (x ∷ text) rest cut comment begins =
     let sign : x ≡ number_sign = eqb-true x number_sign comment in
     false≢true (ap may_begin_line (sym (first ∙ sign)) ∙ begins)
 
-begins_too : (bytes : List ℕ) → begins_with_line bytes ≡ true → begins_line bytes ≡ true
+pub begins_too : (bytes : List ℕ) → begins_with_line bytes ≡ true → begins_line bytes ≡ true
 begins_too bytes both = by_test (list_any is_newline bytes) both
   where
     by_test : (t : Bool) → (t && begins_line bytes) ≡ true → begins_line bytes ≡ true

@@ -18,6 +18,8 @@ taken_first start =
     record {
       took = Took-nothing start;
       given = refl;
+      within = omega arith;
+      near = omega arith;
       alive = refl;
       done = λ e. refl;
       «end» = λ e. absurd (false≢true e);
@@ -161,6 +163,8 @@ taken_behind start now old new left front s reads =
           subst P (front_whole front (old.feed.pending ++ reads.taken) f.front new.feed.pending f.split)
           (taken_whole start now old new left front reads.taken s reads.draws);
       given = simp length-append (omega (arith, s.given, f.given));
+      within = front_within start now old new front f.front s f.given reads.limit;
+      near = reads.near;
       alive = reads.finds.1;
       done = reads.done;
       «end» = λ e. at_end start now old new left front reads.taken s reads.draws e;

@@ -1,6 +1,6 @@
 -- What the reader of a source's bytes says of the bytes at hand when it gives the next one, or a run of them that ends no
 -- line. This project's profile. Cited by the contract of `Bytes`.
-use Rattle.std.specs.Prelude.{◌≡◌, ℕ, ◌+◌, ◌-◌, min, take, ◌<◌, ◌≤◌, nat_lt, true, List, [], ◌∷◌, ◌++◌, length, Option, Some, None, Result, Ok, Err}
+use Rattle.std.specs.Prelude.{◌≡◌, ℕ, ◌+◌, ◌-◌, min, take, ◌<◌, ◌≤◌, nat_lt, true, false, List, [], ◌∷◌, ◌++◌, length, Option, Some, None, Result, Ok, Err}
 use Rattle.std.specs.List.{AllByRecursion, before_first, list_any, slice_range}
 use Rattle.line_input.specs.Characters.{newline, is_newline}
 use Rattle.line_input.specs.Feed.{Feed, Draws, IsDone, IsInner}
@@ -18,8 +18,8 @@ abbrev pub GivesByte : (old new : Feed) → List ℕ → Result (Option ℕ) Lin
 GivesByte old new bytes (Ok (Some b)) = (bytes ≡ b ∷ new.pending) × (new.given ≡ old.given + 1)
 GivesByte old new bytes (Ok None) = (bytes ≡ []) × (new.ended ≡ true) × (new.given ≡ old.given)
 GivesByte old new bytes (Err (fault.Bad bad)) = ⊥
-GivesByte old new bytes (Err fault.ReadFault) = Unit {0}
-GivesByte old new bytes (Err fault.TooLong) = (0 < length bytes) × (old.given ≡ most_bytes)
+GivesByte old new bytes (Err fault.ReadFault) = (bytes ≡ []) × (new.ended ≡ false)
+GivesByte old new bytes (Err fault.TooLong) = (0 < length bytes) × (old.given ≡ most_bytes) × (bytes ≡ new.pending)
 
 -- One byte more, or none.
 pub record NextByte (old new : Feed) (left left' : Option (List ℕ)) (answer : Result (Option ℕ) LineFault)

@@ -17,6 +17,10 @@ most_in_line = 512
 abbrev pub most_bytes : ℕ
 most_bytes = 16777216
 
+-- the most bytes that are read at once
+abbrev pub most_at_once : ℕ
+most_at_once = 8192
+
 -- The lines of these bytes. Each ends with a newline; the last may lack it.
 unfoldable pub lines_of : List ℕ → List (List ℕ)
 lines_of [] = []

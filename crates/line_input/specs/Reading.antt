@@ -5,7 +5,7 @@ use Rattle.std.specs.List.{AllByRecursion, list_any}
 use Rattle.call_io.specs.Counts.{Rose}
 use Rattle.line_input.specs.Characters.{newline, number_sign, is_newline}
 use Rattle.line_input.specs.Feed.{Feed, first_feed, Draws, IsDone, IsInner}
-use Rattle.line_input.specs.Lines.{lines_of, line_fault, IsPassedOver, IsLine}
+use Rattle.line_input.specs.Lines.{lines_of, line_fault, most_at_once, most_in_line, IsPassedOver, IsLine}
 use Rattle.line_input.specs.declared.reason.BadLine.{BadLine}
 use Rattle.line_input.specs.declared.fault.LineFault.{LineFault}
 use Rattle.line_input.specs.declared.fault.LineFault.TheVariants as fault
@@ -47,9 +47,11 @@ begins_line (b ∷ _) = may_begin_line b
 abbrev pub begins_with_line : List ℕ → Bool
 begins_with_line bytes = list_any is_newline bytes && begins_line bytes
 
--- A front of the bytes is lines that are passed over and then the last line read, whatever may follow.
+-- A front of the bytes, at least one of them, is lines that are passed over and then the last line read, whatever may
+-- follow.
 pub record FindsLine (old new : Reading) (bytes : List ℕ) : Type 0 where
   pub front : List ℕ
+  pub some : 0 < length front
   pub passed : List (List ℕ)
   pub split : bytes ≡ front ++ new.feed.pending
   pub given : new.feed.given ≡ old.feed.given + length front
@@ -67,7 +69,8 @@ pub record FindsEnd (old new : Reading) (bytes : List ℕ) : Type 0 where
   pub ended : new.feed.ended ≡ true
   pub lines : lines_of bytes ≡ passed
 
--- A front of the bytes is lines that are passed over and then one that is refused, whatever may follow.
+-- A front of the bytes is lines that are passed over and then one that is refused, whatever may follow: as far as to its
+-- newline, to the end of the input, or to the first byte that is too many for a line.
 pub record FindsBad (old new : Reading) (bytes : List ℕ) (bad : BadLine) : Type 0 where
   pub front : List ℕ
   pub passed : List (List ℕ)
@@ -75,9 +78,24 @@ pub record FindsBad (old new : Reading) (bytes : List ℕ) (bad : BadLine) : Typ
   pub given : new.feed.given ≡ old.feed.given + length front
   pub each : AllByRecursion IsPassedOver passed
   pub number : bad.line ≡ old.lines + length passed + 1
+  pub ends : (text : List ℕ) × (lines_of front ≡ passed ++ text ∷ []) × (length text ≤ most_in_line + 1)
   pub lines : (more : List ℕ) → MayFollow new.feed more →
       (text : List ℕ) × (rest : List (List ℕ)) × (lines_of (front ++ more) ≡ passed ++ text ∷ rest)
       × (line_fault text ≡ Some bad.reason)
+
+-- The bytes are lines that are passed over and then a part of a line that neither ended nor is too long, and the source
+-- had not ended.
+pub record FindsPart (old new : Reading) (bytes : List ℕ) : Type 0 where
+  pub front : List ℕ
+  pub passed : List (List ℕ)
+  pub «open» : List ℕ
+  pub split : bytes ≡ front ++ «open»
+  pub given : old.feed.given + length front ≤ new.feed.given
+  pub each : AllByRecursion IsPassedOver passed
+  pub inner : AllByRecursion IsInner «open»
+  pub short : length «open» ≤ 512
+  pub alive : new.feed.ended ≡ false
+  pub lines : (more : List ℕ) → lines_of (front ++ more) ≡ passed ++ lines_of more
 
 -- The bytes are lines that are passed over and then a line that isn't ended, nor too long, by the 16,777,216th byte of
 -- the input; and at least one byte more.
@@ -89,6 +107,7 @@ pub record FindsTooMany (old : Reading) (bytes : List ℕ) : Type 0 where
   pub split : bytes ≡ front ++ («open» ++ rest)
   pub full : old.feed.given + length front + length «open» ≡ 16777216
   pub beyond : 0 < length rest
+  pub near : length rest ≤ most_at_once
   pub each : AllByRecursion IsPassedOver passed
   pub inner : AllByRecursion IsInner «open»
   pub short : length «open» ≤ 512
@@ -99,14 +118,16 @@ abbrev pub Finds : (old new : Reading) → List ℕ → Result Bool LineFault �
 Finds old new bytes (Ok true) = FindsLine old new bytes × (new.failed ≡ false)
 Finds old new bytes (Ok false) = FindsEnd old new bytes × (new.failed ≡ false)
 Finds old new bytes (Err (fault.Bad bad)) = FindsBad old new bytes bad
-Finds old new bytes (Err fault.ReadFault) = Unit {0}
+Finds old new bytes (Err fault.ReadFault) = FindsPart old new bytes
 Finds old new bytes (Err fault.TooLong) = FindsTooMany old bytes
 
--- One more line is read: of the bytes that were pending and those that were taken for it.
+-- One more line is read: of the bytes that were pending and those that were taken for it. No more are pending behind it
+-- than were read at once with its end.
 pub record ReadsLine (old new : Reading) (left left' : Option (List ℕ)) (answer : Result Bool LineFault) : Type 0 where
   pub done : IsDone new.feed
   pub taken : List ℕ
   pub draws : Draws old.feed new.feed left left' taken
   pub limit : new.feed.given ≤ 16777216
+  pub near : length new.feed.pending ≤ most_at_once
   pub few : new.lines ≤ new.feed.given
   pub finds : Finds old new (old.feed.pending ++ taken) answer

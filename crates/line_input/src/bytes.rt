@@ -4,7 +4,7 @@ ghost use Rattle.std.specs.Prelude.{◌≡◌, ◌-◌, ℕ, ◌<◌, ◌≤◌,
 ghost use Rattle.std.specs.List.{list_any, position_or_len};
 ghost use Rattle.call_io.specs.Counts.{Rose};
 ghost use Rattle.line_input.specs.Characters.{is_newline};
-ghost use Rattle.line_input.specs.Lines.{most_in_line, most_bytes};
+ghost use Rattle.line_input.specs.Lines.{most_in_line, most_at_once, most_bytes};
 ghost use Rattle.line_input.specs.Reading.{LineFaultCause, may_begin_line};
 ghost use Rattle.line_input.specs.declared.fault.LineFault.TheVariants as fault;
 
@@ -79,6 +79,7 @@ impl Bytes {
     pub fn next<I: Source>(&mut self, source: &mut I) -> Result<Option<u8>, LineFault>
         ensures next { NextByte self.old self.new (I.left source.old) (I.left source.new) result }
         ensures limit { self.new.given ≤ most_bytes }
+        ensures near { length self.new.pending ≤ most_at_once }
         ensures at_hand { 0 < length self.old.pending → source.new ≡ source.old }
         ensures stood { OnOk result (I.faults source.new ≡ I.faults source.old) }
         ensures cause { IfErr result (λ e. LineFaultCause e (I.faults source.old) (I.faults source.new)) }
@@ -119,6 +120,7 @@ impl Bytes {
         ensures err { OnErr result (KeepsFeed self.old self.new (I.left source.old) (I.left source.new)) }
         ensures fault { IfErr result (λ e. e ≡ fault.ReadFault) }
         ensures limit { self.new.given ≤ most_bytes }
+        ensures near { length self.new.pending ≤ most_at_once }
         ensures at_hand { 0 < length self.old.pending → source.new ≡ source.old }
         ensures stood { OnOk result (I.faults source.new ≡ I.faults source.old) }
         ensures cause { OnErr result (Rose (I.faults source.old) (I.faults source.new)) }

@@ -1,10 +1,10 @@
 //! The bytes of one line, gathered from those of a source.
 
-ghost use Rattle.std.specs.Prelude.{◌≡◌, ℕ, ◌≤◌, true, List, Option, OnOk, IfErr};
+ghost use Rattle.std.specs.Prelude.{◌≡◌, ℕ, ◌≤◌, true, List, Option, length, OnOk, IfErr};
 ghost use Rattle.line_input.specs.inner.Gathering.{GathersLine};
 ghost use Rattle.std.specs.List.{list_any};
 ghost use Rattle.line_input.specs.Characters.{is_newline};
-ghost use Rattle.line_input.specs.Lines.{most_bytes};
+ghost use Rattle.line_input.specs.Lines.{most_at_once, most_bytes};
 ghost use Rattle.line_input.specs.Reading.{LineFaultCause};
 
 use crate::bytes::Bytes;
@@ -34,6 +34,7 @@ pub fn gather<I: Source>(
 ) -> Result<Ending, LineFault>
     ensures line { GathersLine bytes.old bytes.new (I.left source.old) (I.left source.new) text.new.items result }
     ensures limit { bytes.new.given ≤ most_bytes }
+    ensures near { length bytes.new.pending ≤ most_at_once }
     ensures at_hand { list_any is_newline bytes.old.pending ≡ true → source.new ≡ source.old }
     ensures stood { OnOk result (I.faults source.new ≡ I.faults source.old) }
     ensures cause { IfErr result (λ e. LineFaultCause e (I.faults source.old) (I.faults source.new)) }

@@ -1,6 +1,6 @@
 -- What the reader of a source's bytes and the function that gathers a line say of the bytes at hand. This project's
 -- profile. Scaffolding: cited by the contracts of private functions alone.
-use Rattle.std.specs.Prelude.{◌≡◌, ℕ, ◌+◌, ◌-◌, min, take, ◌<◌, ◌≤◌, nat_lt, true, List, [], ◌∷◌, ◌++◌, length, Option, Some, None, Result, Ok, Err}
+use Rattle.std.specs.Prelude.{◌≡◌, ℕ, ◌+◌, ◌-◌, min, take, ◌<◌, ◌≤◌, nat_lt, true, false, List, [], ◌∷◌, ◌++◌, length, Option, Some, None, Result, Ok, Err}
 use Rattle.std.specs.List.{AllByRecursion, before_first, list_any, slice_range}
 use Rattle.line_input.specs.Characters.{newline, is_newline}
 use Rattle.line_input.specs.Feed.{Feed, Draws, IsDone, IsInner}
@@ -10,11 +10,13 @@ use Rattle.line_input.specs.declared.fault.LineFault.TheVariants as fault
 use Rattle.line_input.specs.declared.gather.Ending.{Ending}
 use Rattle.line_input.specs.declared.gather.Ending.TheVariants as ending
 
--- Nothing was taken, and all stays as it was.
+-- Nothing was taken, and all stays as it was: no byte was at hand, and the source had not ended.
 pub record KeepsFeed (old new : Feed) (left left' : Option (List ℕ)) : Type 0 where
   pub done : IsDone new
   pub draws : Draws old new left left' []
   pub same : new ≡ old
+  pub none : old.pending ≡ []
+  pub alive : old.ended ≡ false
 
 -- More bytes are pending, or the source ended.
 pub record Refills (old new : Feed) (left left' : Option (List ℕ)) : Type 0 where
@@ -35,9 +37,10 @@ GathersText old new bytes text (Ok ending.Full) =
     (b : ℕ) × IsInner b × (length text ≡ most_in_line) × (bytes ≡ text ++ b ∷ new.pending)
     × (new.given ≡ old.given + length text + 1)
 GathersText old new bytes text (Err (fault.Bad bad)) = ⊥
-GathersText old new bytes text (Err fault.ReadFault) = Unit {0}
+GathersText old new bytes text (Err fault.ReadFault) =
+    (bytes ≡ text) × (new.ended ≡ false) × (old.given + length text ≤ new.given)
 GathersText old new bytes text (Err fault.TooLong) =
-    (rest : List ℕ) × (bytes ≡ text ++ rest) × (0 < length rest) × (old.given + length text ≡ most_bytes)
+    (bytes ≡ text ++ new.pending) × (0 < length new.pending) × (old.given + length text ≡ most_bytes)
 
 -- The bytes of one line were gathered, as far as they go.
 pub record GathersLine (old new : Feed) (left left' : Option (List ℕ)) (text : List ℕ)

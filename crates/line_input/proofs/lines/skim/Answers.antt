@@ -9,24 +9,24 @@ loop-ending-init g c = (Skimmed-none _ _ _ _ c.requires.done c.requires.few, ref
 pub returns-in_err-ending-clause-reads : goal.returns-in_err-ending-clause-reads
 returns-in_err-ending-clause-reads g c =
     let p = err_from_is_err_and c.from_residual.result c.from_residual.ensures.1 in
-    rw (p.1, p.2) (ReadsLine-fault _ _ _ _ _ _ _ _ c.loop-ending.invariant.0 c.in_err-ending.ensures.line c.in_err-ending.ensures.limit)
+    rw (p.1, p.2) (ReadsLine-fault _ _ _ _ _ _ _ _ c.loop-ending.invariant.0 c.in_err-ending.ensures.line c.in_err-ending.ensures.limit c.in_err-ending.ensures.near)
 
 pub returns-in-NoLine-clause-reads : goal.returns-in-NoLine-clause-reads
 returns-in-NoLine-clause-reads g c =
     let none = GathersLine-none _ _ _ _ _ _ c.in_ok-ending.ensures.line (sym (rw c.as_slice.ensures.value at c.in-NoLine.ensures)) in
-    ReadsLine-end _ _ _ _ _ _ _ c.loop-ending.invariant.0 none.0 c.in_ok-ending.ensures.limit none.1
+    ReadsLine-end _ _ _ _ _ _ _ c.loop-ending.invariant.0 none.0 c.in_ok-ending.ensures.limit c.in_ok-ending.ensures.near none.1
 
 pub returns-in-Says-clause-reads : goal.returns-in-Says-clause-reads
 returns-in-Says-clause-reads g c =
     let line = c.in_ok-ending.ensures.line in
     let cut = Cuts-says _ _ _ _ _ _ line (sym (rw c.as_slice.ensures.value at c.in-Says.ensures)) in
-    ReadsLine-found _ _ _ _ _ _ _ _ c.loop-ending.invariant.0 line.draws line.done c.in_ok-ending.ensures.limit cut.0 cut.1
+    ReadsLine-found _ _ _ _ _ _ _ _ c.loop-ending.invariant.0 line.draws line.done c.in_ok-ending.ensures.limit c.in_ok-ending.ensures.near cut.0 cut.1
 
 pub returns-in-Refused-clause-reads : goal.returns-in-Refused-clause-reads
 returns-in-Refused-clause-reads g c =
     let line = c.in_ok-ending.ensures.line in
     let cut = CutsBad-refused _ _ _ _ _ _ _ line (sym (rw c.as_slice.ensures.value at c.in-Refused.ensures)) in
-    ReadsLine-bad _ _ _ _ _ _ _ _ _ c.loop-ending.invariant.0 line.draws line.done c.in_ok-ending.ensures.limit cut
+    ReadsLine-bad _ _ _ _ _ _ _ _ _ c.loop-ending.invariant.0 line.draws line.done c.in_ok-ending.ensures.limit c.in_ok-ending.ensures.near cut
 
 pub loop-ending-preserved : goal.loop-ending-preserved
 loop-ending-preserved g c =
