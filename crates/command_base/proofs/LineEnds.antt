@@ -1,12 +1,12 @@
 -- How a line ends a command over lines, by what was written of its reply.
-use Rattle.std.specs.Prelude.{ℕ, ◌+◌, ◌≤◌, ◌⊎◌, true, List, [], ◌∷◌, ◌++◌, Option}
-use Rattle.std.proofs.Common.{◌∙◌, sym, subst, ap, refl, append_assoc, inl, inr, arith}
+use Rattle.std.specs.Prelude.{◌≡◌, ℕ, ◌+◌, ◌≤◌, ◌⊎◌, true, List, [], ◌∷◌, ◌++◌, length, Option}
+use Rattle.std.proofs.Common.{◌∙◌, sym, subst, ap, refl, append_assoc, inl, inr, arith, length-append}
 use Rattle.call_io.specs.Bytes.{Grew, GrewPartly, Took}
 use Rattle.line_input.specs.Inputs.{IsSettledBy}
-use Rattle.line_input.specs.Lines.{IsWhole}
-use Rattle.command_base.specs.LineCommands.{GoesOn, Ends, CountsEnd, EndsLine}
+use Rattle.line_input.specs.Lines.{IsWhole, most_at_once, most_bytes}
+use Rattle.command_base.specs.LineCommands.{GoesOn, Ends, EndsLine}
 use Rattle.command_base.specs.Outcome.{Answered, CutShort, Outcome, Streams}
-use Rattle.command_base.specs.Refusals.{Reply, in_front_of}
+use Rattle.command_base.specs.Refusals.{Reply, in_front_of, line_of}
 use Rattle.command_base.specs.declared.refusal.Refused.{Refused}
 use Rattle.command_base.specs.declared.status.Status.{Status}
 use Rattle.command_base.specs.declared.status.Status.TheVariants as status
@@ -44,11 +44,12 @@ module _ (Rest : ℕ → List (List ℕ) → Reply → Type 0) (number : ℕ) (l
 
   -- the refusal of a line was written, or a part of it
   pub ends_refused : (text : List ℕ) (why : Refused)
-      → Ends Rest number line (record { text = text; status = status.Refused why }) → (answer : Status)
-      → EndsWithText held held' text (status.Refused why) answer → EndsLine Rest number line held held' answer
-  ends_refused text why ends answer (inl h) =
-      subst (λ (a : Status). EndsLine Rest number line held held' a) (sym h.0) (text, ends, h.1)
-  ends_refused text why ends answer (inr h) =
+      → Ends Rest number line (record { text = text; status = status.Refused why }) → line_of why ≡ number
+      → (answer : Status) → EndsWithText held held' text (status.Refused why) answer
+      → EndsLine Rest number line held held' answer
+  ends_refused text why ends here answer (inl h) =
+      subst (λ (a : Status). EndsLine Rest number line held held' a) (sym h.0) (text, ends, h.1, here)
+  ends_refused text why ends here answer (inr h) =
       subst (λ (a : Status). EndsLine Rest number line held held' a) (sym h.0)
       (cut_end (record { text = text; status = status.Refused why }) ends h.1)
 
@@ -58,9 +59,9 @@ pub ends_as : (Rest Rest' : ℕ → List (List ℕ) → Reply → Type 0) (numbe
     → ((texts : List (List ℕ)) (r : Reply) → Rest number (line ∷ texts) r → Rest' number (line' ∷ texts) r)
     → (answer : Status) → EndsLine Rest number line held held' answer → EndsLine Rest' number line' held held' answer
 ends_as Rest Rest' number line line' held held' same (status.Refused why) e =
-    (e.0, λ texts. same texts (record { text = e.0; status = status.Refused why }) (e.1 texts), e.2)
+    (e.0, λ texts. same texts (record { text = e.0; status = status.Refused why }) (e.1 texts), e.2, e.3)
 ends_as Rest Rest' number line line' held held' same (status.Broken place rule) e =
-    (e.0, λ texts. same texts (record { text = e.0; status = status.Broken place rule }) (e.1 texts), e.2)
+    (e.0, λ texts. same texts (record { text = e.0; status = status.Broken place rule }) (e.1 texts), e.2, e.3)
 ends_as Rest Rest' number line line' held held' same status.WriteFault e =
     (e.0, λ texts. ((e.1 texts).0, same texts (in_front_of e.0 (e.1 texts).0) (e.1 texts).1), e.2)
 ends_as Rest Rest' number line line' held held' same status.Memory e =
@@ -73,19 +74,21 @@ ends_as Rest Rest' number line line' held held' same status.TooLong e = absurd e
 -- what an answer that was cut short says doesn't depend on passes
 cut_passes : (replies : List ℕ → Reply → Type 0) (left left' held held' : Option (List ℕ)) (passes : ℕ)
     (input : List ℕ)
-    → CutShort replies (record { left = left; held = held; passes = 0 })
+    → CutShort replies (λ bytes. 0) (record { left = left; held = held; passes = 0 })
     (record { left = left'; held = held'; passes = 0 }) input
-    → CutShort replies (record { left = left; held = held; passes = passes })
+    → CutShort replies (λ bytes. 0) (record { left = left; held = held; passes = passes })
     (record { left = left'; held = held'; passes = passes }) input
 cut_passes replies left left' held held' passes input c =
     record {
       took = c.took;
+      within = c.within;
       front = c.front;
       rest = c.rest;
       split = c.split;
       text = c.text;
       wrote = c.wrote;
       begins = c.begins;
+      counted = omega arith;
     }
 
 -- nor what one that answered whole says, of a command that passes no ends
@@ -114,26 +117,31 @@ any_passes replies left left' held held' passes (status.Refused why) o =
 any_passes replies left left' held held' passes (status.Broken place rule) o =
     (o.0, o.1, answered_passes replies left left' held held' passes o.0 o.1 o.2, o.3, o.4)
 any_passes replies left left' held held' passes status.ReadFault o =
-    (o.0, cut_passes replies left left' held held' passes o.0 o.1, omega arith)
+    (o.0, cut_passes replies left left' held held' passes o.0 o.1)
 any_passes replies left left' held held' passes status.WriteFault o =
     (o.0, cut_passes replies left left' held held' passes o.0 o.1)
 any_passes replies left left' held held' passes status.Memory o =
     (o.0, cut_passes replies left left' held held' passes o.0 o.1)
 any_passes replies left left' held held' passes status.TooLong o =
-    (o.0, cut_passes replies left left' held held' passes o.0 o.1, o.2, omega arith)
-
--- a bound of passes holds where the line wasn't cut short, if it holds
-pub counts_end : (answer : Status) (few : Type 0) → few → CountsEnd answer few
-counts_end (status.Refused why) few h = h
-counts_end (status.Broken place rule) few h = h
-counts_end status.Done few h = h
-counts_end status.Usage few h = h
-counts_end status.ReadFault few h = h
-counts_end status.TooLong few h = h
-counts_end status.WriteFault few h = tt
-counts_end status.Memory few h = tt
+    (o.0, cut_passes replies left left' held held' passes o.0 o.1, o.2)
 
 -- a greater bound of passes is one, too
+cut_more : (replies : List ℕ → Reply → Type 0) (most most' : List ℕ → ℕ) (old new : Streams)
+    → ((input : List ℕ) → most input ≤ most' input) → (input : List ℕ) → CutShort replies most old new input
+    → CutShort replies most' old new input
+cut_more replies most most' old new more input c =
+    record {
+      took = c.took;
+      within = c.within;
+      front = c.front;
+      rest = c.rest;
+      split = c.split;
+      text = c.text;
+      wrote = c.wrote;
+      begins = c.begins;
+      counted = omega (arith, c.counted, more input);
+    }
+
 pub most_more : (replies : List ℕ → Reply → Type 0) (most most' : List ℕ → ℕ) (old new : Streams)
     → ((input : List ℕ) → most input ≤ most' input) → (answer : Status) → Outcome replies most true old new answer
     → Outcome replies most' true old new answer
@@ -163,16 +171,17 @@ most_more replies most most' old new more (status.Broken place rule) o = (
   o.3,
   o.4,
 )
-most_more replies most most' old new more status.ReadFault o = (o.0, o.1, omega (arith, o.2, more o.0))
-most_more replies most most' old new more status.WriteFault o = o
-most_more replies most most' old new more status.Memory o = o
-most_more replies most most' old new more status.TooLong o = (o.0, o.1, o.2, omega (arith, o.3, more o.0))
+most_more replies most most' old new more status.ReadFault o = (o.0, cut_more replies most most' old new more o.0 o.1)
+most_more replies most most' old new more status.WriteFault o = (o.0, cut_more replies most most' old new more o.0 o.1)
+most_more replies most most' old new more status.Memory o = (o.0, cut_more replies most most' old new more o.0 o.1)
+most_more replies most most' old new more status.TooLong o =
+    (o.0, cut_more replies most most' old new more o.0 o.1, o.2)
 
 -- an answer that was cut short wrote a front of a reply to what was taken
-pub cut_partly : (replies : List ℕ → Reply → Type 0) (old new : Streams) (input : List ℕ)
-    → (c : CutShort replies old new input)
+pub cut_partly : (replies : List ℕ → Reply → Type 0) (most : List ℕ → ℕ) (old new : Streams) (input : List ℕ)
+    → (c : CutShort replies most old new input)
     → (r : Reply) × replies input r × GrewPartly old.held new.held r.text
-cut_partly replies old new input c = elim (c.begins) [
+cut_partly replies most old new input c = elim (c.begins) [
   | inl more ↦
       (let r : (r : Reply) × replies (c.front ++ c.rest) (in_front_of c.text r) = more c.rest in (
         in_front_of c.text r.0,
@@ -183,28 +192,41 @@ cut_partly replies old new input c = elim (c.begins) [
 ]
 
 -- a text with which a reply to what was taken begins was written, and that is settled, or the input is whole
-pub cut_settled : (replies : List ℕ → Reply → Type 0) (start : Streams) (passes : ℕ) (left held : Option (List ℕ))
-    (input text : List ℕ)
-    → Took start.left left input → Grew start.held held text → ((r : Reply) × replies input (in_front_of text r))
-    → IsSettledBy (λ bytes. (r : Reply) × replies bytes (in_front_of text r)) input ⊎ IsWhole left input
-    → CutShort replies start (record { left = left; held = held; passes = passes }) input
-cut_settled replies start passes left held input text took wrote all (inl s) =
+pub cut_settled : (replies : List ℕ → Reply → Type 0) (most : List ℕ → ℕ) (start : Streams) (passes : ℕ)
+    (left held : Option (List ℕ)) (number : ℕ) (input text : List ℕ)
+    → Took start.left left input → Grew start.held held text → length input ≤ most_bytes + most_at_once
+    → passes ≤ start.passes + most input → ((r : Reply) × replies input (in_front_of text r))
+    → IsSettledBy (λ bytes. (r : Reply) × replies bytes (in_front_of text r)) number input ⊎ IsWhole left input
+    → CutShort replies most start (record { left = left; held = held; passes = passes }) input
+cut_settled replies most start passes left held number input text took wrote within counted all (inl s) =
     record {
       took = took;
+      within = within;
       front = s.front;
       rest = s.rest;
       split = s.split;
       text = text;
       wrote = wrote;
       begins = inl s.holds;
+      counted = counted;
     }
-cut_settled replies start passes left held input text took wrote all (inr w) =
+cut_settled replies most start passes left held number input text took wrote within counted all (inr w) =
     record {
       took = took;
+      within = within;
       front = [];
       rest = input;
       split = refl;
       text = text;
       wrote = wrote;
       begins = inr (w.«end», all);
+      counted = counted;
     }
+
+-- what is settled, or whole, is no more than an input may have and what is read at once
+pub settled_few : (Holds : List ℕ → Type 0) (left : Option (List ℕ)) (number : ℕ) (input : List ℕ)
+    → IsSettledBy Holds number input ⊎ IsWhole left input → length input ≤ most_bytes + most_at_once
+settled_few Holds left number input (inl s) =
+    let parts : length input ≡ length s.front + length s.rest = ap length s.split ∙ length-append s.front s.rest in
+    omega (arith, parts, s.within, s.near)
+settled_few Holds left number input (inr w) = omega (arith, w.within)

@@ -1,6 +1,6 @@
 -- What the lines that were read say of the reply of a command that reads its input line by line. It holds for every
 -- command whose reply is one to lines (`IsLined`).
-use Rattle.std.specs.Prelude.{◌≡◌, ℕ, ◌+◌, ◌<◌, ◌≤◌, ◌⊎◌, Bool, true, false, List, [], ◌∷◌, ◌++◌, length, Option, Some, Ok, Err}
+use Rattle.std.specs.Prelude.{◌≡◌, ℕ, ◌+◌, ◌≤◌, ◌⊎◌, Bool, true, false, List, [], ◌∷◌, ◌++◌, length, Option, Some, Ok, Err}
 use Rattle.std.specs.Io.KnownBytes.{IsAtEnd}
 use Rattle.std.specs.List.{AllByRecursion}
 use Rattle.std.proofs.Common.{sym, ◌∙◌, ap, refl, subst, append_assoc, inl, inr, arith}
@@ -12,18 +12,16 @@ use Rattle.line_input.specs.declared.reason.BadLine.{BadLine}
 use Rattle.line_input.specs.declared.fault.LineFault.TheVariants as fault
 use Rattle.line_input.specs.Feed.{Draws, Feed}
 use Rattle.line_input.specs.Inputs.{IsSettledBy}
-use Rattle.line_input.specs.Lines.{IsWhole, lines_of, line_fault, IsPassedOver}
+use Rattle.line_input.specs.Lines.{IsWhole, lines_of, line_fault, most_at_once, most_bytes, IsPassedOver}
 use Rattle.line_input.specs.Reading.{Reading, MayFollow, ReadsLine}
-use Rattle.command_base.specs.declared.status.Status.{Status}
 use Rattle.command_base.specs.declared.status.Status.TheVariants as status
-use Rattle.command_base.specs.declared.refusal.Refused.{Refused}
 use Rattle.command_base.specs.declared.refusal.Refused.TheVariants as refused
 use Rattle.command_base.specs.LineCommands.{IsLined, GoesOn, Ends, Begins}
-use Rattle.command_base.specs.Outcome.{Streams, Answered, CutShort, IsSettled, Outcome}
+use Rattle.command_base.specs.Outcome.{Streams, Answered, CutShort, Outcome, ToldAll, ToldBefore}
 use Rattle.command_base.specs.Refusals.{Reply, refusal_reply, in_front_of}
 use Rattle.command_base.specs.inner.Standing.{LinesStanding}
-use Rattle.command_base.proofs.LineEnds.{cut_settled}
-use Rattle.line_input.proofs.LinesSoFar.{StopsAt, bad_stops, ended_lines, found_lines, found_stops, over_lines, settled_as, stopped_all, stopped_by, stopped_input, taken_input, taken_took}
+use Rattle.command_base.proofs.LineEnds.{cut_settled, settled_few}
+use Rattle.line_input.proofs.LinesSoFar.{StopsAt, bad_stops, ended_lines, found_lines, found_stops, over_few, over_lines, part_lines, settled_as, stopped_all, stopped_by, stopped_few, stopped_input, taken_input, taken_took, within_as}
 use Rattle.line_input.proofs.Takings.{at_end, at_hand}
 
 -- sums that a count of passes goes through
@@ -41,15 +39,16 @@ count_here now m start all h = omega (arith, h)
 
 -- What a command that ended at a line took, and its reply to that.
 pub record Ending (Replies : List (List ℕ) → Reply → Type 0) (most : List (List ℕ) → ℕ) (start : Streams) (passes : ℕ)
-    (left : Option (List ℕ)) (r : Reply) : Type 0 where
+    (left : Option (List ℕ)) (number : ℕ) (r : Reply) : Type 0 where
   pub input : List ℕ
   pub took : Took start.left left input
   pub replied : Replies (lines_of input) r
   pub counted : passes ≤ start.passes + most (lines_of input)
-  pub settled : IsSettledBy (λ bytes. Replies (lines_of bytes) r) input ⊎ IsWhole left input
+  pub settled : IsSettledBy (λ bytes. Replies (lines_of bytes) r) number input ⊎ IsWhole left input
 
 module _ (Replies : List (List ℕ) → Reply → Type 0) (most : List (List ℕ) → ℕ)
-    (Rest : ℕ → List (List ℕ) → Reply → Type 0) (passing : ℕ → List (List ℕ) → ℕ) (lined : IsLined Rest passing) where
+    (Rest : ℕ → List (List ℕ) → Reply → Type 0) (passing : ℕ → List (List ℕ) → ℕ) (closes : List ℕ → Type 0)
+    (lined : IsLined Rest passing closes) where
   abbrev pub replies : List ℕ → Reply → Type 0
   replies bytes r = Replies (lines_of bytes) r
 
@@ -125,7 +124,7 @@ module _ (Replies : List (List ℕ) → Reply → Type 0) (most : List (List ℕ
         → ((text : List ℕ) (rest : List (List ℕ)) → IsThis text → Replies (before ++ text ∷ rest) r)
         → ((text : List ℕ) (rest : List (List ℕ)) → IsThis text
         → passes ≤ start.passes + most (before ++ text ∷ rest))
-        → Ending Replies most start passes left r
+        → Ending Replies most start passes left number r
     ending_at passes left feed before number IsThis stops r replied few =
         let Holds : List (List ℕ) → Type 0 = λ ls. Replies ls r in
         record {
@@ -140,7 +139,7 @@ module _ (Replies : List (List ℕ) → Reply → Type 0) (most : List (List ℕ
     -- a line that is refused for its length or its bytes
     pub ending_bad : (new : Reading) (left : Option (List ℕ)) (bad : BadLine)
         → ReadsLine old new now.left left (Err (fault.Bad bad))
-        → Ending Replies most start now.passes left (in_front_of s.text (refusal_reply (refused.Line bad)))
+        → Ending Replies most start now.passes left bad.line (in_front_of s.text (refusal_reply (refused.Line bad)))
     ending_bad new left bad reads =
         let passed : List (List ℕ) = reads.finds.passed in
         let r : Reply = refusal_reply (refused.Line bad) in
@@ -178,7 +177,7 @@ module _ (Replies : List (List ℕ) → Reply → Type 0) (most : List (List ℕ
       -- a line that ends the command by what it says
       pub ending_line : (passes : ℕ) (r : Reply) → Ends Rest new.lines new.text r
           → ((texts : List (List ℕ)) → passes ≤ now.passes + passing new.lines (new.text ∷ texts))
-          → Ending Replies most start passes left (in_front_of s.text r)
+          → Ending Replies most start passes left new.lines (in_front_of s.text r)
       ending_line passes r ends few =
           ending_at passes left new.feed (s.lines ++ passed) new.lines (λ text. text ≡ new.text) stops
           (in_front_of s.text r)
@@ -192,12 +191,20 @@ module _ (Replies : List (List ℕ) → Reply → Type 0) (most : List (List ℕ
       -- a text with which a reply to a line begins was written, and no more
       pub cut_line : (passes : ℕ) (held : Option (List ℕ)) (text : List ℕ) → Begins Rest new.lines new.text text
           → Grew now.held held text
-          → CutShort replies start (record { left = left; held = held; passes = passes })
+          → ((texts : List (List ℕ)) → passes ≤ now.passes + passing new.lines (new.text ∷ texts))
+          → CutShort replies most_of start (record { left = left; held = held; passes = passes })
           (stopped_input start.left left new.feed (s.lines ++ passed) new.lines (λ t. t ≡ new.text) stops)
-      cut_line passes held text begins grew =
-          cut_settled replies start passes left held
+      cut_line passes held text begins grew few =
+          cut_settled replies most_of start passes left held new.lines
           (stopped_input start.left left new.feed (s.lines ++ passed) new.lines (λ t. t ≡ new.text) stops)
           (s.text ++ text) stops.took (Grew-append start.held now.held held s.text text s.wrote grew)
+          (stopped_few start.left left new.feed (s.lines ++ passed) new.lines (λ t. t ≡ new.text) stops)
+          (stopped_all start.left left new.feed (s.lines ++ passed) new.lines (λ t. t ≡ new.text) stops
+          (λ ls. passes ≤ start.passes + most ls)
+          (λ t rest same. subst (λ (z : List ℕ). passes ≤ start.passes + most ((s.lines ++ passed) ++ z ∷ rest))
+          (sym same)
+          (count_past now.passes passes (passing new.lines (new.text ∷ rest)) start.passes
+          (most ((s.lines ++ passed) ++ new.text ∷ rest)) (line_counted rest) (few rest))))
           (stopped_all start.left left new.feed (s.lines ++ passed) new.lines (λ t. t ≡ new.text) stops Holds goes)
           (stopped_by start.left left new.feed (s.lines ++ passed) new.lines (λ t. t ≡ new.text) stops Holds goes)
         where
@@ -238,11 +245,11 @@ module _ (Replies : List (List ℕ) → Reply → Type 0) (most : List (List ℕ
           }
 
     -- the whole reply of a line that ends the command was written
-    pub ends_answered : (passes : ℕ) (left held : Option (List ℕ)) (r : Reply)
-        (e : Ending Replies most start passes left (in_front_of s.text r)) → Grew now.held held r.text
+    pub ends_answered : (passes : ℕ) (left held : Option (List ℕ)) (number : ℕ) (r : Reply)
+        (e : Ending Replies most start passes left number (in_front_of s.text r)) → Grew now.held held r.text
         → Answered replies most_of start (record { left = left; held = held; passes = passes }) e.input
         (in_front_of s.text r)
-    ends_answered passes left held r e grew =
+    ends_answered passes left held number r e grew =
         record {
           took = e.took;
           replied = e.replied;
@@ -251,15 +258,17 @@ module _ (Replies : List (List ℕ) → Reply → Type 0) (most : List (List ℕ
         }
 
     -- it could not be written whole
-    pub cut_refused : (passes : ℕ) (left held : Option (List ℕ)) (r : Reply)
-        → Ending Replies most start passes left (in_front_of s.text r) → GrewPartly now.held held r.text
+    pub cut_refused : (passes : ℕ) (left held : Option (List ℕ)) (number : ℕ) (r : Reply)
+        → Ending Replies most start passes left number (in_front_of s.text r) → GrewPartly now.held held r.text
         → Outcome replies most_of true start (record { left = left; held = held; passes = passes }) status.WriteFault
-    cut_refused passes left held r e grew = (
+    cut_refused passes left held number r e grew = (
       e.input,
-      cut_settled replies start passes left held e.input (s.text ++ grew.0) e.took
-          (Grew-append start.held now.held held s.text grew.0 s.wrote grew.3) (part e.input e.replied)
+      cut_settled replies most_of start passes left held number e.input (s.text ++ grew.0) e.took
+          (Grew-append start.held now.held held s.text grew.0 s.wrote grew.3)
+          (settled_few (λ bytes. replies bytes (in_front_of s.text r)) left number e.input e.settled) e.counted
+          (part e.input e.replied)
           (settled_as (λ bytes. replies bytes (in_front_of s.text r))
-          (λ bytes. (r : Reply) × replies bytes (in_front_of (s.text ++ grew.0) r)) left e.input part e.settled),
+          (λ bytes. (r : Reply) × replies bytes (in_front_of (s.text ++ grew.0) r)) left number e.input part e.settled),
     )
       where
         part : (input : List ℕ) → replies input (in_front_of s.text r)
@@ -299,16 +308,19 @@ module _ (Replies : List (List ℕ) → Reply → Type 0) (most : List (List ℕ
 
       -- what was written so far, where nothing more is
       pub cut_here : (taken : List ℕ) → Draws old.feed new.feed now.left left taken
-          → CutShort replies start (record now { left = left }) (taken_all taken)
-      cut_here taken draws =
+          → length (taken_all taken) ≤ most_bytes + most_at_once
+          → CutShort replies most_of start (record now { left = left }) (taken_all taken)
+      cut_here taken draws few =
           record {
             took = taken_took start.left now.left left old new s.lines s.so_far taken draws;
+            within = few;
             front = s.so_far.front;
             rest = old.feed.pending ++ taken;
             split = refl;
             text = s.text;
             wrote = s.wrote;
             begins = by_end old.feed.ended refl;
+            counted = all_counted taken draws;
           }
         where
           by_end : (b : Bool) → old.feed.ended ≡ b
@@ -329,9 +341,9 @@ module _ (Replies : List (List ℕ) → Reply → Type 0) (most : List (List ℕ
       too_long reads =
           let passed : List (List ℕ) = reads.finds.passed in
           let n : ℕ = old.lines + 1 + length passed in
-          let here : (r : Reply) × Rest n [] r × (r.status ≡ status.Done) = lined.done n in (
+          let here : (r : Reply) × Rest n [] r × (r.status ≡ status.Done) × closes r.text = lined.done n in (
             taken_all reads.taken,
-            cut_here reads.taken reads.draws,
+            cut_here reads.taken reads.draws (over_few start.left now.left left old new s.lines s.so_far reads),
             over_lines start.left now.left left old new s.lines s.so_far
                 (λ ls. (r : Reply) × Replies ls r × (r.status ≡ status.Done)) reads (
                   in_front_of s.text here.0,
@@ -339,5 +351,36 @@ module _ (Replies : List (List ℕ) → Reply → Type 0) (most : List (List ℕ
                       (append-nil (s.lines ++ passed)) (behind_replied passed n reads.finds.each refl [] here.0 here.1),
                   here.2,
                 ),
-            all_counted reads.taken reads.draws,
           )
+
+      -- the source couldn't be read
+      pub unread_told : ReadsLine old new now.left left (Err fault.ReadFault)
+          → ToldBefore replies closes start (record now { left = left }) status.ReadFault
+      unread_told reads =
+          let passed : List (List ℕ) = reads.finds.passed in
+          let n : ℕ = old.lines + 1 + length passed in
+          let here : (r : Reply) × Rest n [] r × (r.status ≡ status.Done) × closes r.text = lined.done n in (
+            taken_all reads.taken,
+            taken_took start.left now.left left old new s.lines s.so_far reads.taken reads.draws,
+            within_as (λ bytes. Closed (lines_of bytes)) (λ bytes. ToldAll replies closes start.held now.held bytes)
+                (taken_all reads.taken)
+                (λ bytes closed. record {
+                  text = s.text;
+                  wrote = s.wrote;
+                  closing = closed.0;
+                  replied = closed.1;
+                  done = closed.2;
+                  closes = closed.3;
+                })
+                (part_lines start.left now.left left old new s.lines s.so_far Closed reads (
+                  here.0,
+                  subst (λ (ls : List (List ℕ)). Replies ls (in_front_of s.text here.0))
+                      (append-nil (s.lines ++ passed)) (behind_replied passed n reads.finds.each refl [] here.0 here.1),
+                  here.2,
+                  here.3,
+                )),
+          )
+        where
+          -- the reply to these lines closes with them
+          Closed : List (List ℕ) → Type 0
+          Closed ls = (r : Reply) × Replies ls (in_front_of s.text r) × (r.status ≡ status.Done) × closes r.text

@@ -8,7 +8,7 @@ use Rattle.std.proofs.lemmas.Bool.{false≢true}
 use Rattle.line_input.specs.Inputs.{RunsOver}
 use Rattle.line_input.specs.Lines.{IsWhole, most_bytes}
 use Rattle.command_base.specs.Outcome.{IsRead, IsSettled, IsUncut, IsUnrefused, IsWholeReply, Outcome, Streams}
-use Rattle.command_base.specs.Refusals.{Reply}
+use Rattle.command_base.specs.Refusals.{Reply, line_of}
 use Rattle.command_base.specs.declared.status.Status.{Status}
 use Rattle.command_base.specs.declared.status.Status.TheVariants as status
 
@@ -34,13 +34,13 @@ all_of left bytes input h ended =
 module _ (replies : List ℕ → Reply → Type 0) (most : List ℕ → ℕ) (old new : Streams) (bytes : List ℕ)
     (told : old.left ≡ Some bytes) (few : length bytes ≤ most_bytes) where
   -- what settles the reply to what was taken settles it for all bytes
-  decided : (input : List ℕ) (r : Reply) → old.left ≡ prepend_known input new.left → replies input r
-      → IsSettled replies input r ⊎ IsWhole new.left input → replies bytes r
-  decided input r took replied (inl s) =
+  decided : (number : ℕ) (input : List ℕ) (r : Reply) → old.left ≡ prepend_known input new.left → replies input r
+      → IsSettled replies number input r ⊎ IsWhole new.left input → replies bytes r
+  decided number input r took replied (inl s) =
       let l : Left new.left bytes input = left_of new.left bytes input (sym told ∙ took) in
       subst (λ (b : List ℕ). replies b r)
       (sym (l.whole ∙ ap (λ b. b ++ l.rest) s.split ∙ append_assoc s.front s.rest l.rest)) (s.holds (s.rest ++ l.rest))
-  decided input r took replied (inr w) =
+  decided number input r took replied (inr w) =
       subst (λ (b : List ℕ). replies b r) (all_of new.left bytes input (sym told ∙ took) w.«end») replied
 
   -- an input that is too long isn't within what it may have
@@ -74,14 +74,14 @@ module _ (replies : List ℕ → Reply → Type 0) (most : List ℕ → ℕ) (ol
   whole_reply (status.Refused why) uncut o =
       record {
         reply = o.1;
-        replied = decided o.0 o.1 o.2.took o.2.replied o.4;
+        replied = decided (line_of why) o.0 o.1 o.2.took o.2.replied o.4;
         status = o.3;
         wrote = o.2.wrote;
       }
   whole_reply (status.Broken place rule) uncut o =
       record {
         reply = o.1;
-        replied = decided o.0 o.1 o.2.took o.2.replied o.4;
+        replied = decided place o.0 o.1 o.2.took o.2.replied o.4;
         status = o.3;
         wrote = o.2.wrote;
       }

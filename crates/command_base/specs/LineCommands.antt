@@ -9,17 +9,18 @@ use Rattle.line_input.specs.declared.reason.Reason.{Reason}
 use Rattle.command_base.specs.declared.refusal.Refused.TheVariants as refused
 use Rattle.command_base.specs.declared.status.Status.{Status}
 use Rattle.command_base.specs.declared.status.Status.TheVariants as status
-use Rattle.command_base.specs.Refusals.{Reply, refusal_reply, in_front_of}
+use Rattle.command_base.specs.Refusals.{Reply, refusal_reply, in_front_of, line_of}
 
 -- How often a command passed the ends, and by which reference it counts that.
 pub record Count : Type 0 where
   pub name : GName
   pub passes : ℕ
 
--- A reply to lines: each list of lines has one, and it is done where no line follows; lines that are passed over say
--- nothing and pass no ends, and a line that is refused whatever it says ends it.
-pub record IsLined (Rest : ℕ → List (List ℕ) → Reply → Type 0) (most : ℕ → List (List ℕ) → ℕ) : Type 0 where
-  pub done : (number : ℕ) → (r : Reply) × Rest number [] r × (r.status ≡ status.Done)
+-- A reply to lines: each list of lines has one, and where no line follows it is done, and closes so; lines that are
+-- passed over say nothing and pass no ends, and a line that is refused whatever it says ends it.
+pub record IsLined (Rest : ℕ → List (List ℕ) → Reply → Type 0) (most : ℕ → List (List ℕ) → ℕ)
+    (closes : List ℕ → Type 0) : Type 0 where
+  pub done : (number : ℕ) → (r : Reply) × Rest number [] r × (r.status ≡ status.Done) × closes r.text
   pub some : (number : ℕ) (texts : List (List ℕ)) → (r : Reply) × Rest number texts r
   pub passed : (number : ℕ) (text : List ℕ) (texts : List (List ℕ)) (r : Reply) → IsPassedOver text
       → Rest (number + 1) texts r → Rest number (text ∷ texts) r
@@ -41,26 +42,21 @@ Ends Rest number line r = (texts : List (List ℕ)) → Rest number (line ∷ te
 abbrev pub Begins : (Rest : ℕ → List (List ℕ) → Reply → Type 0) → ℕ → (line text : List ℕ) → Type 0
 Begins Rest number line text = (texts : List (List ℕ)) → (r : Reply) × Rest number (line ∷ texts) (in_front_of text r)
 
--- what an answer that ends the command at a line says of it: this is the whole reply, whatever follows; or what was
--- written begins a reply, whatever follows
+-- what an answer that ends the command at a line says of it: this is the whole reply, whatever follows, and it names
+-- that line; or what was written begins a reply, whatever follows
 abbrev pub EndsLine : (Rest : ℕ → List (List ℕ) → Reply → Type 0) → ℕ → List ℕ → (held held' : Option (List ℕ))
     → Status → Type 0
 EndsLine Rest number line held held' (status.Refused why) =
     (text : List ℕ) × Ends Rest number line (record { text = text; status = status.Refused why }) × Grew held held' text
+    × (line_of why ≡ number)
 EndsLine Rest number line held held' (status.Broken place rule) =
     (text : List ℕ) × Ends Rest number line (record { text = text; status = status.Broken place rule })
-    × Grew held held' text
+    × Grew held held' text × (place ≡ number)
 EndsLine Rest number line held held' status.WriteFault =
     (text : List ℕ) × Begins Rest number line text × Grew held held' text
 EndsLine Rest number line held held' status.Memory =
     (text : List ℕ) × Begins Rest number line text × Grew held held' text
 EndsLine Rest number line held held' _ = ⊥
-
--- what an answer that ends the command says of the count of passes: where the line was cut short, nothing
-abbrev pub CountsEnd : Status → (few : Type 0) → Type 0
-CountsEnd status.WriteFault few = Unit {0}
-CountsEnd status.Memory few = Unit {0}
-CountsEnd _ few = few
 
 module _ {Seen : Type 0} (Rest : Seen → ℕ → List (List ℕ) → Reply → Type 0) (most : Seen → ℕ → List (List ℕ) → ℕ)
   where
@@ -83,7 +79,7 @@ module _ {Seen : Type 0} (Rest : Seen → ℕ → List (List ℕ) → Reply → 
         StandsBehind Stands seen number line passes passes' held held'
     TakesLine Stands seen number line passes passes' held held' (Some answer) =
         EndsLine (Rest seen) number line held held' answer
-        × CountsEnd answer ((texts : List (List ℕ)) → passes' ≤ passes + most seen number (line ∷ texts))
+        × ((texts : List (List ℕ)) → passes' ≤ passes + most seen number (line ∷ texts))
 
 -- what an answer at the end of the input says: this is the whole reply, or what was written is a front of one; where
 -- there is no memory nothing was written

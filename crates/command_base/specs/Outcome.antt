@@ -2,15 +2,15 @@
 -- passed the ends of its calls, and of the reads and writes that failed. `replies` is what the command replies to an
 -- input, `most` how often it passes the ends for one at most, and `reads` whether it reads one at all. This project's
 -- profile. Where a source or a sink doesn't tell its bytes, nothing is said of them.
-use Rattle.std.specs.Prelude.{◌≡◌, ℕ, ◌+◌, ◌≤◌, ◌⊎◌, Bool, false, List, [], ◌++◌, Option}
+use Rattle.std.specs.Prelude.{◌≡◌, ℕ, ◌+◌, ◌≤◌, ◌⊎◌, Bool, false, List, [], ◌++◌, length, Option}
 use Rattle.std.specs.Io.KnownBytes.{IsAtEnd}
 use Rattle.call_io.specs.Bytes.{Took, Grew}
 use Rattle.call_io.specs.Counts.{Rose}
-use Rattle.line_input.specs.Inputs.{IsSettledBy, RunsOver}
-use Rattle.line_input.specs.Lines.{IsWhole}
+use Rattle.line_input.specs.Inputs.{IsSettledBy, RunsOver, StopsWithin}
+use Rattle.line_input.specs.Lines.{IsWhole, most_at_once, most_bytes}
 use Rattle.command_base.specs.declared.status.Status.{Status}
 use Rattle.command_base.specs.declared.status.Status.TheVariants as status
-use Rattle.command_base.specs.Refusals.{Reply, in_front_of}
+use Rattle.command_base.specs.Refusals.{Reply, in_front_of, line_of}
 
 -- The bytes told by a source and a sink, and how often ends were passed.
 pub record Streams : Type 0 where
@@ -33,9 +33,13 @@ pub record Answered (replies : List ℕ → Reply → Type 0) (most : List ℕ �
   pub counted : new.passes ≤ old.passes + most input
 
 -- This input was taken, and the answer was cut short: the sink grew by exactly this text, with which a reply begins
--- whatever comes behind a front of what was taken; or, where the source is at its end, a reply to what was taken.
-pub record CutShort (replies : List ℕ → Reply → Type 0) (old new : Streams) (input : List ℕ) : Type 0 where
+-- whatever comes behind a front of what was taken; or, where the source is at its end, a reply to what was taken. No
+-- more was taken than an input may have and what is read at once, and ends were passed no more often than what was taken
+-- gives reason for.
+pub record CutShort (replies : List ℕ → Reply → Type 0) (most : List ℕ → ℕ) (old new : Streams) (input : List ℕ)
+    : Type 0 where
   pub took : Took old.left new.left input
+  pub within : length input ≤ most_bytes + most_at_once
   pub front : List ℕ
   pub rest : List ℕ
   pub split : input ≡ front ++ rest
@@ -43,10 +47,12 @@ pub record CutShort (replies : List ℕ → Reply → Type 0) (old new : Streams
   pub wrote : Grew old.held new.held text
   pub begins : ((more : List ℕ) → (r : Reply) × replies (front ++ more) (in_front_of text r))
       ⊎ (IsAtEnd new.left × ((r : Reply) × replies input (in_front_of text r)))
+  pub counted : new.passes ≤ old.passes + most input
 
--- the reply is settled by a front of the input: whatever comes behind that front, it is this one
-abbrev pub IsSettled : (replies : List ℕ → Reply → Type 0) → (input : List ℕ) → Reply → Type 0
-IsSettled replies input r = IsSettledBy (λ bytes. replies bytes r) input
+-- The reply is settled by a front of the input that ends in the line of this number: whatever comes behind that front,
+-- it is this one. Behind it no more was taken than what was read at once with its end.
+abbrev pub IsSettled : (replies : List ℕ → Reply → Type 0) → (number : ℕ) → (input : List ℕ) → Reply → Type 0
+IsSettled replies number input r = IsSettledBy (λ bytes. replies bytes r) number input
 
 -- none of the lines of these bytes is refused
 abbrev pub IsUnrefused : (replies : List ℕ → Reply → Type 0) → List ℕ → Type 0
@@ -66,17 +72,35 @@ Outcome replies most reads old new status.Usage =
     (r : Reply) × Answered replies most old new [] r × (r.status ≡ status.Usage)
 Outcome replies most reads old new (status.Refused why) =
     (input : List ℕ) × (r : Reply) × Answered replies most old new input r × (r.status ≡ status.Refused why)
-    × (IsSettled replies input r ⊎ IsWhole new.left input)
+    × (IsSettled replies (line_of why) input r ⊎ IsWhole new.left input)
 Outcome replies most reads old new (status.Broken number rule) =
     (input : List ℕ) × (r : Reply) × Answered replies most old new input r × (r.status ≡ status.Broken number rule)
-    × (IsSettled replies input r ⊎ IsWhole new.left input)
-Outcome replies most reads old new status.ReadFault =
-    (input : List ℕ) × CutShort replies old new input × (new.passes ≤ old.passes + most input)
-Outcome replies most reads old new status.WriteFault = (input : List ℕ) × CutShort replies old new input
-Outcome replies most reads old new status.Memory = (input : List ℕ) × CutShort replies old new input
+    × (IsSettled replies number input r ⊎ IsWhole new.left input)
+Outcome replies most reads old new status.ReadFault = (input : List ℕ) × CutShort replies most old new input
+Outcome replies most reads old new status.WriteFault = (input : List ℕ) × CutShort replies most old new input
+Outcome replies most reads old new status.Memory = (input : List ℕ) × CutShort replies most old new input
 Outcome replies most reads old new status.TooLong =
-    (input : List ℕ) × CutShort replies old new input × RunsOver (IsUnrefused replies) input
-    × (new.passes ≤ old.passes + most input)
+    (input : List ℕ) × CutShort replies most old new input × RunsOver (IsUnrefused replies) input
+
+-- All that these lines give was written: the reply to them is this text, and then what the command closes with at the
+-- end of its input, if it does.
+pub record ToldAll (replies : List ℕ → Reply → Type 0) (Closes : List ℕ → Type 0) (held held' : Option (List ℕ))
+    (bytes : List ℕ) : Type 0 where
+  pub text : List ℕ
+  pub wrote : Grew held held' text
+  pub closing : Reply
+  pub replied : replies bytes (in_front_of text closing)
+  pub done : closing.status ≡ status.Done
+  pub closes : Closes closing.text
+
+-- What an answer says of all that was written before a read. Where a read failed, what was taken stops within a line,
+-- and all that the lines before it give was written: nothing was kept back while more was read.
+abbrev pub ToldBefore : (replies : List ℕ → Reply → Type 0) → (closes : List ℕ → Type 0) → (old new : Streams)
+    → Status → Type 0
+ToldBefore replies closes old new status.ReadFault =
+    (input : List ℕ) × Took old.left new.left input
+    × StopsWithin (λ bytes. ToldAll replies closes old.held new.held bytes) input
+ToldBefore replies closes old new _ = Unit {0}
 
 -- what an answer says of the source's count of faults: a read failed, or else none did
 abbrev pub ReadCause : Status → (old new : ℕ) → Type 0

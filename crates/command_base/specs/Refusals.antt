@@ -29,6 +29,12 @@ refusal_words (refused.Frame number fault) =
 abbrev pub refusal_line : Refused → List ℕ
 refusal_line why = codes "refused" ++ spaced (refusal_words why) ++ newline ∷ []
 
+-- the number of the line that is refused, or whose set or frame is
+abbrev pub line_of : Refused → ℕ
+line_of (refused.Line bad) = bad.line
+line_of (refused.Set number refusal) = number
+line_of (refused.Frame number fault) = number
+
 -- the reply that refuses, and says no more
 abbrev pub refusal_reply : Refused → Reply
 refusal_reply why = record { text = refusal_line why; status = status.Refused why }

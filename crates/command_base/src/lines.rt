@@ -1,11 +1,11 @@
 //! A command over lines, and the loop that carries it out.
 
 ghost use Rattle.std.specs.Prelude.{◌≡◌, ℕ, ◌+◌, ◌<◌, ◌≤◌, true, false, List, [], length, Some, MatchOption};
-ghost use Rattle.call_io.specs.Blocks.{held, sink, way};
+ghost use Rattle.call_io.specs.Blocks.{held, pending, sink, way};
 ghost use Rattle.call_io.specs.Ways.{Onward};
 ghost use Rattle.line_input.specs.Lines.{IsLine, lines_of, most_bytes};
 ghost use Rattle.command_base.specs.LineCommands.{Count, EndsInput, IsLined, IsQuietLine, IsQuietTurn, TakesLine};
-ghost use Rattle.command_base.specs.Outcome.{IsUncut, IsWholeReply, Outcome, ReadCause, Streams, WriteCause, streams_of};
+ghost use Rattle.command_base.specs.Outcome.{IsUncut, IsWholeReply, Outcome, ReadCause, Streams, ToldBefore, WriteCause, streams_of};
 ghost use Rattle.command_base.specs.Refusals.{Reply};
 ghost use Rattle.command_base.specs.inner.Standing.{CommandStanding, TurnsTo};
 
@@ -27,6 +27,9 @@ pub trait LineCommand {
 
     // How often these lines pass the ends of calls at most.
     ghost most: { Seen → ℕ → List (List ℕ) → ℕ };
+
+    // What it may write at the end of its input, behind the text of its lines.
+    ghost closes: { List ℕ → Type 0 };
 
     // How often it passed them.
     ghost count: { Self → Count };
@@ -64,7 +67,8 @@ pub trait LineCommand {
         ensures onward { Onward (O.way output.old) (O.way output.new) };
 
     // The reply is one to lines.
-    ghost lined: { (s : Self) (before : ℕ) (seen : Seen) → stands s before seen → IsLined (rest seen) (most seen) };
+    ghost lined: { (s : Self) (before : ℕ) (seen : Seen) → stands s before seen →
+        IsLined (rest seen) (most seen) closes };
 }
 
 /// Carries out a command over the lines of the input.
@@ -84,6 +88,12 @@ pub fn carry_out_lines<C: LineCommand, I: Source, O: Sink>(
         I.left input.old ≡ Some bytes → length bytes ≤ most_bytes → IsUncut result →
         IsWholeReply (λ bytes r. C.rest seen 1 (lines_of bytes) r) bytes (held O.held output.old)
         (held O.held output.new) result }
+    // Where a read failed, all that the lines before it give was handed to the sink.
+    ensures told { (seen : C.Seen) → C.stands command.old 0 seen →
+        ToldBefore (λ bytes r. C.rest seen 1 (lines_of bytes) r) C.closes
+        (streams_of I.left (held O.held) input.old output.old (C.count command.old).passes)
+        (streams_of I.left (held O.held) input.new output.new (C.count command.new).passes) result }
+    ensures handed { result ≡ Status.ReadFault → pending output.new ≡ [] }
     ensures named { (C.count command.new).name ≡ (C.count command.old).name }
     ensures memory { result ≡ Status.Memory → C.wants_memory }
     // A quiet command that is cut short, and not by a failed write, wrote nothing.
@@ -115,8 +125,9 @@ fn take_turn<C: LineCommand, I: Source, O: Sink>(
     ensures turns { (start : Streams) (first : C.Seen) →
         CommandStanding C.rest C.most first (C.stands command.old) start
         (streams_of I.left (held O.held) input.old output.old (C.count command.old).passes) lines.old →
-        TurnsTo C.rest C.most first (C.stands command.new) start
+        TurnsTo C.rest C.most first C.closes (C.stands command.new) start
         (streams_of I.left (held O.held) input.new output.new (C.count command.new).passes) lines.old lines.new result }
+    ensures handed { result ≡ Some Status.ReadFault → pending output.new ≡ [] }
     ensures named { (C.count command.new).name ≡ (C.count command.old).name }
     ensures memory { result ≡ Some Status.Memory → C.wants_memory }
     ensures silent { C.quiet → IsQuietTurn result → held O.held output.new ≡ held O.held output.old }

@@ -1,9 +1,10 @@
 //! Reading the lines of a command's input.
 
-ghost use Rattle.std.specs.Prelude.{◌≡◌, ◌≤◌, false, OnOk, OnErr, MatchResult};
-ghost use Rattle.call_io.specs.Blocks.{held, sink, way};
+ghost use Rattle.std.specs.Prelude.{◌≡◌, ◌≤◌, ◌⊎◌, true, false, [], Err, OnOk, OnErr, MatchResult};
+ghost use Rattle.call_io.specs.Blocks.{held, pending, sink, way};
 ghost use Rattle.call_io.specs.Counts.{Rose};
 ghost use Rattle.call_io.specs.Ways.{Onward};
+ghost use Rattle.line_input.specs.Reading.{begins_with_line};
 ghost use Rattle.command_base.specs.Outcome.{ReadCause, WriteCause};
 ghost use Rattle.command_base.specs.inner.ReadEnds.{ReadsOn};
 
@@ -23,6 +24,8 @@ pub(crate) fn read_line<I: Source, O: Sink>(
     requires { lines.old.failed ≡ false }
     ensures reads { ReadsOn lines.old lines.new (I.left input.old) (I.left input.new)
         (held O.held output.old) (held O.held output.new) result }
+    // Where the source was read and failed, nothing is pending.
+    ensures handed { result ≡ Err Status.ReadFault → pending output.new ≡ [] }
     ensures unread { MatchResult result (λ _. I.faults input.new ≡ I.faults input.old)
         (λ answer. ReadCause answer (I.faults input.old) (I.faults input.new)) }
     ensures unwritten { MatchResult result (λ _. O.faults (sink output.new) ≡ O.faults (sink output.old))
@@ -43,6 +46,7 @@ pub(crate) fn read_line<I: Source, O: Sink>(
 /// Hands over what is pending, where the source has to be read for the next line.
 fn make_way<O: Sink>(lines: &Lines, output: &mut Block<'_, O>) -> Result<(), Failed>
     ensures held { held O.held output.new ≡ held O.held output.old }
+    ensures way { OnOk result ((begins_with_line lines.now.feed.pending ≡ true) ⊎ (pending output.new ≡ [])) }
     ensures cause { OnErr result (Rose (O.faults (sink output.old)) (O.faults (sink output.new))) }
     ensures stood { OnOk result (O.faults (sink output.new) ≡ O.faults (sink output.old)) }
     ensures counted { O.faults (sink output.old) ≤ O.faults (sink output.new) }

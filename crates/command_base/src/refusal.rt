@@ -113,6 +113,7 @@ pub fn refuse_line<O: Sink>(line: u32, reason: Reason, output: &mut O) -> Status
 /// Ends a command whose next line couldn't be read.
 pub(crate) fn fail<O: Sink>(fault: LineFault, output: &mut O) -> Status
     ensures fails { FailsWith fault (O.held output.old) (O.held output.new) result }
+    ensures still { fault ≡ LineFault.ReadFault → output.new ≡ output.old }
     ensures unwritten { WriteCause result (O.faults output.old) (O.faults output.new) }
     ensures counted { O.faults output.old ≤ O.faults output.new }
     ensures onward { Onward (O.way output.old) (O.way output.new) }

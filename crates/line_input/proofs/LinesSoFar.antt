@@ -57,6 +57,20 @@ pub lines_first : (start : Option (List ℕ)) → LinesSoFar start start first_r
 lines_first start =
     record { front = []; taken = taken_first start; split = λ more follows. refl; number = refl }
 
+-- and where what was taken stops within a line
+pub within_as : (Holds Holds' : List ℕ → Type 0) (input : List ℕ) → ((bytes : List ℕ) → Holds bytes → Holds' bytes)
+    → StopsWithin Holds input → StopsWithin Holds' input
+within_as Holds Holds' input gives s =
+    record {
+      front = s.front;
+      unended = s.unended;
+      split = s.split;
+      lines = s.lines;
+      inner = s.inner;
+      short = s.short;
+      holds = gives s.front s.holds;
+    }
+
 no_lines : lines_of [] ≡ []
 unfolding lines_of
 no_lines = refl

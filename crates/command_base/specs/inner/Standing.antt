@@ -5,7 +5,7 @@ use Rattle.call_io.specs.Bytes.{Grew}
 use Rattle.line_input.specs.Lines.{lines_of, most_bytes}
 use Rattle.line_input.specs.Reading.{Reading}
 use Rattle.command_base.specs.declared.status.Status.{Status}
-use Rattle.command_base.specs.Outcome.{Streams, Outcome}
+use Rattle.command_base.specs.Outcome.{Streams, Outcome, ToldBefore}
 use Rattle.command_base.specs.Refusals.{Reply, in_front_of}
 use Rattle.line_input.specs.Taken.{LinesSoFar}
 
@@ -37,9 +37,14 @@ module _ {Seen : Type 0} (Rest : Seen → ℕ → List (List ℕ) → Reply → 
     pub stands : Stands reading.lines seen
     pub lines : LinesStanding (Rest first 1) (most first 1) (Rest seen) (most seen) start now reading
 
-  -- what a turn comes to: the command stands behind one more line, or it ended with this outcome
-  abbrev pub TurnsTo : (Stands : ℕ → Seen → Type 0) → (start now : Streams) → (old new : Reading) → Option Status
-      → Type 0
-  TurnsTo Stands start now old new None =
+  -- how a command ends: with this outcome, and all that its lines gave was written before a read that failed
+  abbrev pub EndsWith : (closes : List ℕ → Type 0) → (start now : Streams) → Status → Type 0
+  EndsWith closes start now answer =
+      Outcome RepliesFrom most_from true start now answer × ToldBefore RepliesFrom closes start now answer
+
+  -- what a turn comes to: the command stands behind one more line, or it ended
+  abbrev pub TurnsTo : (closes : List ℕ → Type 0) → (Stands : ℕ → Seen → Type 0) → (start now : Streams)
+      → (old new : Reading) → Option Status → Type 0
+  TurnsTo closes Stands start now old new None =
       CommandStanding Stands start now new × (old.lines < new.lines) × (new.lines ≤ most_bytes)
-  TurnsTo Stands start now old new (Some answer) = Outcome RepliesFrom most_from true start now answer
+  TurnsTo closes Stands start now old new (Some answer) = EndsWith closes start now answer

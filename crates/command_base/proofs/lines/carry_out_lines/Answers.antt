@@ -1,4 +1,4 @@
-use Rattle.std.proofs.Common.{arith, refl, sym, subst, ◌∙◌}
+use Rattle.std.proofs.Common.{Some, ap, arith, refl, sym, subst, ◌∙◌}
 use Rattle.call_io.proofs.BlockLemmas.{Onward-append, Onward-nothing}
 use Rattle.call_io.specs.Blocks.{held}
 use Rattle.line_input.specs.Reading.{Reading}
@@ -17,7 +17,7 @@ loop-status-init g c = record {
       subst (λ (r : Reading).
       CommandStanding g.C.LineCommand.rest g.C.LineCommand.most first (g.C.LineCommand.stands c.args.command.now) start
       start r) (sym c.new-lines.ensures)
-      (stands_first g.C.LineCommand.rest g.C.LineCommand.most first (g.C.LineCommand.stands c.args.command.now) start
+      (stands_first g.C.LineCommand.rest g.C.LineCommand.most first g.C.LineCommand.closes (g.C.LineCommand.stands c.args.command.now) start
       stands);
   bound = rw c.new-lines.ensures (omega arith);
   named = refl;
@@ -52,7 +52,14 @@ loop-status-preserved g c =
 
 pub returns-in-Some-clause-outcome : goal.returns-in-Some-clause-outcome
 returns-in-Some-clause-outcome g c = λ first stands.
-    c.in-Some.ensures.turns _ first (c.loop-status.invariant.stands first stands)
+    (c.in-Some.ensures.turns _ first (c.loop-status.invariant.stands first stands)).0
+
+pub returns-in-Some-clause-told : goal.returns-in-Some-clause-told
+returns-in-Some-clause-told g c = λ first stands.
+    (c.in-Some.ensures.turns _ first (c.loop-status.invariant.stands first stands)).1
+
+pub returns-in-Some-clause-handed : goal.returns-in-Some-clause-handed
+returns-in-Some-clause-handed g c = λ is. c.in-Some.ensures.handed (ap Some is)
 
 pub returns-in-Some-clause-complete : goal.returns-in-Some-clause-complete
 returns-in-Some-clause-complete g c = λ first stands bytes told few uncut.
@@ -62,7 +69,7 @@ returns-in-Some-clause-complete g c = λ first stands bytes told few uncut.
     (g.C.LineCommand.count c.args.command.now).passes)
     (streams_of g.I.Source.left (held g.O.Sink.held) c.take_turn.new.input c.take_turn.new.output
     (g.C.LineCommand.count c.take_turn.new.command).passes) bytes told few c.in-Some.status uncut
-    (c.in-Some.ensures.turns _ first (c.loop-status.invariant.stands first stands))
+    (c.in-Some.ensures.turns _ first (c.loop-status.invariant.stands first stands)).0
 
 pub returns-in-Some-clause-silent : goal.returns-in-Some-clause-silent
 returns-in-Some-clause-silent g c = λ quiet turn.
