@@ -32,10 +32,9 @@ module _ (Replies : List (List ℕ) → Reply → Type 0) (most : List (List ℕ
       Outcome (read.replies Replies most Rest passing closes lined) (read.most_of Replies most Rest passing closes lined) true start
       (record { left = left; held = held; passes = passes }) answer
 
-  abbrev ToldEnded : (passes : ℕ) → (left held : Option (List ℕ)) → Status → Type 0
-  ToldEnded passes left held answer =
-      ToldBefore (read.replies Replies most Rest passing closes lined) closes start
-      (record { left = left; held = held; passes = passes }) answer
+  abbrev ToldEnded : (left held : Option (List ℕ)) → Status → Type 0
+  ToldEnded left held answer =
+      ToldBefore (read.replies Replies most Rest passing closes lined) closes start.left left start.held held answer
 
   -- what is settled in a line is so in the line of that number
   settled_here : (number : ℕ) (Holds : List ℕ → Type 0) (left : Option (List ℕ)) (input : List ℕ) → {here : ℕ}
@@ -153,46 +152,46 @@ module _ (Replies : List (List ℕ) → Reply → Type 0) (most : List (List ℕ
 
   -- a line that couldn't be read ends it with all written before
   told_fault : (new : Reading) (left held : Option (List ℕ)) (f : LineFault) → ReadsLine old new now.left left (Err f)
-      → (answer : Status) → FailsWith f now.held held answer → ToldEnded now.passes left held answer
+      → (answer : Status) → FailsWith f now.held held answer → ToldEnded left held answer
   told_fault new left held (fault.Bad bad) reads answer (inl h) =
-      subst (λ (a : Status). ToldEnded now.passes left held a) (sym h.0) tt
+      subst (λ (a : Status). ToldEnded left held a) (sym h.0) tt
   told_fault new left held (fault.Bad bad) reads answer (inr h) =
-      subst (λ (a : Status). ToldEnded now.passes left held a) (sym h.0) tt
+      subst (λ (a : Status). ToldEnded left held a) (sym h.0) tt
   told_fault new left held fault.ReadFault reads answer fails =
-      subst (λ (h : Option (List ℕ)). ToldEnded now.passes left h answer) (sym fails.1)
-      (subst (λ (a : Status). ToldEnded now.passes left now.held a) (sym fails.0)
+      subst (λ (h : Option (List ℕ)). ToldEnded left h answer) (sym fails.1)
+      (subst (λ (a : Status). ToldEnded left now.held a) (sym fails.0)
       (read.unread_told Replies most Rest passing closes lined start now old s new left reads))
   told_fault new left held fault.TooLong reads answer fails =
-      subst (λ (a : Status). ToldEnded now.passes left held a) (sym fails.0) tt
+      subst (λ (a : Status). ToldEnded left held a) (sym fails.0) tt
 
   pub told_unread : (new : Reading) (left held : Option (List ℕ)) (answer : Status)
-      → EndsReading old new now.left left now.held held answer → ToldEnded now.passes left held answer
+      → EndsReading old new now.left left now.held held answer → ToldEnded left held answer
   told_unread new left held answer (by_line f reads fails) = told_fault new left held f reads answer fails
   told_unread new left held answer (in_front is left_is held_is) =
-      subst (λ (a : Status). ToldEnded now.passes left held a) (sym is) tt
+      subst (λ (a : Status). ToldEnded left held a) (sym is) tt
 
   -- no other end is one of a failed read
-  pub told_line : (number : ℕ) (line : List ℕ) (passes : ℕ) (left held held' : Option (List ℕ)) (answer : Status)
-      → EndsLine Rest number line held held' answer → ToldEnded passes left held' answer
-  told_line number line passes left held held' status.ReadFault e = absurd e
-  told_line number line passes left held held' (status.Refused why) e = tt
-  told_line number line passes left held held' (status.Broken place rule) e = tt
-  told_line number line passes left held held' status.WriteFault e = tt
-  told_line number line passes left held held' status.Memory e = tt
-  told_line number line passes left held held' status.Done e = tt
-  told_line number line passes left held held' status.Usage e = tt
-  told_line number line passes left held held' status.TooLong e = tt
+  pub told_line : (number : ℕ) (line : List ℕ) (left held held' : Option (List ℕ)) (answer : Status)
+      → EndsLine Rest number line held held' answer → ToldEnded left held' answer
+  told_line number line left held held' status.ReadFault e = absurd e
+  told_line number line left held held' (status.Refused why) e = tt
+  told_line number line left held held' (status.Broken place rule) e = tt
+  told_line number line left held held' status.WriteFault e = tt
+  told_line number line left held held' status.Memory e = tt
+  told_line number line left held held' status.Done e = tt
+  told_line number line left held held' status.Usage e = tt
+  told_line number line left held held' status.TooLong e = tt
 
-  pub told_input : (number passes : ℕ) (left held held' : Option (List ℕ)) (answer : Status)
-      → EndsInput Rest number held held' answer → ToldEnded passes left held' answer
-  told_input number passes left held held' status.ReadFault e = absurd e
-  told_input number passes left held held' (status.Refused why) e = tt
-  told_input number passes left held held' (status.Broken place rule) e = tt
-  told_input number passes left held held' status.WriteFault e = tt
-  told_input number passes left held held' status.Memory e = tt
-  told_input number passes left held held' status.Done e = tt
-  told_input number passes left held held' status.Usage e = tt
-  told_input number passes left held held' status.TooLong e = tt
+  pub told_input : (number : ℕ) (left held held' : Option (List ℕ)) (answer : Status)
+      → EndsInput Rest number held held' answer → ToldEnded left held' answer
+  told_input number left held held' status.ReadFault e = absurd e
+  told_input number left held held' (status.Refused why) e = tt
+  told_input number left held held' (status.Broken place rule) e = tt
+  told_input number left held held' status.WriteFault e = tt
+  told_input number left held held' status.Memory e = tt
+  told_input number left held held' status.Done e = tt
+  told_input number left held held' status.Usage e = tt
+  told_input number left held held' status.TooLong e = tt
 
   module _ (new : Reading) (left held : Option (List ℕ)) (reads : ReadsLine old new now.left left (Ok false)) where
     abbrev whole_input : List ℕ
@@ -250,8 +249,7 @@ module _ (Replies : List (List ℕ) → Reply → Type 0) (most : List (List ℕ
               (read.end_replied Replies most Rest passing closes lined start now old s new left (in_front_of e.0 e.1) reads e.2),
         )
     ended status.Memory e =
-        subst (λ (h : Option (List ℕ)). Ended now.passes left h status.Memory) (sym e)
-        (
+        subst (λ (h : Option (List ℕ)). Ended now.passes left h status.Memory) (sym e) (
           whole_input,
           read.cut_here Replies most Rest passing closes lined start now old s new left reads.taken reads.draws
               whole_few,

@@ -355,7 +355,7 @@ module _ (Replies : List (List ℕ) → Reply → Type 0) (most : List (List ℕ
 
       -- the source couldn't be read
       pub unread_told : ReadsLine old new now.left left (Err fault.ReadFault)
-          → ToldBefore replies closes start (record now { left = left }) status.ReadFault
+          → ToldBefore replies closes start.left left start.held now.held status.ReadFault
       unread_told reads =
           let passed : List (List ℕ) = reads.finds.passed in
           let n : ℕ = old.lines + 1 + length passed in

@@ -95,12 +95,15 @@ pub record ToldAll (replies : List ℕ → Reply → Type 0) (Closes : List ℕ 
 
 -- What an answer says of all that was written before a read. Where a read failed, what was taken stops within a line,
 -- and all that the lines before it give was written: nothing was kept back while more was read.
-abbrev pub ToldBefore : (replies : List ℕ → Reply → Type 0) → (closes : List ℕ → Type 0) → (old new : Streams)
-    → Status → Type 0
-ToldBefore replies closes old new status.ReadFault =
-    (input : List ℕ) × Took old.left new.left input
-    × StopsWithin (λ bytes. ToldAll replies closes old.held new.held bytes) input
-ToldBefore replies closes old new _ = Unit {0}
+abbrev pub ToldBefore : (replies : List ℕ → Reply → Type 0) → (closes : List ℕ → Type 0)
+    → (left left' held held' : Option (List ℕ)) → Status → Type 0
+ToldBefore replies closes left left' held held' status.ReadFault =
+    (input : List ℕ) × Took left left' input × StopsWithin (λ bytes. ToldAll replies closes held held' bytes) input
+ToldBefore replies closes left left' held held' _ = Unit {0}
+
+-- it closes with nothing
+abbrev pub ClosesSilently : List ℕ → Type 0
+ClosesSilently text = text ≡ []
 
 -- what an answer says of the source's count of faults: a read failed, or else none did
 abbrev pub ReadCause : Status → (old new : ℕ) → Type 0

@@ -90,9 +90,8 @@ pub fn carry_out_lines<C: LineCommand, I: Source, O: Sink>(
         (held O.held output.new) result }
     // Where a read failed, all that the lines before it give was handed to the sink.
     ensures told { (seen : C.Seen) → C.stands command.old 0 seen →
-        ToldBefore (λ bytes r. C.rest seen 1 (lines_of bytes) r) C.closes
-        (streams_of I.left (held O.held) input.old output.old (C.count command.old).passes)
-        (streams_of I.left (held O.held) input.new output.new (C.count command.new).passes) result }
+        ToldBefore (λ bytes r. C.rest seen 1 (lines_of bytes) r) C.closes (I.left input.old) (I.left input.new)
+        (held O.held output.old) (held O.held output.new) result }
     ensures handed { result ≡ Status.ReadFault → pending output.new ≡ [] }
     ensures named { (C.count command.new).name ≡ (C.count command.old).name }
     ensures memory { result ≡ Status.Memory → C.wants_memory }

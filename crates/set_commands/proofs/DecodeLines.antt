@@ -1,19 +1,17 @@
 -- The reply of `decode` is one to lines, and what a line of it comes to by its place.
 use Rattle.std.specs.Prelude.{◌≡◌, ℕ, ◌+◌, List, [], Option, Some, None, Result, Ok, Err}
-use Rattle.std.proofs.Common.{◌∙◌, sym, ap, refl, subst, inl, inr, arith}
+use Rattle.std.proofs.Common.{◌∙◌, sym, refl, subst, inl, inr, arith}
 use Rattle.call_io.specs.Bytes.{Grew, GrewPartly}
-use Rattle.hex.specs.Hex.{decode_of}
 use Rattle.per_bits.specs.declared.refusals.Refusal.{Refusal}
 use Rattle.msd_values.specs.Description.{description}
 use Rattle.msd_values.specs.declared.msd.Msd.{Msd}
 use Rattle.msd_codec.specs.Sets.{Shows, StopsAt}
-use Rattle.line_input.specs.Lines.{line_fault, IsPassedOver, IsLine, Numbered}
+use Rattle.line_input.specs.Lines.{IsLine, Numbered}
 use Rattle.line_input.specs.Words.{only_word_of, words}
 use Rattle.line_input.specs.declared.reason.Reason.{Reason}
-use Rattle.line_input.specs.declared.reason.Reason.TheVariants as reason
-use Rattle.set_commands.specs.Decode.{AreDecoded, IsLineDecoded, judged_set, octets_in, octets_of_word, some_octets}
-use Rattle.command_base.specs.LineCommands.{IsLined, TakesLine, EndsLine}
-use Rattle.command_base.specs.Refusals.{Reply, refusal_line, refusal_reply, in_front_of}
+use Rattle.set_commands.specs.Decode.{AreDecoded, judged_set, octets_of_word, some_octets}
+use Rattle.command_base.specs.LineCommands.{TakesLine}
+use Rattle.command_base.specs.Refusals.{refusal_line}
 use Rattle.command_base.specs.declared.refusal.Refused.TheVariants as refused
 use Rattle.command_base.specs.declared.status.Status.{Status}
 use Rattle.command_base.specs.declared.status.Status.TheVariants as status
@@ -44,7 +42,8 @@ pub set_stops : (octets : List ℕ) (number : ℕ) (held held' : Option (List �
     answer → TakesPlace (Ok (Some octets)) number held held' (Some answer)
 set_stops octets number held held' refusal stops answer h =
     ends.ends_refused (FromPlace (Ok (Some octets))) number [] held held' (refusal_line (refused.Set number refusal))
-    (refused.Set number refusal) (λ texts. inr (record { refusal = refusal; stops = stops; says = refl })) answer h
+    (refused.Set number refusal) (λ texts. inr (record { refusal = refusal; stops = stops; says = refl })) refl
+    answer h
 
 -- a line that is refused
 pub line_refused : (place : Result (Option (List ℕ)) Reason) (number : ℕ) (reason : Reason)
@@ -56,7 +55,7 @@ line_refused place number reason held held' placed answer h =
     subst (λ (p : Result (Option (List ℕ)) Reason). TakesPlace p number held held' (Some answer)) (sym placed)
     (ends.ends_refused (FromPlace (Err reason)) number [] held held'
     (refusal_line (refused.Line (record { line = number; reason = reason })))
-    (refused.Line (record { line = number; reason = reason })) (λ texts. refl) answer h)
+    (refused.Line (record { line = number; reason = reason })) (λ texts. refl) refl answer h)
 
 -- the place of a line of one word, and of other words
 pub at_place : (line : Numbered) (text : List ℕ) (number : ℕ) (place : Result (Option (List ℕ)) Reason)
@@ -76,4 +75,4 @@ pub takes_line : (number : ℕ) (text : List ℕ) (held held' : Option (List ℕ
     held' answer
 takes_line number text held held' None t =
     record { next = tt; stands = tt; text = t.0; goes = t.1; wrote = t.2; counted = λ texts. omega arith }
-takes_line number text held held' (Some answer) t = (t, ends.counts_end answer _ (λ texts. omega arith))
+takes_line number text held held' (Some answer) t = (t, λ texts. omega arith)

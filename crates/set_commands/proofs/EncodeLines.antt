@@ -1,6 +1,6 @@
 -- What a line of `encode` comes to by what it says: a fact that is taken or is one candidate too many, a set that is asked
 -- for with its facts or before them, and a line that says nothing lawful; and what that is to the command.
-use Rattle.std.specs.Prelude.{◌≡◌, ℕ, ◌+◌, Bool, true, false, not, cond, List, [], ◌∷◌, Option, Some, None, Result, Ok, Err}
+use Rattle.std.specs.Prelude.{◌≡◌, ℕ, ◌+◌, Bool, true, false, not, cond, List, [], Option, Some, None, Result, Ok, Err}
 use Rattle.std.proofs.Common.{sym, ap, refl, subst, arith}
 use Rattle.call_io.specs.Bytes.{GrewPartly}
 use Rattle.msd_fit.specs.Fitting.{fits}
@@ -39,7 +39,7 @@ refuses facts place number why held held' draft' placed answer h =
     (sym placed)
     (ends.ends_refused (FromPlace facts (Err why)) number [] held held'
     (refusal_line (refused.Line (record { line = number; reason = why })))
-    (refused.Line (record { line = number; reason = why })) (λ texts. refl) answer h)
+    (refused.Line (record { line = number; reason = why })) (λ texts. refl) refl answer h)
 
 -- a candidate more than there may be has no place
 pub fifth : (facts : List FactLine) (f : FactLine) → false ≡ not (is_one_too_many facts f)
@@ -132,5 +132,5 @@ takes_line facts line held held' draft' answer says takes =
       ends.ends_as (FromPlace facts (encode_judged facts line.text)) (IsEncoded facts) line.number [] line.text held
           held' (λ texts r replied. by_place facts line.number line.text texts (encode_judged facts line.text) r refl
           replied) answer t,
-      ends.counts_end answer _ (λ texts. omega arith),
+      λ texts. omega arith,
     )

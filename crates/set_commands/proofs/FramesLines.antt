@@ -1,6 +1,6 @@
 -- What a line of `frames` comes to, as for every command over lines.
-use Rattle.std.specs.Prelude.{◌≡◌, ℕ, ◌+◌, ◌*◌, ◌<◌, ◌≤◌, List, [], ◌∷◌, ◌++◌, length, Option, Some, None, Result, Ok, Err}
-use Rattle.std.proofs.Common.{ap, sym, refl, subst, inl, inr, arith, length-append, append_assoc}
+use Rattle.std.specs.Prelude.{◌≡◌, ℕ, ◌+◌, ◌*◌, ◌<◌, ◌≤◌, List, [], ◌++◌, length, Option, Some, None, Result, Ok, Err}
+use Rattle.std.proofs.Common.{ap, sym, refl, subst, inl, inr, arith, length-append}
 use Rattle.link_frames.specs.Reading.{HasRead}
 use Rattle.link_frames.specs.Reading as frames
 use Rattle.link_frames.specs.Streams.{Holds, FrameStops}
@@ -13,7 +13,7 @@ use Rattle.set_commands.specs.Decode.{judged_set, octets_of_word, some_octets}
 use Rattle.set_commands.specs.Frames.{frame_lines, rest_line}
 use Rattle.command_base.specs.LineCommands.{Ends, EndsInput, EndsLine, GoesOn}
 use Rattle.command_base.specs.LineCommands as lines
-use Rattle.command_base.specs.Refusals.{Reply, refusal_line, refusal_reply, in_front_of}
+use Rattle.command_base.specs.Refusals.{line_of, refusal_line, refusal_reply, in_front_of}
 use Rattle.command_base.specs.declared.refusal.Refused.{Refused}
 use Rattle.command_base.specs.declared.refusal.Refused.TheVariants as refused
 use Rattle.command_base.specs.declared.status.Status.{Status}
@@ -73,6 +73,7 @@ module _ (before number : ℕ) (seen : FramesSeen) (reader reader' : frames.Read
         (record { text = frame_lines t.frames ++ refusal_line w; status = status.Refused w })) (sym t.is)
         (stops piece t.frames t.fault judged t.stops),
     t.wrote,
+    ap line_of t.is,
   )
   ends_piece piece judged status.WriteFault (turns.in_frames fs rest h grew) =
       ends.cut_text (FollowFrames seen) number line held held'
@@ -104,8 +105,8 @@ module _ (before number : ℕ) (seen : FramesSeen) (reader reader' : frames.Read
             (refused.Line (record { line = number; reason = reason }))
             (λ texts.
             by_place number line texts seen (Err reason)
-            (refusal_reply (refused.Line (record { line = number; reason = reason }))) judged refl) told h,
-        ends.counts_end told _ (λ texts. omega arith),
+            (refusal_reply (refused.Line (record { line = number; reason = reason }))) judged refl) refl told h,
+        λ texts. omega arith,
       )
   by_judged None (turns.by_octets piece judged few w) =
       let all : reader'.taken ≡ length (seen.stream ++ piece) = w.read.taken in
@@ -122,7 +123,7 @@ module _ (before number : ℕ) (seen : FramesSeen) (reader reader' : frames.Read
         counted = λ texts. omega arith;
       }
   by_judged (Some answer) (turns.by_octets piece judged few t) =
-      (ends_piece piece judged answer t, ends.counts_end answer _ (λ texts. omega arith))
+      (ends_piece piece judged answer t, λ texts. omega arith)
 
 -- what the command says of a line
 pub takes_line : (before : ℕ) (seen : FramesSeen) (reader reader' : frames.Reading) (line : Numbered)

@@ -32,6 +32,10 @@ frame_lines frames = flat_map frame_line frames
 abbrev pub rest_line : List ℕ → List ℕ
 rest_line rest = joined (codes "rest" ∷ decimal (length rest) ∷ []) ++ newline ∷ []
 
+-- the text behind that of the frames
+abbrev pub ClosesFrames : List ℕ → Type 0
+ClosesFrames text = (rest : List ℕ) × (text ≡ rest_line rest)
+
 -- A piece goes on with a stream that ended these frames: the frames that end in the piece stand in front of the reply
 -- to the rest.
 pub record EndsFrames (stream : List ℕ) (ended : List Frame) (piece : List ℕ)

@@ -1,12 +1,12 @@
 //! The command `decode`: sets of data in hexadecimal in, their descriptions out.
 
-ghost use Rattle.std.specs.Prelude.{◌≡◌, ℕ, ◌≤◌, true, Ok, Some, length, MatchOption};
-ghost use Rattle.call_io.specs.Blocks.{held, sink, way};
+ghost use Rattle.std.specs.Prelude.{◌≡◌, [], ℕ, ◌≤◌, true, Ok, Some, length, MatchOption};
+ghost use Rattle.call_io.specs.Blocks.{held, pending, sink, way};
 ghost use Rattle.call_io.specs.Ways.{Onward};
 ghost use Rattle.hex.specs.Hex.{decode_of};
 ghost use Rattle.line_input.specs.Lines.{most_in_line};
 ghost use Rattle.set_commands.specs.Decode.{AreDecoded, IsDecoded, judged_set, octets_in, some_octets};
-ghost use Rattle.command_base.specs.Outcome.{Outcome, ReadCause, WriteCause, streams_of};
+ghost use Rattle.command_base.specs.Outcome.{ClosesSilently, Outcome, ReadCause, ToldBefore, WriteCause, streams_of};
 ghost use Rattle.set_commands.specs.inner.DecodePlaces.{TakesPlace};
 ghost use Rattle.set_commands.specs.inner.DecodeLaws.{decode_lined};
 
@@ -32,6 +32,8 @@ impl LineCommand for Decode {
 
     ghost most = { λ seen number texts. 0 };
 
+    ghost closes = { ClosesSilently };
+
     ghost count = { λ s. record { name = 0; passes = 0 } };
 
     ghost wants_memory = { ⊥ };
@@ -54,6 +56,9 @@ pub fn decode_sets<I: Source, O: Sink>(input: &mut I, output: &mut Block<'_, O>)
     ensures outcome { (passes : ℕ) → Outcome IsDecoded (λ bytes. 0) true
         (streams_of I.left (held O.held) input.old output.old passes)
         (streams_of I.left (held O.held) input.new output.new passes) result }
+    ensures told { ToldBefore IsDecoded ClosesSilently (I.left input.old) (I.left input.new)
+        (held O.held output.old) (held O.held output.new) result }
+    ensures handed { result ≡ Status.ReadFault → pending output.new ≡ [] }
     ensures in_place { result ≡ Status.Memory → ⊥ }
     ensures unread { ReadCause result (I.faults input.old) (I.faults input.new) }
     ensures unwritten { WriteCause result (O.faults (sink output.old)) (O.faults (sink output.new)) }

@@ -1,7 +1,7 @@
 //! The command `encode`: facts of a vehicle in, the octets of the sets that fit them out.
 
-ghost use Rattle.std.specs.Prelude.{◌≡◌, ℕ, ◌≤◌, List, OnErr, OnOk, true, length, Some, MatchOption};
-ghost use Rattle.call_io.specs.Blocks.{held, sink, way};
+ghost use Rattle.std.specs.Prelude.{◌≡◌, [], ℕ, ◌≤◌, List, OnErr, OnOk, true, length, Some, MatchOption};
+ghost use Rattle.call_io.specs.Blocks.{held, pending, sink, way};
 ghost use Rattle.call_io.specs.Bytes.{Grew, GrewPartly};
 ghost use Rattle.call_io.specs.Counts.{Rose};
 ghost use Rattle.call_io.specs.Ways.{Onward};
@@ -10,7 +10,7 @@ ghost use Rattle.trace_text.specs.Drafts.{DraftOf};
 ghost use Rattle.trace_text.specs.Encode.{encode_line, encode_placed, encode_placed_line};
 ghost use Rattle.trace_text.specs.declared.encode.EncodeLine.TheVariants as says;
 ghost use Rattle.trace_text.specs.declared.fact_line.FactLine.{FactLine as Fact};
-ghost use Rattle.command_base.specs.Outcome.{Outcome, ReadCause, WriteCause, streams_of};
+ghost use Rattle.command_base.specs.Outcome.{ClosesSilently, Outcome, ReadCause, ToldBefore, WriteCause, streams_of};
 ghost use Rattle.set_commands.specs.Encode.{encode_reply, octets_line};
 ghost use Rattle.set_commands.specs.inner.EncodeLaws.{encode_lined};
 ghost use Rattle.set_commands.specs.inner.EncodePlaces.{IsEncoded, TakesPlace};
@@ -40,6 +40,8 @@ impl LineCommand for Encode {
 
     ghost most = { λ facts number texts. 0 };
 
+    ghost closes = { ClosesSilently };
+
     ghost count = { λ s. record { name = 0; passes = 0 } };
 
     ghost wants_memory = { ⊥ };
@@ -62,6 +64,9 @@ pub fn encode_sets<I: Source, O: Sink>(input: &mut I, output: &mut Block<'_, O>)
     ensures outcome { (passes : ℕ) → Outcome (λ bytes r. r ≡ encode_reply bytes) (λ bytes. 0) true
         (streams_of I.left (held O.held) input.old output.old passes)
         (streams_of I.left (held O.held) input.new output.new passes) result }
+    ensures told { ToldBefore (λ bytes r. r ≡ encode_reply bytes) ClosesSilently (I.left input.old) (I.left input.new)
+        (held O.held output.old) (held O.held output.new) result }
+    ensures handed { result ≡ Status.ReadFault → pending output.new ≡ [] }
     ensures in_place { result ≡ Status.Memory → ⊥ }
     ensures unread { ReadCause result (I.faults input.old) (I.faults input.new) }
     ensures unwritten { WriteCause result (O.faults (sink output.old)) (O.faults (sink output.new)) }

@@ -1,7 +1,7 @@
 //! The command `frames`: pieces of a stream of frames in hexadecimal in, the lines of its frames out.
 
 ghost use Rattle.std.specs.Prelude.{◌≡◌, ℕ, ◌≤◌, ◌<◌, ◌+◌, ◌*◌, ◌^◌, List, [], ◌∷◌, ◌++◌, OnErr, OnOk, IfOk, true, length, Some, None, Ok, MatchOption, MatchResult};
-ghost use Rattle.call_io.specs.Blocks.{held, sink, way};
+ghost use Rattle.call_io.specs.Blocks.{held, pending, sink, way};
 ghost use Rattle.call_io.specs.Bytes.{Grew, GrewPartly};
 ghost use Rattle.call_io.specs.Counts.{Rose};
 ghost use Rattle.call_io.specs.Ways.{Onward};
@@ -14,8 +14,8 @@ ghost use Rattle.trace_text.specs.Rooms.{frame_room};
 ghost use Rattle.line_input.specs.Lines.{most_in_line};
 ghost use Rattle.line_input.specs.Words.{only_word_of, words};
 ghost use Rattle.set_commands.specs.Decode.{octets_in, octets_of_word, some_octets};
-ghost use Rattle.set_commands.specs.Frames.{IsFrames, frame_line, rest_line};
-ghost use Rattle.command_base.specs.Outcome.{Outcome, ReadCause, WriteCause, streams_of};
+ghost use Rattle.set_commands.specs.Frames.{ClosesFrames, IsFrames, frame_line, rest_line};
+ghost use Rattle.command_base.specs.Outcome.{Outcome, ReadCause, ToldBefore, WriteCause, streams_of};
 ghost use Rattle.set_commands.specs.inner.FrameLaws.{frames_lined};
 ghost use Rattle.command_base.specs.Ends.{EndsWithText};
 ghost use Rattle.set_commands.specs.inner.FrameTurns.{FollowFrames, FramesSeen, FramesStand, IsOfLine, TakesLine, TakesOn, TakesPiece, last_line};
@@ -53,6 +53,8 @@ impl LineCommand for Frames {
 
     ghost most = { λ seen number texts. 0 };
 
+    ghost closes = { ClosesFrames };
+
     ghost count = { λ s. record { name = 0; passes = 0 } };
 
     ghost wants_memory = { ⊥ };
@@ -75,6 +77,9 @@ pub fn read_frames<I: Source, O: Sink>(input: &mut I, output: &mut Block<'_, O>)
     ensures outcome { (passes : ℕ) → Outcome IsFrames (λ bytes. 0) true
         (streams_of I.left (held O.held) input.old output.old passes)
         (streams_of I.left (held O.held) input.new output.new passes) result }
+    ensures told { ToldBefore IsFrames ClosesFrames (I.left input.old) (I.left input.new)
+        (held O.held output.old) (held O.held output.new) result }
+    ensures handed { result ≡ Status.ReadFault → pending output.new ≡ [] }
     ensures in_place { result ≡ Status.Memory → ⊥ }
     ensures unread { ReadCause result (I.faults input.old) (I.faults input.new) }
     ensures unwritten { WriteCause result (O.faults (sink output.old)) (O.faults (sink output.new)) }

@@ -40,7 +40,8 @@ module _ {Seen : Type 0} (Rest : Seen → ℕ → List (List ℕ) → Reply → 
   -- how a command ends: with this outcome, and all that its lines gave was written before a read that failed
   abbrev pub EndsWith : (closes : List ℕ → Type 0) → (start now : Streams) → Status → Type 0
   EndsWith closes start now answer =
-      Outcome RepliesFrom most_from true start now answer × ToldBefore RepliesFrom closes start now answer
+      Outcome RepliesFrom most_from true start now answer
+      × ToldBefore RepliesFrom closes start.left now.left start.held now.held answer
 
   -- what a turn comes to: the command stands behind one more line, or it ended
   abbrev pub TurnsTo : (closes : List ℕ → Type 0) → (Stands : ℕ → Seen → Type 0) → (start now : Streams)

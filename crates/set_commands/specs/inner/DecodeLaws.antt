@@ -6,7 +6,8 @@ use Rattle.line_input.specs.Words.{only_word_of, words}
 use Rattle.line_input.specs.declared.reason.Reason.{Reason}
 use Rattle.set_commands.specs.Decode.{AreDecoded, IsLineDecoded, judged_set, octets_of_word, some_octets}
 use Rattle.command_base.specs.LineCommands.{IsLined}
-use Rattle.command_base.specs.Refusals.{Reply, refusal_reply}
+use Rattle.command_base.specs.Outcome.{ClosesSilently}
+use Rattle.command_base.specs.Refusals.{refusal_reply}
 use Rattle.command_base.specs.declared.refusal.Refused.TheVariants as refused
 use Rattle.command_base.specs.declared.status.Status.TheVariants as status
 use Rattle.set_commands.specs.inner.DecodeReplies.{decoded_some}
@@ -22,10 +23,10 @@ pub judged_set-fault : (text : List ℕ) (why : Reason) → line_fault text ≡ 
 judged_set-fault text why h = rw (judged_set, h) refl
 
 -- the reply of `decode` is one to lines
-pub decode_lined : IsLined AreDecoded (λ number texts. 0)
+pub decode_lined : IsLined AreDecoded (λ number texts. 0) ClosesSilently
 decode_lined =
     record {
-      done = λ number. (record { text = []; status = status.Done }, refl, refl);
+      done = λ number. (record { text = []; status = status.Done }, refl, refl, refl);
       some = decoded_some;
       passed = λ number text texts r passed decoded.
           subst (λ (place : Result (Option (List ℕ)) Reason).

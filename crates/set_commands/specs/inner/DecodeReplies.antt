@@ -1,6 +1,6 @@
 -- Each list of lines has a reply of `decode`.
 use Rattle.std.specs.Prelude.{◌≡◌, ℕ, ◌+◌, ◌⊎◌, Bool, true, false, List, [], ◌∷◌, Option, Some, None, Result, Ok, Err, suc}
-use Rattle.std.proofs.Common.{sym, ◌∙◌, ap, refl, inl, inr}
+use Rattle.std.proofs.Common.{refl, inl, inr}
 use Rattle.hex.specs.Hex.{decode_of, IsBytes}
 use Rattle.hex.specs.declared.error.FromHexError.{FromHexError}
 use Rattle.hex.proofs.HexLemmas.{decode_of-ok}
@@ -9,8 +9,7 @@ use Rattle.per_bits.specs.declared.refusals.Refusal.{Refusal}
 use Rattle.msd_values.specs.Description.{description}
 use Rattle.msd_values.specs.declared.msd.Msd.{Msd}
 use Rattle.msd_codec.specs.Sets.{Shows, StopsAt}
-use Rattle.msd_codec.specs.Trees.{tree}
-use Rattle.msd_codec.proofs.SetLaws.{decided, apart, one_text, answer_read}
+use Rattle.msd_codec.proofs.SetLaws.{decided}
 use Rattle.line_input.specs.Lines.{line_fault, is_comment}
 use Rattle.line_input.specs.Words.{only_word_of, words}
 use Rattle.line_input.specs.declared.reason.Reason.{Reason}

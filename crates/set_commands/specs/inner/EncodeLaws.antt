@@ -1,12 +1,13 @@
 -- The law of `encode` as a command over lines, proved. Cited by that command.
-use Rattle.std.specs.Prelude.{◌≡◌, ℕ, ◌+◌, List, [], ◌∷◌, Option, Some, None, Result, Ok, Err}
-use Rattle.std.proofs.Common.{◌∙◌, sym, refl, ap, arith}
+use Rattle.std.specs.Prelude.{◌≡◌, ℕ, List, [], ◌∷◌, Option, Some, None, Result, Ok, Err}
+use Rattle.std.proofs.Common.{◌∙◌, refl, arith}
 use Rattle.line_input.specs.Lines.{line_fault, IsPassedOver, IsLine}
 use Rattle.line_input.specs.declared.reason.Reason.{Reason}
 use Rattle.trace_text.specs.Encode.{encode_judged, encode_line, encode_placed_line}
 use Rattle.trace_text.specs.declared.encode.EncodeLine.{EncodeLine}
 use Rattle.trace_text.specs.declared.fact_line.FactLine.{FactLine}
 use Rattle.command_base.specs.LineCommands.{IsLined}
+use Rattle.command_base.specs.Outcome.{ClosesSilently}
 use Rattle.command_base.specs.Refusals.{Reply, refusal_reply}
 use Rattle.command_base.specs.declared.refusal.Refused.TheVariants as refused
 use Rattle.command_base.specs.declared.status.Status.TheVariants as status
@@ -40,10 +41,10 @@ unfolding encoded_from
 encoded_end facts number = refl
 
 -- the reply of `encode` behind facts is one to lines
-pub encode_lined : (facts : List FactLine) → IsLined (IsEncoded facts) (λ number texts. 0)
+pub encode_lined : (facts : List FactLine) → IsLined (IsEncoded facts) (λ number texts. 0) ClosesSilently
 encode_lined facts =
     record {
-      done = λ number. (record { text = []; status = status.Done }, encoded_end facts number, refl);
+      done = λ number. (record { text = []; status = status.Done }, encoded_end facts number, refl, refl);
       some = λ number texts. (encoded_from facts number texts, refl);
       passed = λ number text texts r passed is.
           by_place facts number text texts (Ok None) r (judged-passed facts text passed) is;

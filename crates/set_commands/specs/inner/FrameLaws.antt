@@ -1,11 +1,10 @@
 -- The law of `frames` as a command over lines, proved. Cited by that command.
-use Rattle.std.specs.Prelude.{◌≡◌, ℕ, ◌+◌, List, [], ◌∷◌, Option, Some, None, Result, Ok, Err}
+use Rattle.std.specs.Prelude.{◌≡◌, ℕ, ◌+◌, List, ◌∷◌, Option, None, Result, Ok, Err}
 use Rattle.std.proofs.Common.{sym, refl, subst, arith}
 use Rattle.link_frames.specs.Reading as frames
-use Rattle.link_frames.specs.declared.frame.Frame.{Frame}
 use Rattle.line_input.specs.declared.reason.Reason.{Reason}
 use Rattle.set_commands.specs.Decode.{judged_set}
-use Rattle.set_commands.specs.Frames.{AreFrames, IsLineOfFrames, rest_line}
+use Rattle.set_commands.specs.Frames.{AreFrames, ClosesFrames, IsLineOfFrames, rest_line}
 use Rattle.command_base.specs.LineCommands.{IsLined}
 use Rattle.command_base.specs.Refusals.{Reply, refusal_reply}
 use Rattle.command_base.specs.declared.refusal.Refused.TheVariants as refused
@@ -25,13 +24,14 @@ by_place number text texts seen place r judged is =
 
 -- the reply behind a stream is one to lines
 pub frames_lined : (before : ℕ) (seen : FramesSeen) (reader : frames.Reading) → FramesStand before seen reader
-    → IsLined (FollowFrames seen) (λ number texts. 0)
+    → IsLined (FollowFrames seen) (λ number texts. 0) ClosesFrames
 frames_lined before seen reader s =
     record {
       done = λ number. (
         record { text = rest_line reader.kept; status = status.Done },
         record { unfinished = reader.kept; holds = s.read.holds; says = refl },
         refl,
+        (reader.kept, refl),
       );
       some = λ number texts. frames_some number texts seen.stream seen.ended reader.kept s.read.holds;
       passed = λ number text texts r passed follows.

@@ -1,17 +1,15 @@
 -- Each list of lines has a reply of `frames`, behind a stream that is read so far.
-use Rattle.std.specs.Prelude.{◌≡◌, ℕ, ◌+◌, List, [], ◌∷◌, ◌++◌, Option, Some, None, Result, Ok, Err}
-use Rattle.std.proofs.Common.{sym, ◌∙◌, ap, refl, subst, inl, inr}
+use Rattle.std.specs.Prelude.{ℕ, ◌+◌, List, [], ◌∷◌, ◌++◌, Option, Some, None, Result, Ok, Err}
+use Rattle.std.proofs.Common.{refl, inl, inr}
 use Rattle.link_frames.specs.Streams.{Holds}
-use Rattle.link_frames.specs.declared.fault.FrameFault.{FrameFault}
 use Rattle.link_frames.specs.declared.frame.Frame.{Frame}
-use Rattle.link_frames.proofs.StreamLemmas.{holds_or_stops, one_reading}
 use Rattle.line_input.specs.declared.reason.Reason.{Reason}
 use Rattle.set_commands.specs.Decode.{judged_set}
-use Rattle.set_commands.specs.Frames.{AreFrames, EndsFrames, IsLineOfFrames, frame_lines, rest_line}
+use Rattle.set_commands.specs.Frames.{AreFrames, IsLineOfFrames, frame_lines, rest_line}
 use Rattle.command_base.specs.Refusals.{Reply, refusal_reply, in_front_of}
 use Rattle.command_base.specs.declared.refusal.Refused.TheVariants as refused
 use Rattle.command_base.specs.declared.status.Status.TheVariants as status
-use Rattle.set_commands.specs.inner.FrameStreams.{Goes, goes, same_ended, same_stopped}
+use Rattle.set_commands.specs.inner.FrameStreams.{Goes, goes}
 
 -- lines have a reply behind each stream that is read so far
 abbrev HaveReply : (Rest : List ℕ → List Frame → Reply → Type 0) → Type 0

@@ -1,6 +1,6 @@
 -- Where the command `frames` stands between two lines, and what one more line, or a part of it, comes to. This
 -- project's profile. Cited by the contracts of the functions that read frames line by line.
-use Rattle.std.specs.Prelude.{◌≡◌, ℕ, ◌<◌, ◌≤◌, ◌*◌, List, [], ◌++◌, length, take, Option, Some, None, Result, Ok, Err}
+use Rattle.std.specs.Prelude.{◌≡◌, ℕ, ◌≤◌, ◌*◌, List, [], ◌++◌, length, take, Option, Some, None, Result, Ok, Err}
 use Rattle.call_io.specs.Bytes.{Grew, GrewPartly}
 use Rattle.link_frames.specs.Reading.{HasRead}
 use Rattle.link_frames.specs.Reading as frames

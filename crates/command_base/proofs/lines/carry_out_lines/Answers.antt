@@ -39,9 +39,12 @@ loop-status-smaller g c =
 
 pub loop-status-preserved : goal.loop-status-preserved
 loop-status-preserved g c =
-    let turns = c.in-None.ensures.turns _ c.requires.0 (c.loop-status.invariant.stands c.requires.0 c.requires.1) in
+    let start : Streams =
+    streams_of g.I.Source.left (held g.O.Sink.held) c.args.input.now c.args.output.now
+    (g.C.LineCommand.count c.args.command.now).passes in
+    let turns = c.in-None.ensures.turns start c.requires.0 (c.loop-status.invariant.stands c.requires.0 c.requires.1) in
     record {
-      stands = λ first stands. (c.in-None.ensures.turns _ first (c.loop-status.invariant.stands first stands)).0;
+      stands = λ first stands. (c.in-None.ensures.turns start first (c.loop-status.invariant.stands first stands)).0;
       bound = turns.2;
       named = c.in-None.ensures.named ∙ c.loop-status.invariant.named;
       silent = λ quiet. c.in-None.ensures.silent quiet tt ∙ c.loop-status.invariant.silent quiet;

@@ -13,3 +13,6 @@ returns-clause-outcome g c = λ passes.
     (g.I.Source.left c.carry_out_lines.new.input) (held g.O.Sink.held c.args.output.now)
     (held g.O.Sink.held c.carry_out_lines.new.output) passes c.carry_out_lines.result
     (c.carry_out_lines.ensures.outcome [] c.new-draft.ensures)
+
+pub returns-clause-told : goal.returns-clause-told
+returns-clause-told g c = c.carry_out_lines.ensures.told [] c.new-draft.ensures

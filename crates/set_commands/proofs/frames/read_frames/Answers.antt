@@ -1,7 +1,7 @@
 use Rattle.call_io.specs.Blocks.{held}
 use Rattle.std.proofs.Common.{[]}
 use Rattle.set_commands.specs.Frames.{IsFrames}
-use Rattle.set_commands.specs.inner.FrameTurns.{FramesSeen, FramesStand}
+use Rattle.set_commands.specs.inner.FrameTurns.{FramesStand}
 use Rattle.set_commands.proofs.FramesLines.{frames_first}
 use Rattle.command_base.proofs.LineEnds.{any_passes}
 use Rattle.set_commands.proofs.frames.read_frames.Goals as goal
@@ -17,3 +17,6 @@ returns-clause-outcome g c = λ passes.
     any_passes IsFrames (g.I.Source.left c.args.input.now) (g.I.Source.left c.carry_out_lines.new.input)
     (held g.O.Sink.held c.args.output.now) (held g.O.Sink.held c.carry_out_lines.new.output) passes
     c.carry_out_lines.result (c.carry_out_lines.ensures.outcome (record { stream = []; ended = [] }) first)
+
+pub returns-clause-told : goal.returns-clause-told
+returns-clause-told g c = c.carry_out_lines.ensures.told (record { stream = []; ended = [] }) (rw c.new-reader.ensures frames_first)
