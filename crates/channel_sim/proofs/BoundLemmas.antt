@@ -287,48 +287,46 @@ passes_more s f m before after first second =
     sums : (a b m before after : ℕ) → before ≤ m + a → after ≤ before + b → after ≤ m + (a + b)
     sums a b m before after first second = omega arith
 
-on_ok : {A E P Q : Type 0} (r : Result A E) → (P → Q) → OnOk r P → OnOk r Q
-on_ok (Ok a) f h = f h
-on_ok (Err e) f h = h
+-- a front of a step passes no more ends than the step
+pub passes_front : (s : Step) (f : World → Step) (m after : ℕ) → after ≤ m + passes_of s → after ≤ m + passes_of (and_then s f)
+passes_front s f m after few =
+    subst (λ n. after ≤ m + n) (sym (passes_then s f)) (sums (passes_of s) (passes_of (f s.world)) few)
+  where
+    sums : (a b : ℕ) → after ≤ m + a → after ≤ m + (a + b)
+    sums a b few = omega arith
 
-any_ok : {A E P : Type 0} (r : Result A E) → P → OnOk r P
+-- what holds of any answer holds where it is done
+pub any_ok : {A E P : Type 0} (r : Result A E) → P → OnOk r P
 any_ok (Ok a) h = h
 any_ok (Err e) h = tt
 
 -- one pass, for a step with an item
-pub once_ok : {A E : Type 0} (r : Result A E) (old new : ℕ) (s t : Step) → s ≡ t → 1 ≤ passes_of t → new ≤ old + 1
-    → OnOk r (new ≤ old + passes_of s)
-once_ok r old new s t e some once = any_ok r (subst (λ (z : Step). new ≤ old + passes_of z) (sym e) (sums (passes_of t) some))
+pub once_more : (old new : ℕ) (s t : Step) → s ≡ t → 1 ≤ passes_of t → new ≤ old + 1 → new ≤ old + passes_of s
+once_more old new s t e some once = subst (λ (z : Step). new ≤ old + passes_of z) (sym e) (sums (passes_of t) some)
   where
     sums : (n : ℕ) → 1 ≤ n → new ≤ old + n
     sums n some = omega arith
 
-pub settled_ok : {A E : Type 0} (r : Result A E) (w : World) (items : List Note) (v : Vehicle) (ks : List Call) (old new : ℕ)
-    → OnOk r (new ≤ old + passes_of (does_each (consequences (told w.tick items)) (did w items v ks).world))
-    → OnOk r (new + length items ≤ old + passes_of (settled (did w items v ks)))
-settled_ok r w items v ks old new h = on_ok r (λ least. subst (λ n. new + length items ≤ old + n) (sym (passes_settled w items v ks)) (sums (length items) _ least)) h
+-- items that were told, and what follows from them
+pub settled_more : (w : World) (items : List Note) (v : Vehicle) (ks : List Call) (old new : ℕ)
+    → new ≤ old + passes_of (does_each (consequences (told w.tick items)) (did w items v ks).world)
+    → new + length items ≤ old + passes_of (settled (did w items v ks))
+settled_more w items v ks old new least =
+    subst (λ n. new + length items ≤ old + n) (sym (passes_settled w items v ks)) (sums (length items) _ least)
   where
     sums : (a b : ℕ) → new ≤ old + b → new + a ≤ old + (a + b)
     sums a b least = omega arith
 
-pub fewer_ok : {A E : Type 0} (r : Result A E) (new n most : ℕ) → OnOk r (new + n ≤ most) → OnOk r (new ≤ most)
-fewer_ok r new n most h = on_ok r (λ least. fewer least) h
-  where
-    fewer : new + n ≤ most → new ≤ most
-    fewer least = omega arith
+pub settled_none : (w : World) (items : List Note) (v : Vehicle) (ks : List Call) (m : ℕ)
+    → m + length items ≤ m + passes_of (settled (did w items v ks))
+settled_none w items v ks m = settled_more w items v ks m m (omega arith)
+
+pub fewer : (new n most : ℕ) → new + n ≤ most → new ≤ most
+fewer new n most least = omega arith
 
 -- what an end does, and then what follows
-pub acted_ok : {A E : Type 0} (r : Result A E) (old mid new n most : ℕ) → mid ≤ old + n
-    → OnOk r (new + n ≤ mid + most) → OnOk r (new ≤ old + most)
-acted_ok r old mid new n most first h = on_ok r (λ least. sums least) h
-  where
-    sums : new + n ≤ mid + most → new ≤ old + most
-    sums least = omega arith
-
-pub then_ok : {A E : Type 0} (r : Result A E) (s : Step) (f : World → Step) (m before after : ℕ)
-    → before ≤ m + passes_of s → OnOk r (after ≤ before + passes_of (f s.world))
-    → OnOk r (after ≤ m + passes_of (and_then s f))
-then_ok r s f m before after first h = on_ok r (λ second. passes_more s f m before after first second) h
+pub acted_more : (old mid new n most : ℕ) → mid ≤ old + n → new + n ≤ mid + most → new ≤ old + most
+acted_more old mid new n most first least = omega arith
 
 pub ends_more : (n few most m before after : ℕ) → before ≤ m + n → after ≤ before + few → few ≤ most
     → after ≤ m + (n + most)
@@ -336,32 +334,32 @@ ends_more n few most m before after first second fall = omega arith
 
 -- a frame handed over
 
-pub handed_up_ok : {A E : Type 0} (r : Result A E) (d : Due) (w : World) (old mid new : ℕ)
+pub handed_up_more : (d : Due) (w : World) (old mid new : ℕ)
     → mid ≤ old + once_if (session_of d.call w.calls)
-    → OnOk r (new ≤ mid + passes_of (performs (model.Session d.call (point.Arrives d.frame)) w))
-    → OnOk r (new ≤ old + passes_of (hands_up d w))
-handed_up_ok r d w old mid new = at (session_of d.call w.calls)
+    → new ≤ mid + passes_of (performs (model.Session d.call (point.Arrives d.frame)) w)
+    → new ≤ old + passes_of (hands_up d w)
+handed_up_more d w old mid new = at (session_of d.call w.calls)
   where
     row : Point → Row Point
     row s = point.point_row s (point.Arrives d.frame)
 
     at : (o : Option Point) → mid ≤ old + once_if o
-        → OnOk r (new ≤ mid + passes_of (settled (session_acts d.call w row o)))
-        → OnOk r (new ≤ old + passes_of (if is_some o then one_handed (settled (session_acts d.call w row o)) else quiet_step w))
-    at None once h = on_ok r (λ least. none least once) h
+        → new ≤ mid + passes_of (settled (session_acts d.call w row o))
+        → new ≤ old + passes_of (if is_some o then one_handed (settled (session_acts d.call w row o)) else quiet_step w)
+    at None once least = none least once
       where
         none : new ≤ mid + 0 → mid ≤ old + 0 → new ≤ old + 0
         none least once = omega arith
-    at (Some s) once h = on_ok r (λ least. one (length (settled (session_acts d.call w row (Some s))).entries) (settled (session_acts d.call w row (Some s))).handed least once) h
+    at (Some s) once least = one (length (settled (session_acts d.call w row (Some s))).entries) (settled (session_acts d.call w row (Some s))).handed least once
       where
         one : (a b : ℕ) → new ≤ mid + (a + b) → mid ≤ old + 1 → new ≤ old + (a + (b + 1))
         one a b least once = omega arith
 
-pub handed_down_ok : {A E : Type 0} (r : Result A E) (d : Due) (w : World) (old mid new : ℕ)
-    → vehicle_is_in d.call w ≡ true → mid ≤ old + 1 → new ≡ mid → OnOk r (new ≤ old + passes_of (hands_down d w))
-handed_down_ok r d w old mid new inside once still =
-    any_ok r (subst (λ b. new ≤ old + passes_of (if b then one_handed (performs (model.InCall d.call (vehicle.Arrives d.frame)) w) else quiet_step w)) (sym inside)
-    (one (length (performs (model.InCall d.call (vehicle.Arrives d.frame)) w).entries) (performs (model.InCall d.call (vehicle.Arrives d.frame)) w).handed))
+pub handed_down_more : (d : Due) (w : World) (old mid new : ℕ)
+    → vehicle_is_in d.call w ≡ true → mid ≤ old + 1 → new ≡ mid → new ≤ old + passes_of (hands_down d w)
+handed_down_more d w old mid new inside once still =
+    subst (λ b. new ≤ old + passes_of (if b then one_handed (performs (model.InCall d.call (vehicle.Arrives d.frame)) w) else quiet_step w)) (sym inside)
+    (one (length (performs (model.InCall d.call (vehicle.Arrives d.frame)) w).entries) (performs (model.InCall d.call (vehicle.Arrives d.frame)) w).handed)
   where
     one : (a b : ℕ) → new ≤ old + (a + (b + 1))
     one a b = omega arith

@@ -70,7 +70,7 @@ impl Channel {
             CameNow (H.grew to.old to.new) (H.partly to.old to.new) result self.new (happens happening.now w) }
         ensures faults { CountsFaults result (H.faults to.old) (H.faults to.new) }
         ensures passes { (w : model.World) → StandsNow self.old w →
-            OnOk result (moments.new ≤ moments.old + happening_passes happening.now w) }
+            moments.new ≤ moments.old + happening_passes happening.now w }
     {
         let given = &mut room.given;
         match happening {

@@ -21,7 +21,7 @@ pub struct World {
 }
 
 impl World {
-    ghost use Rattle.std.specs.Prelude.{◌≡◌, ◌+◌, ◌^◌, ◌<◌, ◌≤◌, ℕ, OnOk, IfOk, IfErr, ◌++◌, List};
+    ghost use Rattle.std.specs.Prelude.{◌≡◌, ◌+◌, ◌^◌, ◌<◌, ◌≤◌, ℕ, OnOk, OnErr, IfOk, IfErr, ◌++◌, List};
     ghost use Rattle.std.specs.Option.{option_copied};
     ghost use Rattle.ivs_machine.specs.IvsStands.{IvsStandsFor};
     ghost use Rattle.ivs_machine.specs.Vehicle.{vehicle_call};
@@ -108,13 +108,14 @@ impl World {
         ensures cause { IfErr result (λ e. SimFaultCause e (H.faults to.old) (H.faults to.new)) }
         ensures counted { H.faults to.old ≤ H.faults to.new }
         ensures passes { (w : model.World) → WorldStandsFor self w →
-            OnOk result (moments.new ≤ moments.old + lines.passes_within w event.now) }
+            moments.new ≤ moments.old + lines.passes_within w event.now }
     {
         self.advance(alloc, event, to, moments)?;
         Ok(self)
     }
 
-    /// As `step`, in place.
+    /// As `step`, in place. After a failure the world is spent: its ticks and call numbers are those in front of the
+    /// line, and of its ends and calls nothing is known.
     pub fn advance<H: Listener, L: Ledger>(
         &mut self,
         alloc: Global,
@@ -132,15 +133,26 @@ impl World {
             OnOk result (calls_drawn self.new ≤ calls_drawn self.old + 1) }
         ensures reached { (w : model.World) → WorldStandsFor self.old w →
             OnOk result (ticks_reached self.new ≤ ticks_reached self.old + 4294967295) }
+        ensures spent { OnErr result
+            ((ticks_reached self.new ≡ ticks_reached self.old) × (calls_drawn self.new ≡ calls_drawn self.old)) }
         ensures stood { OnOk result (H.faults to.new ≡ H.faults to.old) }
         ensures cause { IfErr result (λ e. SimFaultCause e (H.faults to.old) (H.faults to.new)) }
         ensures counted { H.faults to.old ≤ H.faults to.new }
         ensures passes { (w : model.World) → WorldStandsFor self.old w →
-            OnOk result (moments.new ≤ moments.old + lines.passes_within w event.now) }
+            moments.new ≤ moments.old + lines.passes_within w event.now }
     {
         let happening = happening_of(event);
-        self.channel
-            .plays(alloc, &happening, &mut self.room, to, moments)?;
-        Ok(())
+        let (tick, drawn) = (self.channel.tick, self.channel.drawn);
+        match self
+            .channel
+            .plays(alloc, &happening, &mut self.room, to, moments)
+        {
+            Ok(()) => Ok(()),
+            Err(fault) => {
+                self.channel.tick = tick;
+                self.channel.drawn = drawn;
+                Err(fault)
+            }
+        }
     }
 }

@@ -97,8 +97,7 @@ impl Channel {
         ensures passes { (ahead : ℕ) (floor : ℕ) (clock : ℕ → ℕ) (w : model.World) (v : Vehicle)
             (ks : List model.Call) →
             IsReady ahead floor clock self.old w v ks call → ahead ≡ self.old.tick → self.old.tick < floor + 2 ^ 32 →
-            OnOk result
-            (moments.new + length items.now ≤ moments.old + passes_of (model.settled (model.did w items.now v ks))) }
+            moments.new + length items.now ≤ moments.old + passes_of (model.settled (model.did w items.now v ks)) }
         ensures still { self.old.passed ≡ self.old.tick → (self.new.passed ≡ self.new.tick)
             × (moments.new ≡ moments.old) }
     {
@@ -197,8 +196,7 @@ impl Channel {
         ensures passes { (ahead : ℕ) (floor : ℕ) (clock : ℕ → ℕ) (w : model.World) →
             StandsAt ahead floor clock self.old w →
             ahead ≡ self.old.tick → IsCaught clock number self.old.calls → self.old.tick < floor + 2 ^ 32 →
-            OnOk result
-            (moments.new ≤ moments.old + passes_of (model.performs (model.Session number (point.heard event.now)) w)) }
+            moments.new ≤ moments.old + passes_of (model.performs (model.Session number (point.heard event.now)) w) }
         ensures still { self.old.passed ≡ self.old.tick → (self.new.passed ≡ self.new.tick)
             × (moments.new ≡ moments.old) }
     {
@@ -228,8 +226,8 @@ impl Channel {
         ensures faults { CountsFaults result (H.faults to.old) (H.faults to.new) }
         ensures passes { (ahead : ℕ) (floor : ℕ) (clock : ℕ → ℕ) (w : model.World) →
             StandsAt ahead floor clock self.old w →
-            ahead ≡ self.old.tick → self.old.tick < floor + 2 ^ 32 → OnOk result
-            (moments.new ≤ moments.old + passes_of (model.does_each (model.consequence note.now) w)) }
+            ahead ≡ self.old.tick → self.old.tick < floor + 2 ^ 32 →
+            moments.new ≤ moments.old + passes_of (model.does_each (model.consequence note.now) w) }
         ensures still { self.old.passed ≡ self.old.tick → (self.new.passed ≡ self.new.tick)
             × (moments.new ≡ moments.old) }
     {
@@ -264,8 +262,8 @@ impl Channel {
         ensures faults { CountsFaults result (H.faults to.old) (H.faults to.new) }
         ensures passes { (ahead : ℕ) (floor : ℕ) (clock : ℕ → ℕ) (w : model.World) →
             StandsAt ahead floor clock self.old w →
-            ahead ≡ self.old.tick → self.old.tick < floor + 2 ^ 32 → OnOk result
-            (moments.new ≤ moments.old + passes_of (model.does_each (model.consequences (told w.tick items.now)) w)) }
+            ahead ≡ self.old.tick → self.old.tick < floor + 2 ^ 32 →
+            moments.new ≤ moments.old + passes_of (model.does_each (model.consequences (told w.tick items.now)) w) }
         ensures still { self.old.passed ≡ self.old.tick → (self.new.passed ≡ self.new.tick)
             × (moments.new ≡ moments.old) }
     {

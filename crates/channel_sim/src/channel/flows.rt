@@ -72,8 +72,8 @@ impl Channel {
         ensures faults { CountsFaults result (H.faults to.old) (H.faults to.new) }
         ensures passes { (ahead floor : ℕ) (w : model.World) → StandsAt ahead floor (λ c. ahead) self.old w →
             ahead ≡ self.old.tick →
-            self.old.tick < floor + 2 ^ 32 → OnOk result (moments.new ≤ moments.old +
-            passes_of (model.hands_up (record { call = number; frame = full frame.now }) w)) }
+            self.old.tick < floor + 2 ^ 32 → moments.new ≤ moments.old +
+            passes_of (model.hands_up (record { call = number; frame = full frame.now }) w) }
     {
         catch_session_up(&mut self.calls, number, self.tick, &mut given.own, moments);
         let event = PointEvent::Frame(frame.lend());
@@ -98,8 +98,8 @@ impl Channel {
         ensures faults { CountsFaults result (H.faults to.old) (H.faults to.new) }
         ensures passes { (ahead floor : ℕ) (w : model.World) → StandsAt ahead floor (λ c. ahead) self.old w →
             ahead ≡ self.old.tick →
-            self.old.tick < floor + 2 ^ 32 → OnOk result (moments.new ≤ moments.old +
-            passes_of (model.hands_down (record { call = number; frame = full frame.now }) w)) }
+            self.old.tick < floor + 2 ^ 32 → moments.new ≤ moments.old +
+            passes_of (model.hands_down (record { call = number; frame = full frame.now }) w) }
     {
         if self.vehicle.call() != Some(number) {
             return Ok(());
@@ -127,8 +127,8 @@ impl Channel {
         ensures faults { CountsFaults result (H.faults to.old) (H.faults to.new) }
         ensures passes { (ahead floor : ℕ) (w : model.World) → StandsAt ahead floor (λ c. ahead) self.old w →
             ahead ≡ self.old.tick →
-            self.old.tick < floor + 2 ^ 32 → OnOk result (moments.new ≤ moments.old +
-            passes_of (hands_way up (due_of due.now) w)) }
+            self.old.tick < floor + 2 ^ 32 → moments.new ≤ moments.old +
+            passes_of (hands_way up (due_of due.now) w) }
     {
         if up {
             self.hand_up(alloc, due.call, &due.frame, given, to, moments)
@@ -155,8 +155,8 @@ impl Channel {
         ensures faults { CountsFaults result (H.faults to.old) (H.faults to.new) }
         ensures passes { (ahead floor : ℕ) (w : model.World) → StandsAt ahead floor (λ c. ahead) self.old w →
             ahead ≡ self.old.tick →
-            self.old.tick < floor + 2 ^ 32 → OnOk result (moments.new ≤ moments.old + passes_of
-            (model.each (hands_way up) (map due_of due.now) w)) }
+            self.old.tick < floor + 2 ^ 32 → moments.new ≤ moments.old + passes_of
+            (model.each (hands_way up) (map due_of due.now) w) }
     {
         for one in due {
             self.hand(alloc, up, one, given, to, moments)?;
@@ -181,7 +181,7 @@ impl Channel {
         ensures faults { CountsFaults result (H.faults to.old) (H.faults to.new) }
         ensures passes { (ahead floor : ℕ) (w : model.World) → StandsAt ahead floor (λ c. ahead) self.old w →
             ahead ≡ self.old.tick → self.old.tick < floor + 2 ^ 32 →
-            OnOk result (moments.new ≤ moments.old + passes_of (flows_by up w)) }
+            moments.new ≤ moments.old + passes_of (flows_by up w) }
     {
         let mut near = room.near.at(up);
         self.list_due(up, &mut room.due, &mut near)?;

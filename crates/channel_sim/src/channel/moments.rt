@@ -191,8 +191,8 @@ impl Channel {
         ensures tick { self.new.tick ≡ self.old.tick }
         ensures faults { CountsFaults result (H.faults to.old) (H.faults to.new) }
         ensures passes { (floor before : ℕ) (w : model.World) → StandsAt before floor (λ c. before) self.old w →
-            before + 1 ≡ self.old.tick → self.old.tick < floor + 2 ^ 32 → OnOk result
-            (moments.new ≤ moments.old + passes_of (model.vehicle_passes w)) }
+            before + 1 ≡ self.old.tick → self.old.tick < floor + 2 ^ 32 →
+            moments.new ≤ moments.old + passes_of (model.vehicle_passes w) }
     {
         let call = self.vehicle.call();
         if self.vehicle_act(&mut given.own, moments) {
@@ -222,8 +222,8 @@ impl Channel {
         ensures passes { (ahead floor : ℕ) (before after : ℕ → ℕ) (w : model.World) →
             StandsAt ahead floor before self.old w →
             ahead ≡ self.old.tick → before number + 1 ≡ ahead → after number ≡ ahead → AreSameBut number before after →
-            self.old.tick < floor + 2 ^ 32 → OnOk result (moments.new ≤ moments.old + passes_of
-            (model.session_passes number w)) }
+            self.old.tick < floor + 2 ^ 32 → moments.new ≤ moments.old + passes_of
+            (model.session_passes number w) }
     {
         if act_session(&mut self.calls, number, self.tick, &mut given.own, moments) {
             let items = given.own.as_slice();
@@ -252,8 +252,8 @@ impl Channel {
         ensures passes { (ahead floor before : ℕ) (w : model.World) →
             StandsAt ahead floor (clock_of before numbers.now) self.old w →
             ahead ≡ self.old.tick → before + 1 ≡ ahead → AreAbove 0 numbers.now →
-            self.old.tick < floor + 2 ^ 32 → OnOk result
-            (moments.new ≤ moments.old + passes_of (model.each model.session_passes numbers.now w)) }
+            self.old.tick < floor + 2 ^ 32 →
+            moments.new ≤ moments.old + passes_of (model.each model.session_passes numbers.now w) }
     {
         for number in numbers {
             self.session_passes(alloc, *number, given, to, moments)?;
@@ -276,8 +276,8 @@ impl Channel {
         ensures tick { self.new.tick ≡ self.old.tick }
         ensures faults { CountsFaults result (H.faults to.old) (H.faults to.new) }
         ensures passes { (ahead floor before : ℕ) (w : model.World) → StandsAt ahead floor (λ c. before) self.old w →
-            ahead ≡ self.old.tick → before + 1 ≡ ahead → self.old.tick < floor + 2 ^ 32 → OnOk result
-            (moments.new ≤ moments.old + passes_of (model.sessions_pass w)) }
+            ahead ≡ self.old.tick → before + 1 ≡ ahead → self.old.tick < floor + 2 ^ 32 →
+            moments.new ≤ moments.old + passes_of (model.sessions_pass w) }
     {
         list_numbers(self.calls.acting(self.tick), &mut room.numbers)?;
         self.each_session_passes(alloc, &room.numbers, &mut room.given, to, moments)
@@ -299,8 +299,8 @@ impl Channel {
         ensures tick { self.new.tick ≡ self.old.tick }
         ensures faults { CountsFaults result (H.faults to.old) (H.faults to.new) }
         ensures passes { (floor before : ℕ) (w : model.World) → StandsAt before floor (λ c. before) self.old w →
-            before + 1 ≡ self.old.tick → self.old.tick < floor + 2 ^ 32 → OnOk result
-            (moments.new ≤ moments.old + passes_of (model.and_then (model.vehicle_passes w) model.sessions_pass)) }
+            before + 1 ≡ self.old.tick → self.old.tick < floor + 2 ^ 32 →
+            moments.new ≤ moments.old + passes_of (model.and_then (model.vehicle_passes w) model.sessions_pass) }
     {
         if next > self.tick {
             return Ok(());
@@ -327,7 +327,7 @@ impl Channel {
         ensures faults { CountsFaults result (H.faults to.old) (H.faults to.new) }
         ensures passes { (ahead floor : ℕ) (w : model.World) → StandsAt ahead floor (λ c. ahead) self.old w →
             ahead ≡ self.old.tick → self.old.tick < floor + 2 ^ 32 →
-            OnOk result (moments.new ≤ moments.old + passes_of (flows_by up w)) }
+            moments.new ≤ moments.old + passes_of (flows_by up w) }
     {
         if self.tick < next {
             return Ok(());
@@ -358,8 +358,7 @@ impl Channel {
             self.old.tick + n + 1 ≡ tick → QuietFor n w →
             (tick < next.now.acts → EndsRest (n + 1) w) → (tick < next.now.up → UpRests (n + 1) w) →
             (tick < next.now.down → DownRests (n + 1) w) →
-            tick < floor + 2 ^ 32 → OnOk result
-            (moments.new ≤ moments.old + passes_of (model.units (n + 1) w)) }
+            tick < floor + 2 ^ 32 → moments.new ≤ moments.old + passes_of (model.units (n + 1) w) }
     {
         self.tick = tick;
         self.ends_from(alloc, next.acts, room, to, moments)?;
@@ -392,8 +391,8 @@ impl Channel {
         ensures step { (w : model.World) → StandsNow self.old w →
             CameNow (H.grew to.old to.new) (H.partly to.old to.new) result self.new (model.units n w) }
         ensures faults { CountsFaults result (H.faults to.old) (H.faults to.new) }
-        ensures passes { (w : model.World) → StandsNow self.old w → OnOk result
-            (moments.new ≤ moments.old + (passes_of (model.units n w) + model.ends w)) }
+        ensures passes { (w : model.World) → StandsNow self.old w →
+            moments.new ≤ moments.old + (passes_of (model.units n w) + model.ends w) }
     {
         let end = self.tick + u64::from(n);
         while self.tick < end {

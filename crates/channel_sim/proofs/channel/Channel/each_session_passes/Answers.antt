@@ -1,4 +1,4 @@
-use Rattle.channel_sim.proofs.BoundLemmas.{passes_more}
+use Rattle.channel_sim.proofs.BoundLemmas.{passes_front, passes_more}
 use Rattle.channel_sim.specs.Passes.{passes_of}
 use Rattle.std.proofs.Common.{◌≡◌, suc, ◌+◌, ◌<◌, ◌≤◌, ◌∷◌, length, take, drop, get_or, refl, ap, sym, ◌∙◌, subst, add-one, drop-cons, ◌^◌, arith}
 use Rattle.std.proofs.lemmas.List.{drop_all}
@@ -38,7 +38,7 @@ loop-number-preserved g c =
           let front : Step = each session_passes (take i ns) w in
           let above : AreAbove x rest = above_behind 0 ns i 0 listed inside in
           let split : drop i ns ≡ x ∷ rest = drop-cons ns i 0 inside in
-          let did = c.in_ok-session_passes.ensures.passes ahead floor (clock_of before (x ∷ rest)) (clock_of before rest) front.world
+          let did = c.session_passes.ensures.passes ahead floor (clock_of before (x ∷ rest)) (clock_of before rest) front.world
           (subst (λ ms. StandsAt ahead floor (clock_of before ms) c.loop-number.self front.world) split so_far.1) (now ∙ sym c.loop-number.invariant.tick)
           (ap (λ t. t + 1) (clock_first before x rest) ∙ next) (clock_gone before x rest above ∙ next) (clock_same before x rest)
           (subst (λ t. t < floor + 2 ^ 32) (sym c.loop-number.invariant.tick) small) in
@@ -105,3 +105,25 @@ returns-clause-passes g c =
     let i = c.loop-number.number-index in
     let past : length ns ≤ i = c.loop-number-test.false in
     subst (λ ms. c.loop-number.moments ≤ c.args.moments.now + passes_of (each session_passes ms w)) (take_all i ns past) (c.loop-number.invariant.passes ahead floor before w s now next listed small)
+
+pub returns-in_err-session_passes-clause-passes : goal.returns-in_err-session_passes-clause-passes
+returns-in_err-session_passes-clause-passes g c =
+    λ ahead floor before w s now next listed small.
+    let ns = c.args.numbers.now in
+    let i = c.loop-number.number-index in
+    let x = get_or ns i 0 in
+    let rest = drop (suc i) ns in
+    let inside : i < length ns = c.loop-number-test.true in
+    let so_far = c.loop-number.invariant.came ahead floor before w s now next listed in
+    let front : Step = each session_passes (take i ns) w in
+    let above : AreAbove x rest = above_behind 0 ns i 0 listed inside in
+    let split : drop i ns ≡ x ∷ rest = drop-cons ns i 0 inside in
+    let did = c.session_passes.ensures.passes ahead floor (clock_of before (x ∷ rest)) (clock_of before rest) front.world
+    (subst (λ ms. StandsAt ahead floor (clock_of before ms) c.loop-number.self front.world) split so_far.1) (now ∙ sym c.loop-number.invariant.tick)
+    (ap (λ t. t + 1) (clock_first before x rest) ∙ next) (clock_gone before x rest above ∙ next) (clock_same before x rest)
+    (subst (λ t. t < floor + 2 ^ 32) (sym c.loop-number.invariant.tick) small) in
+    let more = each_more session_passes ns i x w inside (same_at ns i inside) in
+    let all = each_all session_passes ns (i + 1) w in
+    let Few = λ (z : Step). c.session_passes.new.moments ≤ c.args.moments.now + passes_of z in
+    let part = subst Few (sym more) (passes_more front (session_passes x) c.args.moments.now c.loop-number.moments c.session_passes.new.moments (c.loop-number.invariant.passes ahead floor before w s now next listed small) did) in
+    subst Few (sym all) (passes_front (each session_passes (take (i + 1) ns) w) (each session_passes (drop (i + 1) ns)) c.args.moments.now c.session_passes.new.moments part)

@@ -1,4 +1,4 @@
-use Rattle.channel_sim.proofs.BoundLemmas.{passes_more, units_ends, ends_more}
+use Rattle.channel_sim.proofs.BoundLemmas.{passes_front, passes_more, units_ends, ends_more}
 use Rattle.channel_sim.specs.Passes.{passes_of}
 use Rattle.std.proofs.Common.{◌≡◌, ◌≤◌, ◌+◌, ◌++◌, ◌-◌, refl, ap, sym, ◌∙◌, subst, arith, ◌<◌, ◌^◌}
 use Rattle.std.proofs.lemmas.Result.{err_from_is_err_and}
@@ -83,7 +83,7 @@ loop-self-preserved g c =
           let next : now + n + 1 ≡ c.max-tick.result = quiet.1 ∙ sym c.max-tick.ensures in
           let few : c.args.n < 2 ^ 32 = c.ranges.n.fits in
           let small : c.max-tick.result < start + 2 ^ 32 = omega (arith, c.if-tick-end.false, c.from.ensures) in
-          let did = c.in_ok-moment.ensures.passes start n front.world so_far.1 next quiet.2
+          let did = c.moment.ensures.passes start n front.world so_far.1 next quiet.2
           (λ late. c.next_moment-next.ensures.acts start (n + 1) front.world so_far.1 (omega (arith, late, next)))
           (λ late. c.next_moment-next.ensures.up start (n + 1) front.world so_far.1 (omega (arith, late, next)))
           (λ late. c.next_moment-next.ensures.down start (n + 1) front.world so_far.1 (omega (arith, late, next))) small in
@@ -169,3 +169,31 @@ returns-clause-passes g c =
     let fall = units_ends (now - start) w in
     subst (λ m. c.catch_all_up.new.moments ≤ c.args.moments.now + (passes_of (units m w) + ends w)) e
     (ends_more (passes_of (units (now - start) w)) (ends (units (now - start) w).world) (ends w) c.args.moments.now c.loop-self.moments c.catch_all_up.new.moments (c.loop-self.invariant.passes w s) caught fall)
+
+pub returns-in_err-moment-clause-passes : goal.returns-in_err-moment-clause-passes
+returns-in_err-moment-clause-passes g c =
+    λ w s.
+    let start = c.args.self.now.tick in
+    let now = c.loop-self.self.tick in
+    let began : start ≤ now = c.loop-self.invariant.began in
+    let so_far = c.loop-self.invariant.came w s in
+    let k = now - start in
+    let front : Step = units k w in
+    let quiet = moment_quiet start now c.first_of.result c.loop-self.self front.world so_far.1
+    (λ n low. quiet_until n now c.first_of.result c.next_moment-next.result.acts c.next_moment-next.result.up c.next_moment-next.result.down front.world c.first_of.ensures.acts c.first_of.ensures.up c.first_of.ensures.down
+    (c.next_moment-next.ensures.acts start n front.world so_far.1) (c.next_moment-next.ensures.up start n front.world so_far.1) (c.next_moment-next.ensures.down start n front.world so_far.1) low) in
+    let n = quiet.0 in
+    let next : now + n + 1 ≡ c.max-tick.result = quiet.1 ∙ sym c.max-tick.ensures in
+    let few : c.args.n < 2 ^ 32 = c.ranges.n.fits in
+    let small : c.max-tick.result < start + 2 ^ 32 = omega (arith, c.if-tick-end.false, c.from.ensures) in
+    let did = c.moment.ensures.passes start n front.world so_far.1 next quiet.2
+    (λ late. c.next_moment-next.ensures.acts start (n + 1) front.world so_far.1 (omega (arith, late, next)))
+    (λ late. c.next_moment-next.ensures.up start (n + 1) front.world so_far.1 (omega (arith, late, next)))
+    (λ late. c.next_moment-next.ensures.down start (n + 1) front.world so_far.1 (omega (arith, late, next))) small in
+    let within : c.max-tick.result ≤ start + c.from.result = omega (arith, c.if-tick-end.false) in
+    let rest = (start + c.from.result) - c.max-tick.result in
+    let e : c.args.n ≡ (k + (n + 1)) + rest = omega (arith, c.from.ensures) in
+    let Few = λ (z : Step). c.moment.new.moments ≤ c.args.moments.now + passes_of z in
+    let part = subst Few (sym (units_add k (n + 1) w)) (passes_more front (units (n + 1)) c.args.moments.now c.loop-self.moments c.moment.new.moments (c.loop-self.invariant.passes w s) did) in
+    let all = subst Few (sym (ap (λ m. units m w) e ∙ units_add (k + (n + 1)) rest w)) (passes_front (units (k + (n + 1)) w) (units rest) c.args.moments.now c.moment.new.moments part) in
+    omega (arith, all)

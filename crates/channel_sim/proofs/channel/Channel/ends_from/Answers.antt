@@ -1,4 +1,4 @@
-use Rattle.channel_sim.proofs.BoundLemmas.{then_ok}
+use Rattle.channel_sim.proofs.BoundLemmas.{passes_front, passes_more}
 use Rattle.std.proofs.Common.{sym, subst, ◌<◌, ◌+◌, ◌^◌}
 use Rattle.std.proofs.lemmas.Result.{err_from_is_err_and}
 use Rattle.channel_sim.specs.World as model
@@ -33,6 +33,11 @@ returns-clause-passes g c =
     let kept = c.args.self.now in
     let tick = c.vehicle_passes.ensures.tick in
     let d1 = c.in_ok-vehicle_passes.ensures.step floor before w s next in
-    let p1 = c.in_ok-vehicle_passes.ensures.passes floor before w s next small in
+    let p1 = c.vehicle_passes.ensures.passes floor before w s next small in
     let p2 = c.sessions_pass.ensures.passes kept.tick floor before (model.vehicle_passes w).world d1.1 (sym tick) next (subst (λ t. t < floor + 2 ^ 32) (sym tick) small) in
-    then_ok c.sessions_pass.result (model.vehicle_passes w) model.sessions_pass c.args.moments.now c.vehicle_passes.new.moments c.sessions_pass.new.moments p1 p2
+    passes_more (model.vehicle_passes w) model.sessions_pass c.args.moments.now c.vehicle_passes.new.moments c.sessions_pass.new.moments p1 p2
+
+pub returns-in_err-vehicle_passes-clause-passes : goal.returns-in_err-vehicle_passes-clause-passes
+returns-in_err-vehicle_passes-clause-passes g c =
+    λ floor before w s next small.
+    passes_front (model.vehicle_passes w) model.sessions_pass c.args.moments.now c.vehicle_passes.new.moments (c.vehicle_passes.ensures.passes floor before w s next small)

@@ -1,4 +1,4 @@
-use Rattle.std.proofs.Common.{◌≤◌, ◌+◌, OnOk, [], ap, ◌∙◌, subst, map}
+use Rattle.std.proofs.Common.{◌≤◌, ◌+◌, [], ap, ◌∙◌, subst, map}
 use Rattle.std.proofs.lemmas.Result.{err_from_is_err_and}
 use Rattle.channel_sim.specs.World.{each}
 use Rattle.channel_sim.specs.Handing.{due_of, hands_way}
@@ -25,6 +25,6 @@ returns-clause-step g c =
 pub returns-clause-passes : goal.returns-clause-passes
 returns-clause-passes g c =
     λ ahead floor w s now small.
-    subst (λ ds. OnOk c.hand_each.result (c.hand_each.new.moments ≤ c.args.moments.now + passes_of (each (hands_way c.args.up) ds w)))
+    subst (λ ds. c.hand_each.new.moments ≤ c.args.moments.now + passes_of (each (hands_way c.args.up) ds w))
     (ap (map due_of) c.deref.ensures.value ∙ c.in_ok-list_due.ensures ahead floor w s)
     (c.hand_each.ensures.passes ahead floor w s now small)

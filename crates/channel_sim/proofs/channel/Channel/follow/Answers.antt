@@ -1,6 +1,6 @@
-use Rattle.channel_sim.proofs.BoundLemmas.{passes_more}
+use Rattle.channel_sim.proofs.BoundLemmas.{passes_front, passes_more}
 use Rattle.channel_sim.specs.Passes.{passes_of}
-use Rattle.std.proofs.Common.{◌≡◌, ◌+◌, take, arith, refl, sym, ◌∙◌, subst, ◌≤◌, ◌<◌, ◌^◌}
+use Rattle.std.proofs.Common.{◌≡◌, ◌+◌, take, drop, arith, refl, sym, ◌∙◌, subst, ◌≤◌, ◌<◌, ◌^◌}
 use Rattle.std.proofs.lemmas.Result.{err_from_is_err_and}
 use Rattle.trace_model.specs.History.{told}
 use Rattle.channel_sim.specs.World.{Step, does_each, consequences, consequence}
@@ -27,7 +27,7 @@ loop-note-preserved g c =
           λ ahead floor clock w s now small.
           let before = does_each (consequences (told w.tick (take c.loop-note.note-index c.args.items.now))) w in
           let so_far = c.loop-note.invariant.came ahead floor clock w s now in
-          let next = c.in_ok-follow_one.ensures.passes ahead floor clock before.world so_far.1 (now ∙ sym c.loop-note.invariant.tick) (subst (λ t. t < floor + 2 ^ 32) (sym c.loop-note.invariant.tick) small) in
+          let next = c.follow_one.ensures.passes ahead floor clock before.world so_far.1 (now ∙ sym c.loop-note.invariant.tick) (subst (λ t. t < floor + 2 ^ 32) (sym c.loop-note.invariant.tick) small) in
           let more = follow_more w.tick w c.args.items.now c.loop-note.note-index c.note-item.result c.loop-note-test.true c.note-item.is in
           subst (λ (z : Step). c.follow_one.new.moments ≤ c.args.moments.now + passes_of z) (sym more)
           (passes_more before (does_each (consequence c.note-item.result)) c.args.moments.now c.loop-note.moments c.follow_one.new.moments (c.loop-note.invariant.passes ahead floor clock w s now small) next);
@@ -72,3 +72,16 @@ returns-clause-passes g c =
     let all : take c.loop-note.note-index c.args.items.now ≡ c.args.items.now = take_all c.loop-note.note-index c.args.items.now (omega (arith, c.loop-note-test.false)) in
     subst (λ items. c.loop-note.moments ≤ c.args.moments.now + passes_of (does_each (consequences (told w.tick items)) w)) all
     (c.loop-note.invariant.passes ahead floor clock w s now small)
+
+pub returns-in_err-follow_one-clause-passes : goal.returns-in_err-follow_one-clause-passes
+returns-in_err-follow_one-clause-passes g c =
+    λ ahead floor clock w s now small.
+    let before = does_each (consequences (told w.tick (take c.loop-note.note-index c.args.items.now))) w in
+    let so_far = c.loop-note.invariant.came ahead floor clock w s now in
+    let next = c.follow_one.ensures.passes ahead floor clock before.world so_far.1 (now ∙ sym c.loop-note.invariant.tick) (subst (λ t. t < floor + 2 ^ 32) (sym c.loop-note.invariant.tick) small) in
+    let more = follow_more w.tick w c.args.items.now c.loop-note.note-index c.note-item.result c.loop-note-test.true c.note-item.is in
+    let all = follow_all w.tick w c.args.items.now (c.loop-note.note-index + 1) in
+    let Few = λ (z : Step). c.follow_one.new.moments ≤ c.args.moments.now + passes_of z in
+    let front = subst Few (sym more)
+    (passes_more before (does_each (consequence c.note-item.result)) c.args.moments.now c.loop-note.moments c.follow_one.new.moments (c.loop-note.invariant.passes ahead floor clock w s now small) next) in
+    subst Few (sym all) (passes_front (does_each (consequences (told w.tick (take (c.loop-note.note-index + 1) c.args.items.now))) w) (does_each (consequences (told w.tick (drop (c.loop-note.note-index + 1) c.args.items.now)))) c.args.moments.now c.follow_one.new.moments front)

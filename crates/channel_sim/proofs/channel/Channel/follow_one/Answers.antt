@@ -1,4 +1,4 @@
-use Rattle.channel_sim.proofs.BoundLemmas.{hangup_gives, once_ok}
+use Rattle.channel_sim.proofs.BoundLemmas.{hangup_gives, once_more}
 use Rattle.std.proofs.Common.{◌≡◌, ◌-◌, if◌then◌else◌, ap, sym, ◌∙◌, subst}
 use Rattle.link_frames.specs.declared.note.Why.TheVariants as why
 use Rattle.ivs_machine.specs.VehicleRows as vehicle
@@ -49,6 +49,6 @@ returns-else-ne-clause-passes g c =
     let act = model.InCall c.in-HangsUp.call vehicle.Hangup in
     let inside = in_call (ahead - c.args.self.now.passed) c.in-HangsUp.call c.args.self.now.vehicle w.vehicle c.call.result c.call.ensures s.vehicle c.if-ne.ensures in
     let did : model.does act w ≡ model.vehicle_did w (vehicle.vehicle_row w.vehicle vehicle.Hangup) = ap (λ b. if b then model.vehicle_did w (vehicle.vehicle_row w.vehicle vehicle.Hangup) else model.quiet_step w) inside in
-    once_ok c.vehicle_hears.result c.args.moments.now c.catch_vehicle_up.new.moments (model.does_each (model.consequence c.args.note.now) w) (model.vehicle_did w (vehicle.vehicle_row w.vehicle vehicle.Hangup))
+    once_more c.args.moments.now c.catch_vehicle_up.new.moments (model.does_each (model.consequence c.args.note.now) w) (model.vehicle_did w (vehicle.vehicle_row w.vehicle vehicle.Hangup))
     (ap (λ acts. model.does_each acts w) c.in-HangsUp.ensures ∙ quiet_behind (model.does act w) ∙ did) (hangup_gives w)
     (c.catch_vehicle_up.ensures.passes ahead floor clock w s now small)

@@ -1,4 +1,4 @@
-use Rattle.channel_sim.proofs.BoundLemmas.{handed_down_ok}
+use Rattle.channel_sim.proofs.BoundLemmas.{handed_down_more}
 use Rattle.std.proofs.Common.{◌-◌, ap, sym, ◌∙◌, subst}
 use Rattle.ivs_machine.specs.VehicleRows as vehicle
 use Rattle.channel_sim.specs.World as model
@@ -28,5 +28,5 @@ returns-clause-passes g c =
     let inside = in_call (ahead - kept.passed) c.args.number kept.vehicle w.vehicle c.call.result c.call.ensures s.vehicle c.if-ne.ensures in
     let same = c.catch_vehicle_up.ensures.same in
     let still = c.vehicle_performs.ensures.still (ap (λ x. x.passed) same ∙ sym (ap (λ x. x.tick) same)) in
-    handed_down_ok c.vehicle_performs.result (record { call = c.args.number; frame = full c.args.frame.now }) w c.args.moments.now c.catch_vehicle_up.new.moments c.vehicle_performs.new.moments inside
+    handed_down_more (record { call = c.args.number; frame = full c.args.frame.now }) w c.args.moments.now c.catch_vehicle_up.new.moments c.vehicle_performs.new.moments inside
     (c.catch_vehicle_up.ensures.passes ahead floor (λ d. ahead) w s now small) still.1

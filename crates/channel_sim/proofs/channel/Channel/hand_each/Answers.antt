@@ -1,6 +1,6 @@
-use Rattle.channel_sim.proofs.BoundLemmas.{passes_more}
+use Rattle.channel_sim.proofs.BoundLemmas.{passes_front, passes_more}
 use Rattle.channel_sim.specs.Passes.{passes_of}
-use Rattle.std.proofs.Common.{◌+◌, ◌<◌, ◌≤◌, length, take, map, refl, sym, ◌∙◌, subst, ◌^◌, arith}
+use Rattle.std.proofs.Common.{◌+◌, ◌<◌, ◌≤◌, length, take, drop, map, refl, sym, ◌∙◌, subst, ◌^◌, arith}
 use Rattle.std.proofs.lemmas.Result.{err_from_is_err_and}
 use Rattle.channel_sim.specs.World.{World, Step, each}
 use Rattle.channel_sim.specs.Handing.{due_of, hands_way}
@@ -29,7 +29,7 @@ loop-one-preserved g c =
           λ ahead floor w s now small.
           let so_far = c.loop-one.invariant.came ahead floor w s now in
           let front : Step = each (hands_way c.args.up) (take i ds) w in
-          let did = c.in_ok-hand.ensures.passes ahead floor front.world so_far.1 (now ∙ sym c.loop-one.invariant.tick) (subst (λ t. t < floor + 2 ^ 32) (sym c.loop-one.invariant.tick) small) in
+          let did = c.hand.ensures.passes ahead floor front.world so_far.1 (now ∙ sym c.loop-one.invariant.tick) (subst (λ t. t < floor + 2 ^ 32) (sym c.loop-one.invariant.tick) small) in
           let more = each_more (hands_way c.args.up) ds i d w inside (map_at due_of c.args.due.now i c.one-item.result c.loop-one-test.true c.one-item.is) in
           subst (λ (z : Step). c.hand.new.moments ≤ c.args.moments.now + passes_of z) (sym more)
           (passes_more front ((hands_way c.args.up) d) c.args.moments.now c.loop-one.moments c.hand.new.moments (c.loop-one.invariant.passes ahead floor w s now small) did);
@@ -78,3 +78,19 @@ returns-clause-passes g c =
     let past : length ds ≤ i = subst (λ n. n ≤ i) (sym (map_length due_of c.args.due.now)) c.loop-one-test.false in
     subst (λ z. c.loop-one.moments ≤ c.args.moments.now + passes_of (each (hands_way c.args.up) z w)) (take_all i ds past)
     (c.loop-one.invariant.passes ahead floor w s now small)
+
+pub returns-in_err-hand-clause-passes : goal.returns-in_err-hand-clause-passes
+returns-in_err-hand-clause-passes g c =
+    λ ahead floor w s now small.
+    let ds = map due_of c.args.due.now in
+    let i = c.loop-one.one-index in
+    let d = due_of c.one-item.result in
+    let inside : i < length ds = subst (λ n. i < n) (sym (map_length due_of c.args.due.now)) c.loop-one-test.true in
+    let so_far = c.loop-one.invariant.came ahead floor w s now in
+    let front : Step = each (hands_way c.args.up) (take i ds) w in
+    let did = c.hand.ensures.passes ahead floor front.world so_far.1 (now ∙ sym c.loop-one.invariant.tick) (subst (λ t. t < floor + 2 ^ 32) (sym c.loop-one.invariant.tick) small) in
+    let more = each_more (hands_way c.args.up) ds i d w inside (map_at due_of c.args.due.now i c.one-item.result c.loop-one-test.true c.one-item.is) in
+    let all = each_all (hands_way c.args.up) ds (i + 1) w in
+    let Few = λ (z : Step). c.hand.new.moments ≤ c.args.moments.now + passes_of z in
+    let part = subst Few (sym more) (passes_more front ((hands_way c.args.up) d) c.args.moments.now c.loop-one.moments c.hand.new.moments (c.loop-one.invariant.passes ahead floor w s now small) did) in
+    subst Few (sym all) (passes_front (each (hands_way c.args.up) (take (i + 1) ds) w) (each (hands_way c.args.up) (drop (i + 1) ds)) c.args.moments.now c.hand.new.moments part)

@@ -1,6 +1,6 @@
-use Rattle.channel_sim.proofs.BoundLemmas.{handed_up_ok}
+use Rattle.channel_sim.proofs.BoundLemmas.{handed_up_more}
 use Rattle.channel_sim.specs.Passes.{passes_of}
-use Rattle.std.proofs.Common.{refl, sym, subst, ◌+◌, ◌≤◌, OnOk}
+use Rattle.std.proofs.Common.{refl, sym, subst, ◌+◌, ◌≤◌}
 use Rattle.psap_machine.specs.PointRows as point
 use Rattle.channel_sim.specs.World as model
 use Rattle.channel_sim.specs.Lag.{CameAt, StandsAt}
@@ -33,6 +33,6 @@ returns-clause-passes g c =
     let moved = record kept { calls = c.catch_session_up.new.calls } in
     let s1 = with_calls t floor (λ d. t) kept moved w s0 refl (c.catch_session_up.ensures.lags floor w.calls s0.calls s0.tidy.numbers) in
     let did = c.session_performs.ensures.passes t floor (λ d. t) w s1 refl (c.catch_session_up.ensures.caught floor w.calls s0.calls s0.tidy.numbers) small in
-    handed_up_ok c.session_performs.result (record { call = c.args.number; frame = full c.args.frame.now }) w c.args.moments.now c.catch_session_up.new.moments c.session_performs.new.moments
+    handed_up_more (record { call = c.args.number; frame = full c.args.frame.now }) w c.args.moments.now c.catch_session_up.new.moments c.session_performs.new.moments
     (c.catch_session_up.ensures.passes floor w.calls s0.calls s0.tidy.numbers small)
-    (subst (λ f. OnOk c.session_performs.result (c.session_performs.new.moments ≤ c.catch_session_up.new.moments + passes_of (model.performs (model.Session c.args.number (point.Arrives f)) w))) c.lend.ensures did)
+    (subst (λ f. c.session_performs.new.moments ≤ c.catch_session_up.new.moments + passes_of (model.performs (model.Session c.args.number (point.Arrives f)) w)) c.lend.ensures did)

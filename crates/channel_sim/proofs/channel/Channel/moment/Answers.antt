@@ -1,6 +1,6 @@
-use Rattle.channel_sim.proofs.BoundLemmas.{passes_more, then_ok}
+use Rattle.channel_sim.proofs.BoundLemmas.{passes_front, passes_more}
 use Rattle.channel_sim.specs.Passes.{passes_of}
-use Rattle.std.proofs.Common.{◌+◌, sym, ◌∙◌, subst, ◌≡◌, ℕ, ◌≤◌, ◌<◌, ◌^◌, OnOk}
+use Rattle.std.proofs.Common.{◌+◌, sym, ◌∙◌, subst, ◌≡◌, ℕ, ◌≤◌, ◌<◌, ◌^◌}
 use Rattle.std.proofs.lemmas.Result.{err_from_is_err_and}
 use Rattle.channel_sim.specs.World as model
 use Rattle.channel_sim.specs.Lag.{CameAt}
@@ -62,14 +62,44 @@ returns-clause-passes g c =
     let w1 : model.World = record (aged_world n w) { tick = (aged_world n w).tick + 1 } in
     let stands = jumped floor n c.args.tick kept w s quiet next in
     let d2 = c.in_ok-ends_from.ensures.step floor (kept.tick + n) w1 stands next (λ late. ends_next n w (rests late)) in
-    let m2 = c.in_ok-ends_from.ensures.passes floor (kept.tick + n) w1 stands next small in
+    let m2 = c.ends_from.ensures.passes floor (kept.tick + n) w1 stands next small in
     let s2 : model.Step = model.and_then (model.vehicle_passes w1) model.sessions_pass in
     let t2 = c.ends_from.ensures.tick in
     let d3 = c.in_ok-flows_from.ensures.step c.args.tick floor s2.world d2.1 (sym t2) (λ late. none_up n w (no_up (subst (λ t. t < c.args.next.now.up) t2 late))) in
-    let p3 = c.in_ok-flows_from.ensures.passes c.args.tick floor s2.world d2.1 (sym t2) (at _ t2) in
+    let p3 = c.flows_from.ensures.passes c.args.tick floor s2.world d2.1 (sym t2) (at _ t2) in
     let s3 : model.Step = model.and_then s2 model.flows_up in
     let m3 = passes_more s2 model.flows_up m0 c.ends_from.new.moments c.flows_from.new.moments m2 p3 in
     let t3 = c.flows_from.ensures.tick ∙ t2 in
     let p4 = c.flows_from-2.ensures.passes c.args.tick floor s3.world d3.1 (sym t3) (at _ t3) in
-    subst (λ (z : model.Step). OnOk c.flows_from-2.result (c.flows_from-2.new.moments ≤ m0 + passes_of z)) (sym (units_jump floor n kept w s quiet))
-    (then_ok c.flows_from-2.result s3 model.flows_down m0 c.flows_from.new.moments c.flows_from-2.new.moments m3 p4)
+    subst (λ (z : model.Step). c.flows_from-2.new.moments ≤ m0 + passes_of z) (sym (units_jump floor n kept w s quiet))
+    (passes_more s3 model.flows_down m0 c.flows_from.new.moments c.flows_from-2.new.moments m3 p4)
+
+pub returns-in_err-ends_from-clause-passes : goal.returns-in_err-ends_from-clause-passes
+returns-in_err-ends_from-clause-passes g c =
+    λ floor n w s next quiet rests no_up no_down small.
+    let kept = c.args.self.now in
+    let m0 = c.args.moments.now in
+    let w1 : model.World = record (aged_world n w) { tick = (aged_world n w).tick + 1 } in
+    let m2 = c.ends_from.ensures.passes floor (kept.tick + n) w1 (jumped floor n c.args.tick kept w s quiet next) next small in
+    let s2 : model.Step = model.and_then (model.vehicle_passes w1) model.sessions_pass in
+    let s3 : model.Step = model.and_then s2 model.flows_up in
+    subst (λ (z : model.Step). c.ends_from.new.moments ≤ m0 + passes_of z) (sym (units_jump floor n kept w s quiet))
+    (passes_front s3 model.flows_down m0 c.ends_from.new.moments (passes_front s2 model.flows_up m0 c.ends_from.new.moments m2))
+
+pub returns-in_err-flows_from-clause-passes : goal.returns-in_err-flows_from-clause-passes
+returns-in_err-flows_from-clause-passes g c =
+    λ floor n w s next quiet rests no_up no_down small.
+    let kept = c.args.self.now in
+    let m0 = c.args.moments.now in
+    let at = λ (t : ℕ) (e : t ≡ c.args.tick). subst (λ u. u < floor + 2 ^ 32) (sym e) small in
+    let w1 : model.World = record (aged_world n w) { tick = (aged_world n w).tick + 1 } in
+    let stands = jumped floor n c.args.tick kept w s quiet next in
+    let d2 = c.in_ok-ends_from.ensures.step floor (kept.tick + n) w1 stands next (λ late. ends_next n w (rests late)) in
+    let m2 = c.ends_from.ensures.passes floor (kept.tick + n) w1 stands next small in
+    let s2 : model.Step = model.and_then (model.vehicle_passes w1) model.sessions_pass in
+    let t2 = c.ends_from.ensures.tick in
+    let p3 = c.flows_from.ensures.passes c.args.tick floor s2.world d2.1 (sym t2) (at _ t2) in
+    let s3 : model.Step = model.and_then s2 model.flows_up in
+    let m3 = passes_more s2 model.flows_up m0 c.ends_from.new.moments c.flows_from.new.moments m2 p3 in
+    subst (λ (z : model.Step). c.flows_from.new.moments ≤ m0 + passes_of z) (sym (units_jump floor n kept w s quiet))
+    (passes_front s3 model.flows_down m0 c.flows_from.new.moments m3)

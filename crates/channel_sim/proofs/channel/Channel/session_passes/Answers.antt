@@ -1,6 +1,6 @@
-use Rattle.channel_sim.proofs.BoundLemmas.{acted_ok}
+use Rattle.channel_sim.proofs.BoundLemmas.{acted_more}
 use Rattle.channel_sim.specs.Passes.{passes_of}
-use Rattle.std.proofs.Common.{ap, ◌≡◌, true, refl, sym, ◌∙◌, subst, ◌+◌, ◌≤◌, OnOk, length, arith}
+use Rattle.std.proofs.Common.{ap, ◌≡◌, true, refl, sym, ◌∙◌, subst, ◌+◌, ◌≤◌, length, arith}
 use Rattle.std.specs.Option.{is_some}
 use Rattle.psap_machine.specs.PointRows as point
 use Rattle.channel_sim.specs.World as model
@@ -39,10 +39,10 @@ returns-then-act_session-clause-passes g c =
     let there : is_some (model.session_of c.args.number w.calls) ≡ true = did.acts c.if-act_session.true in
     let seats = model.seated c.args.number (seat_after point.unit_row (model.session_of c.args.number w.calls)) w.calls in
     let given = c.as_slice-items.result.now in
-    let Step = λ (z : model.Step). OnOk c.settles.result (c.settles.new.moments ≤ c.args.moments.now + passes_of (model.settled z)) in
+    let Step = λ (z : model.Step). c.settles.new.moments ≤ c.args.moments.now + passes_of (model.settled z) in
     subst Step (sym (session_step c.args.number w point.unit_row there))
     (subst (λ items. Step (model.did w items w.vehicle seats)) (c.as_slice-items.ensures.value ∙ did.items)
-    (acted_ok c.settles.result c.args.moments.now c.act_session.new.moments c.settles.new.moments (length given) (passes_of (model.settled (model.did w given w.vehicle seats)))
+    (acted_more c.args.moments.now c.act_session.new.moments c.settles.new.moments (length given) (passes_of (model.settled (model.did w given w.vehicle seats)))
     (subst (λ items. c.act_session.new.moments ≤ c.args.moments.now + length items) (sym c.as_slice-items.ensures.value) (c.act_session.ensures.passes floor before w.calls s.calls s.tidy.numbers))
     (c.settles.ensures.passes ahead floor after w w.vehicle seats
     (session_ready ahead floor before after kept (record kept { calls = c.act_session.new.calls }) w c.args.number _ _ point.unit_row s refl did) now small)))

@@ -1,6 +1,6 @@
-use Rattle.channel_sim.proofs.BoundLemmas.{fewer_ok}
+use Rattle.channel_sim.proofs.BoundLemmas.{fewer}
 use Rattle.channel_sim.specs.Passes.{passes_of}
-use Rattle.std.proofs.Common.{◌≡◌, true, false, refl, ap, sym, ◌∙◌, subst, ◌+◌, ◌≤◌, OnOk, length}
+use Rattle.std.proofs.Common.{◌≡◌, true, false, refl, ap, sym, ◌∙◌, subst, ◌+◌, ◌≤◌, length}
 use Rattle.std.specs.Option.{is_some}
 use Rattle.psap_machine.specs.Point.{Point}
 use Rattle.psap_machine.specs.PointRows as point
@@ -43,9 +43,9 @@ returns-then-hear_session-clause-passes g c =
     let heard = c.hear_session.ensures.did floor clock w.calls s.calls s.tidy.numbers caught in
     let there : is_some (model.session_of c.args.number w.calls) ≡ true = sym (c.hear_session.ensures.variant floor clock w.calls s.calls s.tidy.numbers) ∙ c.if-hear_session.true in
     let after = model.seated c.args.number (seat_after row (model.session_of c.args.number w.calls)) w.calls in
-    let Step = λ (z : model.Step). OnOk c.settles.result (c.settles.new.moments ≤ c.args.moments.now + passes_of (model.settled z)) in
+    let Step = λ (z : model.Step). c.settles.new.moments ≤ c.args.moments.now + passes_of (model.settled z) in
     subst Step (sym (session_step c.args.number w row there))
     (subst (λ items. Step (model.did w items w.vehicle after)) (c.as_slice-items.ensures.value ∙ heard.items)
-    (fewer_ok c.settles.result c.settles.new.moments (length c.as_slice-items.result.now) (c.args.moments.now + passes_of (model.settled (model.did w c.as_slice-items.result.now w.vehicle after)))
+    (fewer c.settles.new.moments (length c.as_slice-items.result.now) (c.args.moments.now + passes_of (model.settled (model.did w c.as_slice-items.result.now w.vehicle after)))
     (c.settles.ensures.passes ahead floor clock w w.vehicle after
     (session_ready ahead floor clock clock kept (record kept { calls = c.hear_session.new.calls }) w c.args.number _ _ row s refl heard) now small)))

@@ -1,4 +1,4 @@
-use Rattle.std.proofs.Common.{◌≡◌, ◌≤◌, ◌+◌, [], take, drop, OnOk, sym, ◌∙◌, ap, subst}
+use Rattle.std.proofs.Common.{◌≡◌, ◌≤◌, ◌+◌, [], take, drop, sym, ◌∙◌, ap, subst}
 use Rattle.std.proofs.lemmas.List.{drop-map}
 use Rattle.std.proofs.lemmas.Result.{err_from_is_err_and}
 use Rattle.std.specs.List.{AllByRecursion}
@@ -48,7 +48,7 @@ returns-clause-passes g c =
     ∙ ap (drop f) (sym (same_numbers floor (λ d. before) kept.calls w.calls s.calls)) in
     let same : each session_passes c.deref.result.now u ≡ sessions_pass w =
     ap (λ ns. each session_passes ns u) listed ∙ sym (waiting_pass ahead floor before f kept w s wait) in
-    subst (λ (z : Step). OnOk c.each_session_passes.result (c.each_session_passes.new.moments ≤ c.args.moments.now + passes_of z)) same
+    subst (λ (z : Step). c.each_session_passes.new.moments ≤ c.args.moments.now + passes_of z) same
     (c.each_session_passes.ensures.passes ahead floor before u
     (subst (λ ns. StandsAt ahead floor (clock_of before ns) kept u) (sym listed) (waiting_stand ahead floor before f kept w s wait)) now next
     (subst (AreAbove 0) (sym listed) (above_drop 0 f (numbers_of w.calls) s.tidy.numbers)) small)

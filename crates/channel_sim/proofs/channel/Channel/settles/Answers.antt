@@ -1,4 +1,4 @@
-use Rattle.channel_sim.proofs.BoundLemmas.{settled_ok}
+use Rattle.channel_sim.proofs.BoundLemmas.{settled_more, settled_none}
 use Rattle.std.proofs.Common.{sym, ◌∙◌, ◌+◌, ◌<◌, ◌^◌, subst}
 use Rattle.std.proofs.lemmas.Result.{err_from_is_err_and}
 use Rattle.channel_sim.specs.World as model
@@ -26,5 +26,8 @@ returns-clause-passes g c =
     λ ahead floor clock w v ks ready now small.
     let first = model.did w c.args.items.now v ks in
     let did = c.in_ok-did.ensures.step ahead floor clock w v ks ready in
-    settled_ok c.follow.result w c.args.items.now v ks c.args.moments.now c.follow.new.moments
+    settled_more w c.args.items.now v ks c.args.moments.now c.follow.new.moments
     (c.follow.ensures.passes ahead floor clock first.world did.1 (now ∙ sym c.did.ensures.tick) (subst (λ t. t < floor + 2 ^ 32) (sym c.did.ensures.tick) small))
+
+pub returns-in_err-did-clause-passes : goal.returns-in_err-did-clause-passes
+returns-in_err-did-clause-passes g c = λ ahead floor clock w v ks ready now small. settled_none w c.args.items.now v ks c.args.moments.now

@@ -1,6 +1,6 @@
-use Rattle.channel_sim.proofs.BoundLemmas.{acted_ok}
+use Rattle.channel_sim.proofs.BoundLemmas.{acted_more}
 use Rattle.channel_sim.specs.Passes.{passes_of}
-use Rattle.std.proofs.Common.{ap, sym, ◌∙◌, subst, ◌+◌, ◌-◌, ◌≤◌, ◌<◌, ◌^◌, OnOk, length, arith}
+use Rattle.std.proofs.Common.{ap, sym, ◌∙◌, subst, ◌+◌, ◌-◌, ◌≤◌, ◌<◌, ◌^◌, length, arith}
 use Rattle.ivs_machine.specs.VehicleRows as vehicle
 use Rattle.channel_sim.specs.World as model
 use Rattle.channel_sim.specs.Lag.{CameAt, StandsAt}
@@ -40,9 +40,9 @@ returns-then-vehicle_act-clause-passes g c =
     let acts = c.vehicle_act.ensures.acts before w.vehicle s.vehicle s.passed next c.if-vehicle_act.true in
     let call = lagging_call _ kept.vehicle w.vehicle c.call-call.result c.call-call.ensures s.vehicle in
     let tick = sym (ap (λ x. x.tick) c.vehicle_act.ensures.same) in
-    subst (λ items. OnOk c.settles.result (c.settles.new.moments ≤ c.args.moments.now + passes_of (model.settled (model.did w items row.new w.calls))))
+    subst (λ items. c.settles.new.moments ≤ c.args.moments.now + passes_of (model.settled (model.did w items row.new w.calls)))
     (c.as_slice-items.ensures.value ∙ acts.0)
-    (acted_ok c.settles.result c.args.moments.now c.vehicle_act.new.moments c.settles.new.moments (length given) (passes_of (model.settled (model.did w given row.new w.calls)))
+    (acted_more c.args.moments.now c.vehicle_act.new.moments c.settles.new.moments (length given) (passes_of (model.settled (model.did w given row.new w.calls)))
     (subst (λ items. c.vehicle_act.new.moments ≤ c.args.moments.now + length items) (sym c.as_slice-items.ensures.value) (c.vehicle_act.ensures.passes (before - kept.passed) w.vehicle s.vehicle c.if-vehicle_act.true))
     (c.settles.ensures.passes kept.tick floor (λ d. before) w row.new w.calls
     (vehicle_passed_ready floor before (λ d. before) kept moved w row.new c.call-call.result s next c.vehicle_act.ensures.same (c.vehicle_act.ensures.some c.if-vehicle_act.true) acts.1 call)
