@@ -1,4 +1,5 @@
-/* The codec that asn1c generates from format2.asn1, over lines of hexadecimal on standard input.
+/* The codec that asn1c generates from format2.asn1, or with FORMAT1 defined from format1.asn1, over lines of hexadecimal on
+ * standard input.
  *
  *   generated text            twenty lines for each set, those that `ecall decode` writes; the generated decoder drops
  *                             additions that it doesn't know, so where a set has some these lines say `none`
@@ -84,6 +85,17 @@ static char stored(const BOOLEAN_t *mark)
 	return mark && *mark ? '1' : '0';
 }
 
+/* Whether other energies are marked, which sets of format 1 don't say. */
+static char other_stored(const VehiclePropulsionStorageType_t *fuel)
+{
+#ifdef FORMAT1
+	(void)fuel;
+	return '0';
+#else
+	return stored(fuel->other);
+#endif
+}
+
 static void print_octets(const uint8_t *octets, int size)
 {
 	if (!size)
@@ -145,7 +157,7 @@ static void print_lines(const ECallMessage_t *message)
 	printf("vin %s%s%s%s\n", vin->manufacturer.buf, vin->vehicle.buf, vin->modelYear.buf, vin->number.buf);
 	printf("fuel %c%c%c%c%c%c%c\nfuel_more none\n", stored(fuel->gasoline), stored(fuel->diesel),
 	       stored(fuel->compressedNaturalGas), stored(fuel->liquidPropaneGas), stored(fuel->electric),
-	       stored(fuel->hydrogen), stored(fuel->other));
+	       stored(fuel->hydrogen), other_stored(fuel));
 	printf("time %lu %s\n", set->timestamp, text);
 	print_place("latitude", set->vehicleLocation.latitude);
 	print_place("longitude", set->vehicleLocation.longitude);

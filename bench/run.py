@@ -1,7 +1,7 @@
 #!/usr/bin/env python3
 """run.py PROGRAM: how many sets of data `PROGRAM decode` reads and describes a second, in 4 MB of address space; how much
-processor time that takes beside a plain program and beside a decoder that asn1c generates from format2.asn1; what decoding alone
-takes of both; what encoding alone takes of both; with how many calls the text is written; and what `PROGRAM encode`, `PROGRAM run` and the
+processor time that takes beside a plain program and beside decoders that asn1c generates from format2.asn1 and format1.asn1; what
+decoding alone takes of both; what encoding alone takes of both; with how many calls the text is written; and what `PROGRAM encode`, `PROGRAM run` and the
 other commands take beside the plain program. Parts that need a tool that isn't there are skipped in a line."""
 import glob
 import os
@@ -101,17 +101,17 @@ def plain_program(folder):
     return built
 
 
-def generated_codec(folder):
-    """Builds generated.c with what asn1c generates from the module."""
+def generated_codec(folder, module="format2"):
+    """Builds generated.c with what asn1c generates from the module of a format."""
     need("asn1c", "cc")
     os.mkdir(folder)
-    make = ["asn1c", "-gen-PER", "-fcompound-names", "-pdu=ECallMessage", os.path.join(HERE, "format2.asn1")]
+    make = ["asn1c", "-gen-PER", "-fcompound-names", "-pdu=ECallMessage", os.path.join(HERE, f"{module}.asn1")]
     if subprocess.run(make, cwd=folder, capture_output=True).returncode:
         raise Skipped("asn1c refuses the module")
     os.remove(os.path.join(folder, "converter-sample.c"))
     built = os.path.join(folder, "generated")
     sources = [os.path.join(HERE, "generated.c"), *glob.glob(os.path.join(folder, "*.c"))]
-    if subprocess.run(["cc", "-O2", f"-I{folder}", "-o", built, *sources, "-lm"], capture_output=True).returncode:
+    if subprocess.run(["cc", "-O2", f"-D{module.upper()}", f"-I{folder}", "-o", built, *sources, "-lm"], capture_output=True).returncode:
         raise Skipped("what asn1c generates does not compile")
     return built
 
@@ -139,7 +139,7 @@ def attempt(what, build, folder):
         return None
 
 
-def beside(program, plain, generated, path):
+def beside(program, plain, generated, path, what):
     """The processor time of whole commands that read the same lines, each with its ratio to the program's."""
     commands = {"ecall decode": [program, "decode"]}
     if plain:
@@ -152,10 +152,10 @@ def beside(program, plain, generated, path):
     if any(other != text[0] for other in same):
         raise OSError("the texts differ")
     times = least(list(commands.values()), path)
-    print(f"\n{MOST} known sets, the whole command: its text is {len(text[0])} bytes")
-    for what, seconds, written in zip(commands, times, text):
+    print(f"\n{MOST} known sets of {what}, the whole command: its text is {len(text[0])} bytes")
+    for name, seconds, written in zip(commands, times, text):
         more = "" if written == text[0] else f", {len(written)} bytes"
-        print(f"  {what:<34} {seconds:7.3f} s  {times[0] / seconds:5.2f}{more}")
+        print(f"  {name:<34} {seconds:7.3f} s  {times[0] / seconds:5.2f}{more}")
     print("  (processor time; last, the time of `ecall decode` over this one)")
 
 
@@ -341,7 +341,10 @@ def main(program):
         known = write_sets(folder, MOST, "known")
         plain = attempt("plain program", plain_program, os.path.join(folder, "plain"))
         generated = attempt("generated codec", generated_codec, os.path.join(folder, "generated"))
-        beside(program, plain, generated, known)
+        beside(program, plain, generated, known, "format 2")
+        older = attempt("generated codec of format 1", lambda here: generated_codec(here, "format1"), os.path.join(folder, "older"))
+        # (the plain program knows format 2 alone)
+        beside(program, None, older, write_sets(folder, MOST, "known", "format1"), "format 1")
         encodes(program, plain, folder)
         plays(program, plain, folder)
         others(program, plain, folder)

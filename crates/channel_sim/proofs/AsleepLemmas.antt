@@ -11,7 +11,7 @@ use Rattle.channel_sim.specs.World.{Call}
 use Rattle.channel_sim.specs.inner.Asleep.{NothingDue, Sleeps, AreAsleep, DueLater, Waits, AreWaiting}
 use Rattle.channel_sim.specs.Lag.{SessionLags, SeatLags, CallLags, CallsLag}
 use Rattle.channel_sim.specs.Quiet.{SessionRests, CallRests, IsQuietCall}
-use Rattle.channel_sim.proofs.Jump.{point_later}
+use Rattle.channel_sim.proofs.EndJump.{point_later}
 use Rattle.channel_sim.proofs.LagLemmas.{as_sum}
 
 -- What is kept.

@@ -17,7 +17,7 @@ use Rattle.trace_fit.specs.Seats.{left_by}
 use Rattle.channel_sim.specs.inner.Acts.{CallDid, seat_items, seat_after}
 use Rattle.channel_sim.specs.Lag.{SessionLags, SeatLags, CallLags, VehicleLags}
 use Rattle.channel_sim.proofs.SeatLemmas.{stands_now}
-use Rattle.channel_sim.proofs.Jump.{point_acts, point_quiet, point_again, point_later, point_live, vehicle_acts, vehicle_quiet, vehicle_again, vehicle_later}
+use Rattle.channel_sim.proofs.EndJump.{point_acts, point_quiet, point_again, point_later, point_live, vehicle_acts, vehicle_quiet, vehicle_again, vehicle_later}
 
 below : (m n : ℕ) (o : Option ℕ) → m ≤ n → IfSome o (λ due. n < due) → IfSome o (λ due. m < due)
 below m n None le h = tt

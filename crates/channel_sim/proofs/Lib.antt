@@ -15,9 +15,11 @@ mod CatchLemmas
 -- one call changed among calls that stand for calls
 mod ChangeLemmas
 mod DueLemmas
+-- quiet time of one end: n unit ticks in which nothing is due give nothing
+pub mod EndJump
 mod FlowRests
 mod HandLemmas
--- quiet time: n unit ticks in which nothing is due give nothing
+-- quiet time of a world: n unit ticks in which nothing is due give nothing
 pub mod Jump
 mod LagLemmas
 mod LineLemmas

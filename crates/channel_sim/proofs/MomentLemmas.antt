@@ -18,7 +18,8 @@ use Rattle.channel_sim.specs.Quiet.{SessionRests, CallRests, EndsRest, FramesRes
 use Rattle.channel_sim.specs.Tidy.{CallInTime, HasLeg, IsTidy}
 use Rattle.channel_sim.proofs.SeatLemmas.{due_later}
 use Rattle.channel_sim.proofs.VehicleLemmas.{vehicle_due_later}
-use Rattle.channel_sim.proofs.Jump.{less, vehicle_due_aged, vehicle_again, vehicle_later, point_due_aged, point_again, point_later, point_live, call_stays, quiet_vehicle, quiet_sessions, quiet_then, aged_tidy, jump, units_behind, units_one}
+use Rattle.channel_sim.proofs.EndJump.{less, vehicle_due_aged, vehicle_again, vehicle_later, point_due_aged, point_again, point_later, point_live}
+use Rattle.channel_sim.proofs.Jump.{call_stays, quiet_vehicle, quiet_sessions, quiet_then, aged_tidy, jump, units_behind, units_one}
 
 more_left : (m n : ℕ) (o : Option ℕ) → IfSome o (λ due. m < due) → IfSome (less m o) (λ due. n < due) → IfSome o (λ due. m + n < due)
 more_left m n None h k = tt

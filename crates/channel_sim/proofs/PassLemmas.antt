@@ -19,7 +19,8 @@ use Rattle.channel_sim.specs.Lag.{AreSameBut, VehicleLags, CallLags, CallsLag, S
 use Rattle.channel_sim.specs.Tidy.{AreAbove, HasLeg, numbers_of}
 use Rattle.channel_sim.proofs.ActLemmas.{did_done}
 use Rattle.channel_sim.proofs.CallsLemmas.{carries_none}
-use Rattle.channel_sim.proofs.Jump.{vehicle_later, vehicle_again, vehicle_acts, quiet_vehicle, call_stays}
+use Rattle.channel_sim.proofs.EndJump.{vehicle_later, vehicle_again, vehicle_acts}
+use Rattle.channel_sim.proofs.Jump.{quiet_vehicle, call_stays}
 use Rattle.channel_sim.proofs.LagLemmas.{as_sum}
 use Rattle.channel_sim.proofs.PlaceLemmas.{above_other}
 use Rattle.channel_sim.proofs.SessionLemmas.{session_ready, nobody_did}

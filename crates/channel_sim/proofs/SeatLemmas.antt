@@ -16,7 +16,7 @@ use Rattle.channel_sim.specs.World.{Call}
 use Rattle.trace_fit.specs.Seats.{left_by, unless_over}
 use Rattle.channel_sim.specs.inner.Acts.{seat_items, seat_after, CallDid}
 use Rattle.channel_sim.specs.Lag.{SessionLags, SeatLags, CallLags}
-use Rattle.channel_sim.proofs.Jump.{point_none}
+use Rattle.channel_sim.proofs.EndJump.{point_none}
 
 pub soonest_later : {A : Type 0} (ds : List (Deadline A)) → IfSome (soonest ds) (λ due. 0 < due)
 soonest_later [] = tt

@@ -9,7 +9,7 @@ use Rattle.channel_sim.specs.World.{Call, World}
 use Rattle.channel_sim.specs.Lag.{StandsAt}
 use Rattle.channel_sim.specs.Quiet.{CallRests, FramesRest, IsQuietCall, QuietFor, EndsRest, UpRests, DownRests}
 use Rattle.channel_sim.specs.Tidy.{CallInTime}
-use Rattle.channel_sim.proofs.Jump.{vehicle_later}
+use Rattle.channel_sim.proofs.EndJump.{vehicle_later}
 
 waits_for : (m n passed next : ℕ) (o : Option ℕ) → IfSome o (λ d. next ≤ passed + d) → (passed + m) + n < next → IfSome o (λ d. m + n < d)
 waits_for m n passed next None h low = tt

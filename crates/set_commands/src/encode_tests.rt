@@ -97,24 +97,43 @@ fn encodes_sets_of_format_1(rt: HostRuntime) -> Result<(), Fail> {
     expect_over(&rt, alloc, Command::Encode, &input, status, text.as_str())
 }
 
-#[test]
-fn encodes_the_first_candidate_that_fits_in_format_1(rt: HostRuntime) -> Result<(), Fail> {
-    let alloc = rt.alloc();
-    let over = repeated(alloc, "0", 200)?;
-    let fits = repeated(alloc, "0", 198)?;
-    let lines = candidates(alloc, over.as_str(), fits.as_str())?;
-    // The set has 297 bits without the candidate, which has 100 octets with its identifier, and ends with 7 zero bits.
-    let front = "015c0681d54970d65c3597ca0420c41467ffaf05f080452e9960413e255016c14fb001ff810080b18";
-    let rest = repeated(alloc, "0", 199)?;
-    let text = joined(alloc, &[front, rest.as_str(), "\n"])?;
+/// A full set of format 1 has 297 bits without additional data. With 100 octets of it, the first of which is the
+/// identifier, it ends with 7 zero bits: this is what stands in front of the content's zeros.
+const FULL_1: &str =
+    "015c0681d54970d65c3597ca0420c41467ffaf05f080452e9960413e255016c14fb001ff810080b18";
+
+/// Checks which set of format 1 is written where a second candidate is given: a front, and zeros.
+fn expect_second_in_format_1(
+    rt: &impl Abort,
+    alloc: Global,
+    first: &str,
+    second: &str,
+    zeros: &str,
+) -> Result<(), Fail> {
+    let lines = candidates(alloc, first, second)?;
+    let text = joined(alloc, &[FULL_1, zeros, "\n"])?;
     let pieces = ["format 1\n", lines.as_str()];
     expect_over(
-        &rt,
+        rt,
         alloc,
         Command::Encode,
         &pieces,
         Status::Done,
         text.as_str(),
+    )
+}
+
+#[test]
+fn encodes_the_first_candidate_that_fits_in_format_1(rt: HostRuntime) -> Result<(), Fail> {
+    let over = repeated(rt.alloc(), "0", 200)?;
+    let fits = repeated(rt.alloc(), "0", 198)?;
+    let zeros = repeated(rt.alloc(), "0", 199)?;
+    expect_second_in_format_1(
+        &rt,
+        rt.alloc(),
+        over.as_str(),
+        fits.as_str(),
+        zeros.as_str(),
     )
 }
 

@@ -95,16 +95,20 @@ fn entries_of_asking(rt: &impl Abort) -> [(u64, Note); 4] {
     ]
 }
 
+/// The point's positive answer to the set of request 1.
+pub(super) fn accepts(rt: &impl Abort) -> Note {
+    app(rt, 1, Answer::Positive)
+}
+
 /// What comes behind the set over a link of 3 ticks.
 fn entries_of_talking(rt: &impl Abort) -> [(u64, Note); 7] {
-    let positive = app(rt, 1, Answer::Positive);
     [
         (12, acked(rt, 1)),
         (12, voice(End::Vehicle, 1, true)),
-        (14, positive),
-        (19, positive),
-        (24, positive),
-        (29, positive),
+        (14, accepts(rt)),
+        (19, accepts(rt)),
+        (24, accepts(rt)),
+        (29, accepts(rt)),
         (34, voice(End::Point, 1, true)),
     ]
 }

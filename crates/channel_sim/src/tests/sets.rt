@@ -1,13 +1,13 @@
 //! Worked scripts in which a set is told, asked for, or damaged.
 ghost use Rattle.std.specs.Prelude.{◌≡◌, ◌<◌};
 
-use super::plays::{ends, gives_the_set, goes_to, opened, requested, talked, tells_in_vain};
+use super::plays::{accepts, ends, gives_the_set, goes_to, opened, requested, talked, tells_in_vain};
 use super::{
-    Played, SET, acked, answered, app, asks, deliver, down, ended, flow, positive, request, sends,
+    Played, SET, acked, answered, asks, deliver, down, ended, flow, positive, request, sends,
     takes, tells, tick, voice,
 };
 use crate::SimFault;
-use link_frames::{Answer, End, Frame, Note, OCTETS, Steps, Timer, Why};
+use link_frames::{End, Frame, Note, OCTETS, Steps, Timer, Why};
 use std::alloc::Global;
 use std::marker::Brand;
 use std::process::Abort;
@@ -25,13 +25,17 @@ fn talks<L: Ledger>(
     Ok(())
 }
 
+/// The vehicle's first frame.
+fn init() -> Note {
+    sends(End::Vehicle, 1, Frame::Init)
+}
+
 /// What comes where no request comes.
 fn entries_left_alone() -> [(u64, Note); 11] {
-    let init = sends(End::Vehicle, 1, Frame::Init);
     [
-        (5, init),
-        (10, init),
-        (15, init),
+        (5, init()),
+        (10, init()),
+        (15, init()),
         (20, ended(End::Vehicle, 1, Timer::T3)),
         (50, ended(End::Point, 1, Timer::T4)),
         (50, voice(End::Point, 1, true)),
@@ -56,13 +60,12 @@ fn is_left_alone<L: Ledger>(
 
 /// What comes until the vehicle tells its set for the third time.
 fn entries_of_a_tie(rt: &impl Abort) -> [(u64, Note); 6] {
-    let positive = app(rt, 1, Answer::Positive);
     [
-        (5, positive),
-        (10, positive),
+        (5, accepts(rt)),
+        (10, accepts(rt)),
         (13, tells(rt, 1, 1, 1)),
-        (15, positive),
-        (20, positive),
+        (15, accepts(rt)),
+        (20, accepts(rt)),
         (25, voice(End::Point, 1, true)),
     ]
 }

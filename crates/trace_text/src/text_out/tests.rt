@@ -39,18 +39,22 @@ fn write_lines<O: Sink>(alloc: Global, entries: &[Entry], out: &mut O) -> Result
     hear_all(alloc, entries, &mut to)
 }
 
+fn at(tick: u64, note: Note) -> Entry {
+    Entry { tick, note }
+}
+
+fn up() -> Note {
+    Note::Up {
+        end: End::Vehicle,
+        call: 7,
+    }
+}
+
 fn three_entries() -> [Entry; 3] {
-    let at = |tick, note| Entry { tick, note };
     [
         at(0, Note::Arming),
         at(49, Note::Cancelled),
-        at(
-            50,
-            Note::Up {
-                end: End::Vehicle,
-                call: 7,
-            },
-        ),
+        at(50, up()),
     ]
 }
 
@@ -120,10 +124,14 @@ fn kept_begins_with_none(rt: HostRuntime) {
     same_entries(&rt, &Kept::new(rt.alloc()), &[]);
 }
 
-/// These entries, and the first of them again.
-fn first_again(entries: [Entry; 3]) -> [Entry; 4] {
-    let [first, second, third] = entries;
-    [first, second, third, first]
+/// The three entries, and the first of them again.
+fn three_and_first() -> [Entry; 4] {
+    [
+        at(0, Note::Arming),
+        at(49, Note::Cancelled),
+        at(50, up()),
+        at(0, Note::Arming),
+    ]
 }
 
 #[test]
@@ -132,7 +140,7 @@ fn kept_has_what_it_heard(rt: HostRuntime) -> Result<(), Fail> {
     let mut kept = Kept::new(rt.alloc());
     hear_all(rt.alloc(), &three, &mut kept)?;
     hear_all(rt.alloc(), &three[..1], &mut kept)?;
-    same_entries(&rt, &kept, &first_again(three));
+    same_entries(&rt, &kept, &three_and_first());
     Ok(())
 }
 
@@ -154,7 +162,6 @@ fn acked() -> Note {
 
 /// A set that is shown and twice acknowledged in an answered call, and a call that is busy.
 fn answered_call() -> [Entry; 5] {
-    let at = |tick, note| Entry { tick, note };
     let (end, call) = (End::Point, 1);
     [
         at(60, Note::Up { end, call }),

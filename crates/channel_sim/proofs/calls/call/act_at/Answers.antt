@@ -7,7 +7,7 @@ use Rattle.psap_machine.specs.PointRows as point
 use Rattle.psap_machine.specs.SessionStands.{SessionStandsFor}
 use Rattle.channel_sim.specs.inner.Acts.{CallDid}
 use Rattle.channel_sim.specs.Lag.{SessionLags, SeatLags}
-use Rattle.channel_sim.proofs.Jump.{point_acts}
+use Rattle.channel_sim.proofs.EndJump.{point_acts}
 use Rattle.channel_sim.proofs.LagLemmas.{acted_over, acted_on, due_now}
 use Rattle.channel_sim.proofs.SeatLemmas.{is_over, not_over}
 use Rattle.channel_sim.proofs.calls.call.act_at.Goals as goal
