@@ -1,5 +1,5 @@
 -- What the sums say: a bit more, at one place, and that no two lists of bits are said by the same samples.
-use Rattle.std.proofs.Common.{◌≡◌, ℕ, ◌+◌, ◌-◌, ◌≤◌, length-append, append-nil, ◌*◌, ◌/◌, ◌%◌, ◌^◌, ◌<◌, ℤ, Bool, true, false, nat_eq, List, [], ◌∷◌, ◌++◌, length, zero, suc, ap, refl, sym, subst, arith, ◌∙◌}
+use Rattle.std.proofs.Common.{◌≡◌, ℕ, ◌+◌, ◌-◌, ◌≤◌, length-append, append-nil, ◌*◌, ◌/◌, ◌%◌, ◌^◌, ◌<◌, ℤ, Bool, true, false, nat_eq, List, [], ◌∷◌, ◌++◌, length, get_or, zero, suc, ap, refl, sym, subst, arith, ◌∙◌}
 use Rattle.std.proofs.lemmas.Int.{ints}
 use Rattle.std.proofs.lemmas.Nat.{pow-add}
 use mir.Val.{bool_byte}
@@ -153,3 +153,8 @@ octet_behind samples octets more i octet e long are said small says =
           (said_append samples 0 (octet_bits octets) (digits 8 octet) said
           (subst (λ (k : ℕ). AreSaid samples k (digits 8 octet)) place says))),
     )
+
+-- octets, by their places
+pub are_octets : (octets : List ℕ) → ((k : ℕ) → get_or octets k 0 < 256) → AreOctets octets
+are_octets [] small = tt
+are_octets (o ∷ octets) small = (small 0, are_octets octets (λ k. small (suc k)))

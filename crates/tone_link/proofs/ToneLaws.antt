@@ -81,7 +81,8 @@ read_once samples (Err (fault.NotFrame n)) (Err (fault.NotFrame m)) p q =
     let right : length q.1.0 ≡ m = q.1.2 in
     cc
 
-frame_sizes : (f : Frame) → IsFrame f → (0 < length (frame_octets f)) × (length (frame_octets f) ≤ 143)
+-- a frame has 1 to 143 octets
+pub frame_sizes : (f : Frame) → IsFrame f → (0 < length (frame_octets f)) × (length (frame_octets f) ≤ 143)
 frame_sizes frame.Init p = (omega arith, omega arith)
 frame_sizes (frame.Start request) p = (omega arith, omega arith)
 frame_sizes (frame.Content request attempt octets) p = (omega arith, omega (arith, p.1))
@@ -94,7 +95,7 @@ frame_count : (samples : List ℤ) (f : Frame) → length samples ≡ length (fr
 frame_count samples f e =
     omega (arith, e, length_samples (octet_bits (frame_octets f)), length_octet_bits (frame_octets f))
 
-frame_block : (samples : List ℤ) (f : Frame) → IsFrame f → length samples ≡ length (frame_samples f) → IsBlock samples
+pub frame_block : (samples : List ℤ) (f : Frame) → IsFrame f → length samples ≡ length (frame_samples f) → IsBlock samples
 frame_block samples f is e =
     let count = frame_count samples f e in
     let sizes = frame_sizes f is in

@@ -2,6 +2,7 @@
 #![tactic(auto)]
 
 mod fault;
+mod laws;
 mod reading;
 mod sums;
 #[cfg(test)]
@@ -9,6 +10,7 @@ mod tests;
 mod writing;
 
 pub use fault::ToneFault;
-pub use reading::tone_read;
+pub use laws::frame_laws;
+pub use reading::{own, tone_read};
 pub use sums::bit_sum;
 pub use writing::{MOST_SAMPLES, tone_write};

@@ -129,8 +129,8 @@ fn whole_frame(octets: &[u8]) -> Option<Frame>
     }
 }
 
-/// The frame with octets of its own.
-fn own(frame: FrameRef<'_>) -> Frame
+/// The frame, with octets of its own.
+pub fn own(frame: FrameRef<'_>) -> Frame
     ensures { result ≡ lent frame.entry }
 {
     match frame {

@@ -1,12 +1,12 @@
 //! The samples of a frame.
 ghost use Rattle.std.specs.Prelude.{◌≡◌, ◌≤◌, ◌+◌, ◌++◌, length};
 ghost use Rattle.arrayvec.specs.ArrayVec.{array_vec_len};
-ghost use Rattle.link_frames.specs.FrameOctets.{frame_octets};
 ghost use Rattle.per_bits.specs.Bits.{digits};
 ghost use Rattle.tone_link.specs.Tones.{frame_samples, samples_of, samples_of_bit};
 
+use crate::laws::frame_laws;
 use arrayvec::ArrayVec;
-use link_frames::{Frame, OCTETS, write};
+use link_frames::{Frame, write};
 
 /// How many samples the longest frame has: 143 octets of eight bits of eight samples.
 pub const MOST_SAMPLES: usize = 9152;
@@ -21,7 +21,7 @@ const ZERO: [i16; 8] = [-1000, -1000, 1000, -1000, 1000, 1000, -1000, 1000];
 pub fn tone_write(frame: &Frame) -> ArrayVec<i16, 9152>
     ensures { result.items ≡ frame_samples frame.now }
 {
-    octets_are_few(frame);
+    frame_laws(frame);
     let octets = write(frame);
     let mut samples = ArrayVec::new();
     for octet in octets.as_slice() {
@@ -29,20 +29,6 @@ pub fn tone_write(frame: &Frame) -> ArrayVec<i16, 9152>
     }
     samples
 }
-
-/// A frame has at most 143 octets. This does nothing: its contract is that law.
-fn octets_are_few(frame: &Frame)
-    ensures { length (frame_octets frame.now) ≤ 143 }
-{
-    if let Frame::Content { octets, .. } = frame {
-        set_is_whole(octets);
-    }
-}
-
-/// A set has 140 octets. This does nothing: its contract is that law.
-fn set_is_whole(octets: &[u8; OCTETS])
-    ensures { length octets.now ≡ 140 }
-{}
 
 /// Appends the samples of an octet.
 fn push_octet(samples: &mut ArrayVec<i16, MOST_SAMPLES>, octet: u8)
