@@ -19,7 +19,7 @@ use Rattle.command_base.specs.Outcome.{Streams, Answered, CutShort, Outcome, Tol
 use Rattle.command_base.specs.Refusals.{Reply, refusal_reply, in_front_of, line_of}
 use Rattle.command_base.specs.inner.ReadEnds.{FailsWith, EndsReading, by_line, in_front}
 use Rattle.command_base.specs.inner.Standing.{LinesStanding}
-use Rattle.line_input.proofs.LinesSoFar.{ended_whole, part_few, taken_took}
+use Rattle.line_input.proofs.LinesSoFar.{ended_whole, part_lines, taken_took, within_few}
 use Rattle.command_base.proofs.LineEnds.{cut_settled}
 use Rattle.command_base.proofs.LinesRead as read
 
@@ -100,7 +100,7 @@ module _ (Replies : List (List ℕ) → Reply → Type 0) (most : List (List ℕ
       (subst (λ (a : Status). Ended now.passes left now.held a) (sym fails.0) (
         read.taken_all Replies most Rest passing closes lined start now old s new left reads.taken,
         read.cut_here Replies most Rest passing closes lined start now old s new left reads.taken reads.draws
-            (part_few start.left now.left left old new s.lines s.so_far reads),
+            (within_few (λ bytes. Unit {0}) _ (part_lines start.left now.left left old new s.lines s.so_far (λ ls. Unit {0}) reads tt)),
       ))
   failed new left held fault.TooLong reads answer fails =
       subst (λ (h : Option (List ℕ)). Ended now.passes left h answer) (sym fails.1)

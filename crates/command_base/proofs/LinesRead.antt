@@ -11,17 +11,17 @@ use Rattle.call_io.proofs.BytesLemmas.{Grew-append}
 use Rattle.line_input.specs.declared.reason.BadLine.{BadLine}
 use Rattle.line_input.specs.declared.fault.LineFault.TheVariants as fault
 use Rattle.line_input.specs.Feed.{Draws, Feed}
-use Rattle.line_input.specs.Inputs.{IsSettledBy}
+use Rattle.line_input.specs.Inputs.{IsSettledBy, RunsOver}
 use Rattle.line_input.specs.Lines.{IsWhole, lines_of, line_fault, most_at_once, most_bytes, IsPassedOver}
 use Rattle.line_input.specs.Reading.{Reading, MayFollow, ReadsLine}
 use Rattle.command_base.specs.declared.status.Status.TheVariants as status
 use Rattle.command_base.specs.declared.refusal.Refused.TheVariants as refused
 use Rattle.command_base.specs.LineCommands.{IsLined, GoesOn, Ends, Begins}
-use Rattle.command_base.specs.Outcome.{Streams, Answered, CutShort, Outcome, ToldAll, ToldBefore}
+use Rattle.command_base.specs.Outcome.{Streams, Answered, CutShort, IsUnrefused, Outcome, ToldAll, ToldBefore}
 use Rattle.command_base.specs.Refusals.{Reply, refusal_reply, in_front_of}
 use Rattle.command_base.specs.inner.Standing.{LinesStanding}
 use Rattle.command_base.proofs.LineEnds.{cut_settled, settled_few}
-use Rattle.line_input.proofs.LinesSoFar.{StopsAt, bad_stops, ended_lines, found_lines, found_stops, over_few, over_lines, part_lines, settled_as, stopped_all, stopped_by, stopped_few, stopped_input, taken_input, taken_took, within_as}
+use Rattle.line_input.proofs.LinesSoFar.{StopsAt, bad_stops, ended_lines, found_lines, found_stops, over_lines, over_most, part_lines, settled_as, stopped_all, stopped_by, stopped_few, stopped_input, taken_input, taken_took, within_as}
 use Rattle.line_input.proofs.Takings.{at_end, at_hand}
 
 -- sums that a count of passes goes through
@@ -341,16 +341,18 @@ module _ (Replies : List (List ℕ) → Reply → Type 0) (most : List (List ℕ
       too_long reads =
           let passed : List (List ℕ) = reads.finds.passed in
           let n : ℕ = old.lines + 1 + length passed in
-          let here : (r : Reply) × Rest n [] r × (r.status ≡ status.Done) × closes r.text = lined.done n in (
+          let here : (r : Reply) × Rest n [] r × (r.status ≡ status.Done) × closes r.text = lined.done n in
+          let over : RunsOver (IsUnrefused replies) (taken_all reads.taken) =
+          over_lines start.left now.left left old new s.lines s.so_far
+          (λ ls. (r : Reply) × Replies ls r × (r.status ≡ status.Done)) reads (
+            in_front_of s.text here.0,
+            subst (λ (ls : List (List ℕ)). Replies ls (in_front_of s.text here.0))
+                (append-nil (s.lines ++ passed)) (behind_replied passed n reads.finds.each refl [] here.0 here.1),
+            here.2,
+          ) in (
             taken_all reads.taken,
-            cut_here reads.taken reads.draws (over_few start.left now.left left old new s.lines s.so_far reads),
-            over_lines start.left now.left left old new s.lines s.so_far
-                (λ ls. (r : Reply) × Replies ls r × (r.status ≡ status.Done)) reads (
-                  in_front_of s.text here.0,
-                  subst (λ (ls : List (List ℕ)). Replies ls (in_front_of s.text here.0))
-                      (append-nil (s.lines ++ passed)) (behind_replied passed n reads.finds.each refl [] here.0 here.1),
-                  here.2,
-                ),
+            cut_here reads.taken reads.draws (over_most _ (taken_all reads.taken) over),
+            over,
           )
 
       -- the source couldn't be read

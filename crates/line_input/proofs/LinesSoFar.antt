@@ -65,11 +65,26 @@ within_as Holds Holds' input gives s =
       front = s.front;
       unended = s.unended;
       split = s.split;
+      within = s.within;
       lines = s.lines;
       inner = s.inner;
       short = s.short;
       holds = gives s.front s.holds;
     }
+
+-- what was taken then is no more than an input may have, and what is read at once
+pub over_most : (Holds : List ℕ → Type 0) (input : List ℕ) → RunsOver Holds input
+    → length input ≤ most_bytes + most_at_once
+over_most Holds input o =
+    let parts : length input ≡ length (o.front ++ o.unended) + length o.rest =
+    ap length (o.split ∙ sym (append_assoc o.front o.unended o.rest)) ∙ length-append (o.front ++ o.unended) o.rest in
+    omega (arith, parts, o.full, o.near)
+
+pub within_few : (Holds : List ℕ → Type 0) (input : List ℕ) → StopsWithin Holds input
+    → length input ≤ most_bytes + most_at_once
+within_few Holds input s =
+    let parts : length input ≡ length s.front + length s.unended = ap length s.split ∙ length-append s.front s.unended in
+    omega (arith, parts, s.within, s.short)
 
 no_lines : lines_of [] ≡ []
 unfolding lines_of
@@ -314,6 +329,7 @@ module _ (start now left : Option (List ℕ)) (old new : Reading) (lines : List 
         front = s.front ++ f.front;
         unended = f.«open»;
         split = ap (λ b. s.front ++ b) f.split ∙ sym (append_assoc s.front f.front f.«open»);
+        within = rw (length-append s.front f.front) (omega (arith, s.taken.given, f.given, reads.limit));
         lines = whole_append s.front f.front (s.taken.lines alive) (whole_lines f.front f.passed f.lines);
         inner = f.inner;
         short = f.short;
@@ -321,26 +337,6 @@ module _ (start now left : Option (List ℕ)) (old new : Reading) (lines : List 
             subst (λ (b : List ℕ). Holds (lines_of b)) (append-nil (s.front ++ f.front))
             (subst Holds (sym (same ∙ append-nil (lines ++ f.passed))) holds);
       }
-
-  -- how much was taken then, or where the input is too long
-  pub part_few : (reads : ReadsLine old new now left (Err fault.ReadFault))
-      → length (taken_input reads.taken) ≤ most_bytes + most_at_once
-  part_few reads =
-      let f : FindsPart old new (old.feed.pending ++ reads.taken) = reads.finds in
-      let parts : length (old.feed.pending ++ reads.taken) ≡ length f.front + length f.«open» =
-      ap length f.split ∙ length-append f.front f.«open» in
-      rw (length-append s.front (old.feed.pending ++ reads.taken))
-      (omega (arith, parts, f.short, f.given, s.taken.given, reads.limit))
-
-  pub over_few : (reads : ReadsLine old new now left (Err fault.TooLong))
-      → length (taken_input reads.taken) ≤ most_bytes + most_at_once
-  over_few reads =
-      let f : FindsTooMany old (old.feed.pending ++ reads.taken) = reads.finds in
-      let parts : length (old.feed.pending ++ reads.taken) ≡ length f.front + (length f.«open» + length f.rest) =
-      ap length f.split ∙ (length-append f.front (f.«open» ++ f.rest)
-      ∙ ap (λ n. length f.front + n) (length-append f.«open» f.rest)) in
-      rw (length-append s.front (old.feed.pending ++ reads.taken))
-      (omega (arith, parts, f.near, f.full, s.taken.given))
 
   -- how many lines were read
   pub lines_counted : (reads : ReadsLine old new now left (Ok true)) → (old.lines < new.lines) × (new.lines ≤ most_bytes)

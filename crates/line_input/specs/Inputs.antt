@@ -31,6 +31,7 @@ pub record StopsWithin (Holds : List ℕ → Type 0) (input : List ℕ) : Type 0
   pub front : List ℕ
   pub unended : List ℕ
   pub split : input ≡ front ++ unended
+  pub within : length front ≤ most_bytes
   pub lines : AreWholeLines front
   pub inner : AllByRecursion IsInner unended
   pub short : length unended ≤ most_in_line

@@ -71,7 +71,7 @@ refused_by place number said events old new held held' Grows Partly Counted reas
     (record { reason = reason; placed = placed; says = says; wrote = h.1 }, none)
 refused_by place number said events old new held held' Grows Partly Counted reason why placed says none answer (inr h) =
     subst (λ (a : Status). PlaysTo place number said events old new held held' Grows Partly Counted (Some a)) (sym h.0)
-    (inl (why, record { reason = reason; placed = placed; says = says; wrote = h.1 }))
+    (inl (why, record { reason = reason; placed = placed; says = says; wrote = h.1 }, none))
 
 -- what is refused was refused
 pub plays_refused : (line : Numbered) (bad : BadLine) (stands : Said → List Event → Type 0) (old new : Stage)

@@ -12,7 +12,7 @@ use Rattle.trace_text.specs.declared.script.ScriptLine.{ScriptLine}
 use Rattle.call_register.specs.Rows.{Rows}
 use Rattle.call_register.specs.Table.{table}
 use Rattle.command_base.specs.LineCommands.{Begins, IsQuietLine, Ends, EndsInput, TakesLine}
-use Rattle.command_base.specs.Refusals.{refusal_line, refusal_reply}
+use Rattle.command_base.specs.Refusals.{line_of, refusal_line, refusal_reply}
 use Rattle.command_base.specs.Outcome.{Outcome, Streams}
 use Rattle.script_commands.specs.Register.{register_reply, table_line}
 use Rattle.script_commands.specs.Run.{played, script_passes}
@@ -94,11 +94,23 @@ module _ (before number : ℕ) (seen : ScriptSeen) (stage next : Stage) (rows ro
             omega (arith, all, h.counted);
       }
   takes (Some (status.Refused why)) h =
-      ((refusal_line why, refuses why _ h.0, h.0.wrote), λ texts. omega (arith, h.1))
-  takes (Some status.WriteFault) (inl h) =
-      (ends.cut_end (RegisteredFrom seen) number line held held' (refusal_reply h.0) (refuses h.0 _ h.1) h.1.wrote, tt)
-  takes (Some status.WriteFault) (inr h) = (([], nothing, grew_nothing held held' h.grows), tt)
-  takes (Some status.Memory) h = (([], nothing, grew_nothing held held' h.grows), tt)
+      ((refusal_line why, refuses why _ h.0, h.0.wrote, ap line_of h.0.says), λ texts. omega (arith, h.1))
+  takes (Some status.WriteFault) (inl h) = (
+    ends.cut_end (RegisteredFrom seen) number line held held' (refusal_reply h.0) (refuses h.0 _ h.1) h.1.wrote,
+    λ texts. omega (arith, h.2),
+  )
+  takes (Some status.WriteFault) (inr h) = (
+    ([], nothing, grew_nothing held held' h.grows),
+    λ texts.
+        let all = passes_said seen.said seen.events line texts h.says (in_place _ h.placed) in
+        omega (arith, all, h.counted),
+  )
+  takes (Some status.Memory) h = (
+    ([], nothing, grew_nothing held held' h.grows),
+    λ texts.
+        let all = passes_said seen.said seen.events line texts h.says (in_place _ h.placed) in
+        omega (arith, all, h.counted),
+  )
   takes (Some status.Done) h = absurd h
   takes (Some status.Usage) h = absurd h
   takes (Some (status.Broken place rule)) h = absurd h

@@ -1,12 +1,12 @@
 -- How the command `replay` ends, by what the audit took and its verdict; and that each input has one reply of it.
-use Rattle.std.specs.Prelude.{◌≡◌, ℕ, ◌⊎◌, true, List, [], ◌++◌, Option}
+use Rattle.std.specs.Prelude.{◌≡◌, ℕ, ◌+◌, ◌≤◌, ◌⊎◌, true, List, [], ◌++◌, length, Option}
 use Rattle.std.proofs.Common.{sym, ◌∙◌, ap, refl, subst, inl, inr, arith}
 use Rattle.call_io.specs.Bytes.{Took, Grew, GrewPartly}
 use Rattle.call_io.proofs.BytesLemmas.{Grew-nothing}
 use Rattle.line_input.specs.Inputs.{IsSettledBy}
-use Rattle.line_input.specs.Lines.{IsWhole, lines_of}
-use Rattle.line_input.proofs.LinesSoFar.{over_as, settled_as}
-use Rattle.command_base.proofs.LineEnds.{cut_settled}
+use Rattle.line_input.specs.Lines.{IsWhole, lines_of, most_at_once, most_bytes}
+use Rattle.line_input.proofs.LinesSoFar.{over_as, over_most, settled_as, within_as, within_few}
+use Rattle.command_base.proofs.LineEnds.{cut_settled, settled_few}
 use Rattle.trace_audit.specs.Audit.{Audits}
 use Rattle.trace_audit.specs.Outcome as audit
 use Rattle.trace_audit.specs.declared.verdict.Verdict.{Verdict}
@@ -16,9 +16,9 @@ use Rattle.trace_audit.proofs.AuditOne.{one_verdict}
 use Rattle.command_base.specs.declared.refusal.Refused.TheVariants as refused
 use Rattle.command_base.specs.declared.status.Status.{Status}
 use Rattle.command_base.specs.declared.status.Status.TheVariants as status
-use Rattle.command_base.specs.Outcome.{Streams, Answered, CutShort, IsSettled, IsUnrefused, Outcome, ReadCause}
+use Rattle.command_base.specs.Outcome.{Streams, Answered, CutShort, IsSettled, IsUnrefused, Outcome, ReadCause, ToldAll, ToldBefore}
 use Rattle.command_base.specs.Refusals.{Reply, in_front_of}
-use Rattle.script_commands.specs.Replay.{IsReplayed, verdict_reply, verdict_status, verdict_text}
+use Rattle.script_commands.specs.Replay.{ClosesReplay, IsReplayed, verdict_reply, verdict_status, verdict_text}
 use Rattle.script_commands.specs.inner.ReplayEnds.{EndsWithVerdict}
 
 by_verdict : (input : List ℕ) (v : Verdict) → Audits (lines_of input) v → IsReplayed input (verdict_reply v)
@@ -34,11 +34,11 @@ replayed_one input r s a b =
     a.says ∙ ap verdict_reply (one_verdict (lines_of input) a.verdict b.verdict a.audits b.audits) ∙ sym b.says
 
 -- what settles a verdict settles its reply
-settled : (v : Verdict) (input : List ℕ) (left : Option (List ℕ))
-    → IsSettledBy (audit.IsAudited v) input ⊎ IsWhole left input
-    → IsSettled IsReplayed input (verdict_reply v) ⊎ IsWhole left input
-settled v input left s =
-    settled_as (audit.IsAudited v) (λ bytes. IsReplayed bytes (verdict_reply v)) left input
+settled : (v : Verdict) (number : ℕ) (input : List ℕ) (left : Option (List ℕ))
+    → IsSettledBy (audit.IsAudited v) number input ⊎ IsWhole left input
+    → IsSettled IsReplayed number input (verdict_reply v) ⊎ IsWhole left input
+settled v number input left s =
+    settled_as (audit.IsAudited v) (λ bytes. IsReplayed bytes (verdict_reply v)) left number input
     (λ bytes audits. by_verdict bytes v audits) s
 
 module _ (left left' held held' : Option (List ℕ)) (passes : ℕ) where
@@ -65,12 +65,14 @@ module _ (left left' held held' : Option (List ℕ)) (passes : ℕ) where
       subst (λ (t : List ℕ). IsReplayed input (record { text = t; status = verdict_status v })) (sym same) replied
 
   -- a part of it was written
-  cut : (v : Verdict) (input : List ℕ) → audit.Answered left left' v input → GrewPartly held held' (verdict_text v)
-      → IsSettledBy (audit.IsAudited v) input ⊎ IsWhole left' input → CutShort IsReplayed old new input
-  cut v input a grew s =
-      cut_settled IsReplayed old passes left' held' input grew.0 a.took grew.3 (part input a.audits)
-      (settled_as (audit.IsAudited v) (λ bytes. (r : Reply) × IsReplayed bytes (in_front_of grew.0 r)) left' input part
-      s)
+  cut : (v : Verdict) (number : ℕ) (input : List ℕ) → audit.Answered left left' v input
+      → GrewPartly held held' (verdict_text v) → IsSettledBy (audit.IsAudited v) number input ⊎ IsWhole left' input
+      → CutShort IsReplayed (λ input. 0) old new input
+  cut v number input a grew s =
+      cut_settled IsReplayed (λ input. 0) old passes left' held' number input grew.0 a.took grew.3
+      (settled_few (audit.IsAudited v) left' number input s) (omega arith) (part input a.audits)
+      (settled_as (audit.IsAudited v) (λ bytes. (r : Reply) × IsReplayed bytes (in_front_of grew.0 r)) left' number
+      input part s)
     where
       part : (bytes : List ℕ) → Audits (lines_of bytes) v → (r : Reply) × IsReplayed bytes (in_front_of grew.0 r)
       part bytes audits = (
@@ -79,16 +81,19 @@ module _ (left left' held held' : Option (List ℕ)) (passes : ℕ) where
       )
 
   -- nothing was written
-  untold : (input : List ℕ) → Took left left' input → held' ≡ held → CutShort IsReplayed old new input
-  untold input took same =
+  untold : (input : List ℕ) → Took left left' input → length input ≤ most_bytes + most_at_once → held' ≡ held
+      → CutShort IsReplayed (λ input. 0) old new input
+  untold input took within same =
       record {
         took = took;
+        within = within;
         front = [];
         rest = input;
         split = refl;
         text = [];
         wrote = subst (λ (h : Option (List ℕ)). Grew held h []) (sym same) (Grew-nothing held);
         begins = inl (λ more. replayed_some more);
+        counted = omega arith;
       }
 
   told : (answer wanted : Status) → answer ≡ wanted → Ended wanted → Ended answer
@@ -105,40 +110,69 @@ module _ (left left' held held' : Option (List ℕ)) (passes : ℕ) where
         inl o.2,
       )
   replayed (verdict.Sound items) answer o (inr ends) =
-      told answer status.WriteFault ends.0 (o.0, cut (verdict.Sound items) o.0 o.1 ends.1 (inr o.2))
+      told answer status.WriteFault ends.0 (o.0, cut (verdict.Sound items) 0 o.0 o.1 ends.1 (inr o.2))
   replayed (verdict.Broken place rule) answer o (inl ends) =
       told answer (status.Broken place rule) ends.0 (
         o.0,
         verdict_reply (verdict.Broken place rule),
         answered (verdict.Broken place rule) o.0 o.1 ends.1,
         refl,
-        settled (verdict.Broken place rule) o.0 left' o.2,
+        settled (verdict.Broken place rule) place o.0 left' o.2,
       )
   replayed (verdict.Broken place rule) answer o (inr ends) =
-      told answer status.WriteFault ends.0 (o.0, cut (verdict.Broken place rule) o.0 o.1 ends.1 o.2)
+      told answer status.WriteFault ends.0 (o.0, cut (verdict.Broken place rule) place o.0 o.1 ends.1 o.2)
   replayed (verdict.Bad bad) answer o (inl ends) =
       told answer (status.Refused (refused.Line bad)) ends.0 (
         o.0,
         verdict_reply (verdict.Bad bad),
         answered (verdict.Bad bad) o.0 o.1 ends.1,
         refl,
-        settled (verdict.Bad bad) o.0 left' o.2,
+        settled (verdict.Bad bad) bad.line o.0 left' o.2,
       )
   replayed (verdict.Bad bad) answer o (inr ends) =
-      told answer status.WriteFault ends.0 (o.0, cut (verdict.Bad bad) o.0 o.1 ends.1 o.2)
+      told answer status.WriteFault ends.0 (o.0, cut (verdict.Bad bad) bad.line o.0 o.1 ends.1 o.2)
   replayed verdict.ReadFault answer o ends =
-      told answer status.ReadFault ends.0 (o.0, untold o.0 o.1 ends.1, omega arith)
+      told answer status.ReadFault ends.0 (o.0, untold o.0 o.1 (within_few audit.IsSound o.0 o.2) ends.1)
   replayed verdict.TooLong answer o ends =
       told answer status.TooLong ends.0 (
         o.0,
-        untold o.0 o.1 ends.1,
+        untold o.0 o.1 (over_most audit.IsSound o.0 o.2) ends.1,
         over_as audit.IsSound (IsUnrefused IsReplayed) o.0
             (λ bytes sound. (verdict_reply (verdict.Sound sound.0), by_verdict bytes (verdict.Sound sound.0) sound.1, refl))
             o.2,
-        omega arith,
       )
   replayed verdict.Memory answer o ends =
-      told answer status.Memory ends.0 (o.0, untold o.0 o.1 ends.1)
+      told answer status.Memory ends.0 (o.0, untold o.0 o.1 o.2 ends.1)
+
+  -- nothing was to be written before a read that failed
+  pub told_before : (v : Verdict) (answer : Status) → audit.Outcome left left' v → EndsWithVerdict v held held' answer
+      → ToldBefore IsReplayed ClosesReplay left left' held held' answer
+  told_before v answer o ends = by_case v o ends
+    where
+      by_case : (v : Verdict) → audit.Outcome left left' v → EndsWithVerdict v held held' answer
+          → ToldBefore IsReplayed ClosesReplay left left' held held' answer
+      by_case (verdict.Sound items) o (inl ends) = subst (λ (a : Status). ToldBefore IsReplayed ClosesReplay left left' held held' a) (sym ends.0) tt
+      by_case (verdict.Sound items) o (inr ends) = subst (λ (a : Status). ToldBefore IsReplayed ClosesReplay left left' held held' a) (sym ends.0) tt
+      by_case (verdict.Broken place rule) o (inl ends) = subst (λ (a : Status). ToldBefore IsReplayed ClosesReplay left left' held held' a) (sym ends.0) tt
+      by_case (verdict.Broken place rule) o (inr ends) = subst (λ (a : Status). ToldBefore IsReplayed ClosesReplay left left' held held' a) (sym ends.0) tt
+      by_case (verdict.Bad bad) o (inl ends) = subst (λ (a : Status). ToldBefore IsReplayed ClosesReplay left left' held held' a) (sym ends.0) tt
+      by_case (verdict.Bad bad) o (inr ends) = subst (λ (a : Status). ToldBefore IsReplayed ClosesReplay left left' held held' a) (sym ends.0) tt
+      by_case verdict.TooLong o ends = subst (λ (a : Status). ToldBefore IsReplayed ClosesReplay left left' held held' a) (sym ends.0) tt
+      by_case verdict.Memory o ends = subst (λ (a : Status). ToldBefore IsReplayed ClosesReplay left left' held held' a) (sym ends.0) tt
+      by_case verdict.ReadFault o ends =
+          subst (λ (a : Status). ToldBefore IsReplayed ClosesReplay left left' held held' a) (sym ends.0) (
+            o.0,
+            o.1,
+            within_as audit.IsSound (λ bytes. ToldAll IsReplayed ClosesReplay held held' bytes) o.0
+                (λ bytes sound. record {
+                  text = [];
+                  wrote = subst (λ (h : Option (List ℕ)). Grew held h []) (sym ends.1) (Grew-nothing held);
+                  closing = verdict_reply (verdict.Sound sound.0);
+                  replied = by_verdict bytes (verdict.Sound sound.0) sound.1;
+                  done = refl;
+                  closes = (sound.0, refl);
+                }) o.2,
+          )
 
 -- what a verdict says of failed reads holds of the answer
 pub unread_by : (v : Verdict) (held held' : Option (List ℕ)) (answer : Status) (old new : ℕ)

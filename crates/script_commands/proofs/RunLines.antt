@@ -10,7 +10,7 @@ use Rattle.line_input.specs.declared.reason.Reason.{Reason}
 use Rattle.trace_text.specs.declared.script.ScriptLine.{ScriptLine}
 use Rattle.command_base.specs.LineCommands.{Ends, GoesOn, TakesLine}
 use Rattle.command_base.specs.Outcome.{Outcome, Streams}
-use Rattle.command_base.specs.Refusals.{Reply, refusal_line, refusal_reply, in_front_of}
+use Rattle.command_base.specs.Refusals.{Reply, line_of, refusal_line, refusal_reply, in_front_of}
 use Rattle.script_commands.specs.Run.{played, run_reply, script_passes}
 use Rattle.command_base.specs.declared.refusal.Refused.{Refused}
 use Rattle.script_commands.specs.declared.stage.Stage.{Stage}
@@ -94,20 +94,26 @@ module _ (before number : ℕ) (seen : ScriptSeen) (stage next : Stage) (line : 
             omega (arith, all, h.counted);
       }
   takes (Some (status.Refused why)) h =
-      ((refusal_line why, refuses why _ h.0, h.0.wrote), λ texts. omega (arith, h.1))
-  takes (Some status.WriteFault) (inl h) =
-      (ends.cut_end (RunFrom seen) number line held held' (refusal_reply h.0) (refuses h.0 _ h.1) h.1.wrote, tt)
+      ((refusal_line why, refuses why _ h.0, h.0.wrote, ap line_of h.0.says), λ texts. omega (arith, h.1))
+  takes (Some status.WriteFault) (inl h) = (
+    ends.cut_end (RunFrom seen) number line held held' (refusal_reply h.0) (refuses h.0 _ h.1) h.1.wrote,
+    λ texts. omega (arith, h.2),
+  )
   takes (Some status.WriteFault) (inr h) = (
     ends.cut_text (RunFrom seen) number line held held' (RunFrom (behind h.says))
         (text_of (entries_of seen.said seen.events h.says)) (goes h.says (in_place _ h.placed))
         (some h.says (in_place _ h.placed)) h.grows,
-    tt,
+    λ texts.
+        let all = passes_said seen.said seen.events line texts h.says (in_place _ h.placed) in
+        omega (arith, all, h.counted),
   )
   takes (Some status.Memory) h = (
     ends.cut_text (RunFrom seen) number line held held' (RunFrom (behind h.says))
         (text_of (entries_of seen.said seen.events h.says)) (goes h.says (in_place _ h.placed))
         (some h.says (in_place _ h.placed)) h.grows,
-    tt,
+    λ texts.
+        let all = passes_said seen.said seen.events line texts h.says (in_place _ h.placed) in
+        omega (arith, all, h.counted),
   )
   takes (Some status.Done) h = absurd h
   takes (Some status.Usage) h = absurd h

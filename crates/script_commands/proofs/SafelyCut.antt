@@ -147,10 +147,11 @@ whole_cut : (input : List ℕ) (r : Reply) → r ≡ run_reply input → (old ne
     → (before written : List ℕ) → old ≡ Some before → new ≡ Some (before ++ written) → IsSafelyCut written
 whole_cut input r same old new grew = partly_cut input r same old new (r.text, [], append-nil r.text, grew)
 
-cut_short : (old new : Streams) (input : List ℕ) → CutShort (λ bytes r. r ≡ run_reply bytes) old new input
+cut_short : (most : List ℕ → ℕ) (old new : Streams) (input : List ℕ)
+    → CutShort (λ bytes r. r ≡ run_reply bytes) most old new input
     → (before written : List ℕ) → old.held ≡ Some before → new.held ≡ Some (before ++ written) → IsSafelyCut written
-cut_short old new input c =
-    let found = cut_partly (λ bytes r. r ≡ run_reply bytes) old new input c in
+cut_short most old new input c =
+    let found = cut_partly (λ bytes r. r ≡ run_reply bytes) most old new input c in
     partly_cut input found.0 found.1 old.held new.held found.2
 
 -- however `run` ended
@@ -161,7 +162,7 @@ run_cut most reads old new status.Done o = whole_cut o.0 o.1 o.2.replied old.hel
 run_cut most reads old new status.Usage o = whole_cut [] o.0 o.1.replied old.held new.held o.1.wrote
 run_cut most reads old new (status.Refused why) o = whole_cut o.0 o.1 o.2.replied old.held new.held o.2.wrote
 run_cut most reads old new (status.Broken place rule) o = whole_cut o.0 o.1 o.2.replied old.held new.held o.2.wrote
-run_cut most reads old new status.ReadFault o = cut_short old new o.0 o.1
-run_cut most reads old new status.WriteFault o = cut_short old new o.0 o.1
-run_cut most reads old new status.Memory o = cut_short old new o.0 o.1
-run_cut most reads old new status.TooLong o = cut_short old new o.0 o.1
+run_cut most reads old new status.ReadFault o = cut_short most old new o.0 o.1
+run_cut most reads old new status.WriteFault o = cut_short most old new o.0 o.1
+run_cut most reads old new status.Memory o = cut_short most old new o.0 o.1
+run_cut most reads old new status.TooLong o = cut_short most old new o.0 o.1

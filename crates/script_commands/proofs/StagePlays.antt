@@ -64,7 +64,8 @@ module _ (Grew Partly : List Entry → Type 0) (Counted : ℕ → Type 0) (old n
   obeys_event world said events known e is calls ticks (Err (halt.Refused why)) plays = absurd plays
   obeys_event world said events known e is calls ticks (Err (halt.Sim fault)) plays = (
     place_of_event said known e is,
-    subst (λ (o : Option Facts). Partly (entries_in (world_left o events) (line.Event e))) (sym is) plays,
+    subst (λ (o : Option Facts). Partly (entries_in (world_left o events) (line.Event e))) (sym is) plays.0,
+    subst (λ (o : Option Facts). Counted (passes_in (world_left o events) (line.Event e))) (sym is) plays.1,
   )
 
   -- the first event, behind the facts that it needs

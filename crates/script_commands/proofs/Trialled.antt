@@ -1,6 +1,7 @@
 -- The counts of the events so far, and of one more.
 use Rattle.std.specs.Prelude.{◌≡◌, ℕ, ◌+◌, ◌*◌, ◌^◌, ◌<◌, ◌≤◌, zero, suc, List, [], ◌∷◌, ◌++◌, length, codes, decimal}
-use Rattle.std.proofs.Common.{sym, ◌∙◌, ap, refl, subst, arith, get_or, take, length-append, add-zero}
+use Rattle.std.proofs.Common.{sym, ◌∙◌, ap, refl, subst, arith, get_or, take, length-append, add-zero, inl, inr}
+use Rattle.std.proofs.lemmas.Bool.{cases_lt}
 use Rattle.std.proofs.lemmas.List.{append-nil, length-take, take_all}
 use Rattle.msd_fit.specs.declared.facts.Facts.{Facts}
 use Rattle.msd_fit.specs.declared.facts.Facts.TheVariants as facts
@@ -72,6 +73,21 @@ counted_event start known events e old new tally tally' passes passes' before pl
       bounded = omega (arith, bounds, before.bounded, plays.4);
     }
 
+-- some of the events pass no more ends than all of them
+pub bound_front : (known : Facts) (es fs : List Event) → bound known es ≤ bound known (es ++ fs)
+bound_front known es fs = omega (arith, bound_from-append (first_world known) es fs)
+
+-- an event that wasn't played to its end passes no more ends than one that was
+pub halted_few : (start : ℕ) (known : Facts) (before : List Event) (e : Event) (passes passes' : ℕ)
+    → passes ≤ start + bound known before
+    → passes' ≤ passes + passes_within (world_after (first_world known) before) e
+    → passes' ≤ start + bound known (before ++ e ∷ [])
+halted_few start known before e passes passes' few more =
+    let bounds : bound known (before ++ e ∷ []) ≡ bound known before + passes_within (world_after (first_world known) before) e =
+    bound_from-append (first_world known) before (e ∷ [])
+    ∙ ap (λ n. bound known before + n) (add-zero (passes_within (world_after (first_world known) before) e)) in
+    omega (arith, bounds, few, more)
+
 -- ---- the world has room for one event more
 
 few_more : (events more : List Event) (i : ℕ) → length events ≤ most_events → length more ≡ 10
@@ -136,6 +152,46 @@ counted_call start known seed calls times x world tally passes is drawn counted 
     (ap (λ (t : CallTimes). events_of_calls seed calls ++ call_events (calls + 1) t) (drawn ∙ ap call_times is)
     ∙ sym (events_of_calls-suc seed calls) ∙ ap (events_of_calls seed) (omega arith))
     counted
+
+-- some of the calls pass no more ends than all of them
+pub bound_calls : (known : Facts) (seed n m : ℕ) → n ≤ m
+    → bound known (events_of_calls seed n) ≤ bound known (events_of_calls seed m)
+bound_calls known seed n zero few =
+    let none : n ≡ 0 = omega (arith, few) in
+    let same : bound known (events_of_calls seed n) ≡ bound known (events_of_calls seed 0) =
+    ap (λ k. bound known (events_of_calls seed k)) none in
+    omega (arith, same)
+bound_calls known seed n (suc m) few = elim (cases_lt n (suc m)) [
+  | inl less ↦
+      (let before : bound known (events_of_calls seed n) ≤ bound known (events_of_calls seed m) =
+      bound_calls known seed n m (omega (arith, less)) in
+      let more : bound known (events_of_calls seed (suc m))
+      ≡ bound known (events_of_calls seed m ++ call_events (m + 1) (call_times (x_behind seed m))) =
+      ap (bound known) (events_of_calls-suc seed m) in
+      let front : bound known (events_of_calls seed m)
+      ≤ bound known (events_of_calls seed m ++ call_events (m + 1) (call_times (x_behind seed m))) =
+      bound_front known (events_of_calls seed m) (call_events (m + 1) (call_times (x_behind seed m))) in
+      omega (arith, before, more, front))
+  | inr past ↦
+      (let same : bound known (events_of_calls seed n) ≡ bound known (events_of_calls seed (suc m)) =
+      ap (λ k. bound known (events_of_calls seed k)) (omega (arith, few, past)) in
+      omega (arith, same))
+]
+
+-- a call that wasn't counted to its end passes no more ends than all of them
+pub halted_calls : (start seed calls : ℕ) (times : CallTimes) (x passes : ℕ) → x ≡ x_behind seed calls
+    → times ≡ call_times x → calls + 1 ≤ most_made
+    → passes ≤ start + bound (facts.Own made_own) (events_of_calls seed calls ++ call_events (calls + 1) times)
+    → passes ≤ start + script_passes (script_of (made_script seed))
+halted_calls start seed calls times x passes is drawn few bounded =
+    let here : events_of_calls seed calls ++ call_events (calls + 1) times ≡ events_of_calls seed (calls + 1) =
+    ap (λ (t : CallTimes). events_of_calls seed calls ++ call_events (calls + 1) t) (drawn ∙ ap call_times is)
+    ∙ sym (events_of_calls-suc seed calls) ∙ ap (events_of_calls seed) (omega arith) in
+    let same : bound (facts.Own made_own) (events_of_calls seed calls ++ call_events (calls + 1) times)
+    ≡ bound (facts.Own made_own) (events_of_calls seed (calls + 1)) = ap (bound (facts.Own made_own)) here in
+    let all : script_passes (script_of (made_script seed)) ≡ bound (facts.Own made_own) (events_of_calls seed most_made) =
+    ap script_passes (made_says seed) in
+    omega (arith, bounded, same, all, bound_calls (facts.Own made_own) seed (calls + 1) most_made few)
 
 -- ---- behind the last call
 

@@ -1,6 +1,6 @@
 -- What `ecall register` replies to a script: the text of the register of its trace, in one line, or the line that
 -- refuses the first line that is refused, alone. This project's profile. Cited by the reply to words and an input.
-use Rattle.std.specs.Prelude.{ℕ, List, [], ◌∷◌, ◌++◌, Option, Some, None}
+use Rattle.std.specs.Prelude.{◌≡◌, ℕ, List, [], ◌∷◌, ◌++◌, Option, Some, None}
 use Rattle.line_input.specs.Characters.{newline}
 use Rattle.trace_text.specs.Script.{script_of}
 use Rattle.trace_model.specs.declared.entry.Entry.{Entry}
@@ -16,6 +16,10 @@ use Rattle.script_commands.specs.Run.{script_trace}
 -- the text of a table, and a newline
 abbrev pub table_line : Rows → List ℕ
 table_line rows = table_text rows ++ newline ∷ []
+
+-- the text at the end of the input
+abbrev pub ClosesRegister : List ℕ → Type 0
+ClosesRegister text = (rows : Rows) × (text ≡ table_line rows)
 
 -- the line of the register of a trace, or, where a line is refused, the line that refuses it
 abbrev pub registered : List Entry → Option BadLine → Reply

@@ -42,6 +42,10 @@ verdict_status verdict.Memory = status.Memory
 abbrev pub verdict_reply : Verdict → Reply
 verdict_reply v = record { text = verdict_text v; status = verdict_status v }
 
+-- the text at the end of the input
+abbrev pub ClosesReplay : List ℕ → Type 0
+ClosesReplay text = (items : ℕ) × (text ≡ sound_line items)
+
 -- the reply of `replay` to an input: that of the verdict on its lines
 pub record IsReplayed (input : List ℕ) (r : Reply) : Type 0 where
   pub verdict : Verdict

@@ -1,15 +1,15 @@
 //! The command `register`: a script in, the register of its calls out.
 
-ghost use Rattle.std.specs.Prelude.{◌≡◌, ◌+◌, ◌^◌, ◌<◌, ◌≤◌, true, List, Some, MatchOption};
-ghost use Rattle.call_io.specs.Blocks.{held, sink, way};
+ghost use Rattle.std.specs.Prelude.{◌≡◌, [], ◌+◌, ◌^◌, ◌<◌, ◌≤◌, true, List, Some, MatchOption};
+ghost use Rattle.call_io.specs.Blocks.{held, pending, sink, way};
 ghost use Rattle.call_io.specs.Ways.{Onward};
 ghost use Rattle.trace_text.specs.Script.{Said, script_of, script_line, placed, placed_line};
 ghost use Rattle.trace_model.specs.declared.event.Event.{Event};
 ghost use Rattle.command_base.specs.LineCommands.{IsQuietTurn};
-ghost use Rattle.command_base.specs.Outcome.{Outcome, ReadCause, WriteCause, streams_of};
+ghost use Rattle.command_base.specs.Outcome.{Outcome, ReadCause, ToldBefore, WriteCause, streams_of};
 ghost use Rattle.script_commands.specs.inner.RegisterTurns.{RegisteredFrom, Registers, RegisterStands, WritesRows};
 ghost use Rattle.script_commands.specs.inner.ScriptSeen.{ScriptSeen, passes_from};
-ghost use Rattle.script_commands.specs.Register.{register_reply};
+ghost use Rattle.script_commands.specs.Register.{ClosesRegister, register_reply};
 ghost use Rattle.script_commands.specs.Run.{script_passes};
 ghost use Rattle.script_commands.specs.inner.ScriptLaws.{register_lined};
 ghost use Rattle.script_commands.specs.inner.Stage.{StageStandsFor, calls_in, ticks_in};
@@ -41,6 +41,8 @@ impl<'a, L: Ledger> LineCommand for Registering<'a, L> {
     ghost rest = { RegisteredFrom };
 
     ghost most = { passes_from };
+
+    ghost closes = { ClosesRegister };
 
     ghost count = { λ s. record { name = s.moments.ghost_name; passes = s.moments.now } };
 
@@ -77,6 +79,9 @@ pub fn keep_register<I: Source, O: Sink, L: Ledger>(
     ensures outcome { Outcome (λ bytes r. r ≡ register_reply bytes) (λ bytes. script_passes (script_of bytes)) true
         (streams_of I.left (held O.held) input.old output.old moments.old)
         (streams_of I.left (held O.held) input.new output.new moments.new) result }
+    ensures told { ToldBefore (λ bytes r. r ≡ register_reply bytes) ClosesRegister (I.left input.old) (I.left input.new)
+        (held O.held output.old) (held O.held output.new) result }
+    ensures handed { result ≡ Status.ReadFault → pending output.new ≡ [] }
     // Where it was cut short, and not by a failed write, it wrote nothing.
     ensures silent { IsQuietTurn (Some result) → held O.held output.new ≡ held O.held output.old }
     ensures unread { ReadCause result (I.faults input.old) (I.faults input.new) }

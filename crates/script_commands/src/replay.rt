@@ -2,8 +2,8 @@
 
 ghost use Rattle.std.specs.Prelude.{◌≡◌, ℕ, ◌≤◌, true};
 ghost use Rattle.call_io.specs.Ways.{Onward};
-ghost use Rattle.command_base.specs.Outcome.{Outcome, ReadCause, WriteCause, streams_of};
-ghost use Rattle.script_commands.specs.Replay.{IsReplayed, broken_line, sound_line};
+ghost use Rattle.command_base.specs.Outcome.{IsCutSilently, Outcome, ReadCause, ToldBefore, WriteCause, streams_of};
+ghost use Rattle.script_commands.specs.Replay.{ClosesReplay, IsReplayed, broken_line, sound_line};
 ghost use Rattle.command_base.specs.Ends.{EndsWithText};
 ghost use Rattle.script_commands.specs.inner.ReplayEnds.{EndsWithVerdict};
 
@@ -25,6 +25,10 @@ pub fn replay_trace<I: Source, O: Sink>(alloc: Global, input: &mut I, output: &m
     ensures outcome { (passes : ℕ) → Outcome IsReplayed (λ bytes. 0) true
         (streams_of I.left O.held input.old output.old passes)
         (streams_of I.left O.held input.new output.new passes) result }
+    // Where it was cut short, and not by a failed write, it wrote nothing.
+    ensures silent { IsCutSilently result → output.new ≡ output.old }
+    ensures told { ToldBefore IsReplayed ClosesReplay (I.left input.old) (I.left input.new)
+        (O.held output.old) (O.held output.new) result }
     ensures unread { ReadCause result (I.faults input.old) (I.faults input.new) }
     ensures unwritten { WriteCause result (O.faults output.old) (O.faults output.new) }
     ensures reads_counted { I.faults input.old ≤ I.faults input.new }
@@ -38,6 +42,7 @@ pub fn replay_trace<I: Source, O: Sink>(alloc: Global, input: &mut I, output: &m
 /// Tells a verdict, and ends the command with it.
 fn tell<O: Sink>(verdict: Verdict, output: &mut O) -> Status
     ensures ends { EndsWithVerdict verdict (O.held output.old) (O.held output.new) result }
+    ensures silent { IsCutSilently result → output.new ≡ output.old }
     ensures unwritten { WriteCause result (O.faults output.old) (O.faults output.new) }
     ensures counted { O.faults output.old ≤ O.faults output.new }
     ensures onward { Onward (O.way output.old) (O.way output.new) }

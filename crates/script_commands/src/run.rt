@@ -1,13 +1,13 @@
 //! The command `run`: a script in, its trace out.
 
-ghost use Rattle.std.specs.Prelude.{◌≡◌, ◌+◌, ◌^◌, ◌<◌, ◌≤◌, true, List, Some, MatchOption};
-ghost use Rattle.call_io.specs.Blocks.{held, sink, way};
+ghost use Rattle.std.specs.Prelude.{◌≡◌, [], ◌+◌, ◌^◌, ◌<◌, ◌≤◌, true, List, Some, MatchOption};
+ghost use Rattle.call_io.specs.Blocks.{held, pending, sink, way};
 ghost use Rattle.call_io.specs.Bytes.{Grew, GrewPartly};
 ghost use Rattle.call_io.specs.Ways.{Onward};
 ghost use Rattle.trace_text.specs.EntryLine.{text_of};
 ghost use Rattle.trace_text.specs.Script.{Said, script_of, script_line, placed, placed_line};
 ghost use Rattle.trace_model.specs.declared.event.Event.{Event};
-ghost use Rattle.command_base.specs.Outcome.{Outcome, ReadCause, WriteCause, streams_of};
+ghost use Rattle.command_base.specs.Outcome.{ClosesSilently, Outcome, ReadCause, ToldBefore, WriteCause, streams_of};
 ghost use Rattle.script_commands.specs.Run.{run_reply, script_passes};
 ghost use Rattle.script_commands.specs.inner.ScriptSeen.{ScriptSeen, passes_from};
 ghost use Rattle.script_commands.specs.inner.RunLaws.{RunFrom, RunStands, run_lined};
@@ -41,6 +41,8 @@ impl<'a, L: Ledger> LineCommand for Running<'a, L> {
 
     ghost most = { passes_from };
 
+    ghost closes = { ClosesSilently };
+
     ghost count = { λ s. record { name = s.moments.ghost_name; passes = s.moments.now } };
 
     ghost wants_memory = { Unit {0} };
@@ -68,6 +70,9 @@ pub fn run_script<I: Source, O: Sink, L: Ledger>(
     ensures outcome { Outcome (λ bytes r. r ≡ run_reply bytes) (λ bytes. script_passes (script_of bytes)) true
         (streams_of I.left (held O.held) input.old output.old moments.old)
         (streams_of I.left (held O.held) input.new output.new moments.new) result }
+    ensures told { ToldBefore (λ bytes r. r ≡ run_reply bytes) ClosesSilently (I.left input.old) (I.left input.new)
+        (held O.held output.old) (held O.held output.new) result }
+    ensures handed { result ≡ Status.ReadFault → pending output.new ≡ [] }
     ensures unread { ReadCause result (I.faults input.old) (I.faults input.new) }
     ensures unwritten { WriteCause result (O.faults (sink output.old)) (O.faults (sink output.new)) }
     ensures reads_counted { I.faults input.old ≤ I.faults input.new }

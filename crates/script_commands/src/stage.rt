@@ -151,6 +151,8 @@ pub(crate) fn play<H: Listener, L: Ledger>(
     ensures played { (w : model.World) → WorldStandsFor world.old w →
         PlaysEvent (H.grew to.old to.new) (H.partly to.old to.new) (λ n. moments.new ≤ moments.old + n)
         world.old (Some world.new) (lines.step w event.now) (lines.passes_within w event.now) result }
+    ensures passes { (w : model.World) → WorldStandsFor world.old w →
+        moments.new ≤ moments.old + lines.passes_within w event.now }
     ensures unwritten { HaltWriteCause result (H.faults to.old) (H.faults to.new) }
     ensures counted { H.faults to.old ≤ H.faults to.new }
 {

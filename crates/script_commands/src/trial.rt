@@ -7,6 +7,7 @@ ghost use Rattle.msd_fit.specs.declared.facts.Facts.{Facts};
 ghost use Rattle.line_input.specs.Characters.{space};
 ghost use Rattle.trace_text.specs.Script.{script_of};
 ghost use Rattle.trace_model.specs.declared.event.Event.{Event};
+ghost use Rattle.channel_sim.specs.Lines.{bound};
 ghost use Rattle.script_commands.specs.Make.{made_script};
 ghost use Rattle.command_base.specs.Outcome.{WriteCause};
 ghost use Rattle.script_commands.specs.Run.{script_passes};
@@ -38,8 +39,7 @@ pub fn try_script<O: Sink, L: Ledger>(
     moments: &mut Steps<L>,
 ) -> Status
     ensures ends { EndsTrial seed (O.held output.old) (O.held output.new) result }
-    ensures passes { result ≡ Status.Done →
-        moments.new ≤ moments.old + script_passes (script_of (made_script seed)) }
+    ensures passes { moments.new ≤ moments.old + script_passes (script_of (made_script seed)) }
     ensures unwritten { WriteCause result (O.faults output.old) (O.faults output.new) }
     ensures counted { O.faults output.old ≤ O.faults output.new }
     ensures onward { Onward (O.way output.old) (O.way output.new) }
@@ -54,7 +54,7 @@ pub fn try_script<O: Sink, L: Ledger>(
 /// Plays the calls of the script that a number makes, and counts the entries.
 fn count_calls<L: Ledger>(alloc: Global, seed: u32, moments: &mut Steps<L>) -> Result<Tally, Halt>
     ensures tally { IfOk result (λ tally. tally ≡ made_tally seed) }
-    ensures passes { OnOk result (moments.new ≤ moments.old + script_passes (script_of (made_script seed))) }
+    ensures passes { moments.new ≤ moments.old + script_passes (script_of (made_script seed)) }
 {
     let mut world = World::new(alloc, Facts::Own(own_facts()));
     let mut tally = Tally::new();
@@ -87,6 +87,9 @@ fn count_call<L: Ledger>(
     ensures counts { (start : ℕ) (known : Facts) (events : List Event) →
         Counted start known events world.old tally.old moments.old → OnOk result
         (Counted start known (events ++ call_events number times.now) world.new tally.new moments.new) }
+    ensures few { (start : ℕ) (known : Facts) (events : List Event) →
+        Counted start known events world.old tally.old moments.old →
+        moments.new ≤ start + bound known (events ++ call_events number times.now) }
 {
     let events = events_of(Positive::new(number).unwrap(), times);
     for event in &events {

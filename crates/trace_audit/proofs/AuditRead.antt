@@ -12,7 +12,7 @@ use Rattle.line_input.specs.declared.reason.Reason.TheVariants as reason
 use Rattle.trace_text.specs.EntryLines.{entry_of}
 use Rattle.line_input.specs.Feed.{Feed}
 use Rattle.line_input.specs.Inputs.{IsSettledBy}
-use Rattle.line_input.specs.Lines.{IsWhole, IsLine, IsPassedOver, Numbered, line_fault, most_bytes}
+use Rattle.line_input.specs.Lines.{IsWhole, IsLine, IsPassedOver, Numbered, line_fault}
 use Rattle.line_input.specs.Reading.{FindsLine, Reading, ReadsLine, first_reading}
 use Rattle.line_input.specs.Taken.{LinesSoFar}
 use Rattle.trace_model.specs.Safety.{Safe}
@@ -27,7 +27,7 @@ use Rattle.trace_audit.specs.Judged.{Judges}
 use Rattle.trace_audit.specs.Outcome.{Answered, IsAudited, Outcome}
 use Rattle.trace_audit.specs.RulesStand.{RulesStandFor}
 use Rattle.trace_audit.specs.inner.AuditTurns.{HeardStandsFor, Hears, HearsLine, Standing, Turn, verdict_of}
-use Rattle.line_input.proofs.LinesSoFar.{StopsAt, bad_stops, ended_lines, ended_whole, found_lines, found_stops, lines_counted, lines_first, over_lines, stopped_all, stopped_by, stopped_input, taken_input, taken_took}
+use Rattle.line_input.proofs.LinesSoFar.{StopsAt, bad_stops, ended_lines, ended_whole, found_lines, found_stops, lines_counted, lines_first, over_lines, part_lines, stopped_all, stopped_by, stopped_few, stopped_input, taken_input, taken_took}
 use Rattle.trace_model.proofs.LegsHeard.{last_one}
 
 -- What a line says.
@@ -142,13 +142,14 @@ audit_first start heard h = record { lines = []; so_far = lines_first start; eac
 
 -- An audit ends where the reading stops.
 
-abbrev Ends : (start left : Option (List ℕ)) → Verdict → Type 0
-Ends start left v =
-    (input : List ℕ) × Answered start left v input × (IsSettledBy (IsAudited v) input ⊎ IsWhole left input)
+abbrev Ends : (start left : Option (List ℕ)) → (number : ℕ) → Verdict → Type 0
+Ends start left number v =
+    (input : List ℕ) × Answered start left v input × (IsSettledBy (IsAudited v) number input ⊎ IsWhole left input)
 
 ends_at : (start left : Option (List ℕ)) (feed : Feed) (before : List (List ℕ)) (number : ℕ)
     (IsThis : List ℕ → Type 0) (s : StopsAt start left feed before number IsThis) (v : Verdict) →
-    ((text : List ℕ) (rest : List (List ℕ)) → IsThis text → Audits (before ++ text ∷ rest) v) → Ends start left v
+    ((text : List ℕ) (rest : List (List ℕ)) → IsThis text → Audits (before ++ text ∷ rest) v) →
+    Ends start left number v
 ends_at start left feed before number IsThis s v is =
     let Holds : List (List ℕ) → Type 0 = λ lines. Audits lines v in (
       stopped_input start left feed before number IsThis s,
@@ -197,14 +198,14 @@ module _ (start left : Option (List ℕ)) (new : Reading) (heard : Heard) (k : F
         stands = subst (λ (es : List Entry). HeardStandsFor heard' es) (sym (more_entries k.before new.text x says)) h;
       }
 
-  line_ends : (v : Verdict) → ((rest : List (List ℕ)) → Audits (k.before ++ new.text ∷ rest) v) → Ends start left v
+  line_ends : (v : Verdict) → ((rest : List (List ℕ)) → Audits (k.before ++ new.text ∷ rest) v) → Ends start left new.lines v
   line_ends v is =
       ends_at start left new.feed k.before new.lines (λ text. text ≡ new.text) k.stops v
       (λ text rest same. subst (λ (t : List ℕ). Audits (k.before ++ t ∷ rest) v) (sym same) (is rest))
 
   -- It ends with a line that is refused,
   line_refused : (why : Reason) → IsRefused k.before new.text why →
-      Ends start left (verdict.Bad (record { line = new.lines; reason = why }))
+      Ends start left new.lines (verdict.Bad (record { line = new.lines; reason = why }))
   line_refused why is =
       line_ends (verdict.Bad (record { line = new.lines; reason = why }))
       (λ rest. is_first k.before new.text rest new.lines (λ front text. IsRefused front text why) k.stops.place k.safe
@@ -213,7 +214,7 @@ module _ (start left : Option (List ℕ)) (new : Reading) (heard : Heard) (k : F
   -- or that breaks a rule.
   line_breaks : (x : Entry) (broken : Rule) → line_says new.text ≡ Ok (Some x) →
       last_tick (entries_of k.before) ≤ x.tick → Judges (entries_of k.before ++ x ∷ []) x.tick (Some broken) →
-      Ends start left (verdict.Broken new.lines broken)
+      Ends start left new.lines (verdict.Broken new.lines broken)
   line_breaks x broken says le judged =
       line_ends (verdict.Broken new.lines broken)
       (λ rest. is_first k.before new.text rest new.lines (λ front text. IsBroken front text broken) k.stops.place k.safe
@@ -231,11 +232,15 @@ module _ (start left : Option (List ℕ)) (new : Reading) (heard : Heard) (k : F
       Hears (entries_of k.before) new.lines x heard' answer → TurnsFound heard' answer
   heard_entry heard' x says None h = goes_on heard' x says h.1
   heard_entry heard' x says (Some (verdict.Bad bad)) h =
-      subst (λ (b : BadLine). Ends start left (verdict.Bad b)) (sym h.1)
+      subst (λ (b : BadLine). Ends start left b.line (verdict.Bad b)) (sym h.1)
       (line_refused reason.Number (inr (x, says, h.0, refl)))
   heard_entry heard' x says (Some (verdict.Broken line broken)) h =
-      subst (λ (n : ℕ). Ends start left (verdict.Broken n broken)) (sym h.0) (line_breaks x broken says h.1 h.2)
-  heard_entry heard' x says (Some verdict.Memory) h = (k.stops.front ++ new.feed.pending, k.stops.took)
+      subst (λ (n : ℕ). Ends start left n (verdict.Broken n broken)) (sym h.0) (line_breaks x broken says h.1 h.2)
+  heard_entry heard' x says (Some verdict.Memory) h = (
+    k.stops.front ++ new.feed.pending,
+    k.stops.took,
+    stopped_few start left new.feed k.before new.lines (λ text. text ≡ new.text) k.stops,
+  )
   heard_entry heard' x says (Some (verdict.Sound items)) h = absurd h
   heard_entry heard' x says (Some verdict.ReadFault) h = absurd h
   heard_entry heard' x says (Some verdict.TooLong) h = absurd h
@@ -295,6 +300,9 @@ turn_unread start now left old new heard (fault.Bad bad) reads s =
 turn_unread start now left old new heard fault.ReadFault reads s = (
   taken_input start now left old new s.lines s.so_far reads.taken,
   taken_took start now left old new s.lines s.so_far reads.taken reads.draws,
+  part_lines start now left old new s.lines s.so_far
+      (λ lines. (items : ℕ) × Audits lines (verdict.Sound items)) reads
+      (heard.items, sound_lines s.lines reads.finds.passed heard s.each reads.finds.each s.stands),
 )
 turn_unread start now left old new heard fault.TooLong reads s = (
   taken_input start now left old new s.lines s.so_far reads.taken,

@@ -22,15 +22,14 @@ use Rattle.trace_model.specs.declared.moved.LegOf.{LegOf}
 use Rattle.trace_audit.specs.declared.verdict.Verdict.{Verdict}
 use Rattle.trace_audit.specs.declared.verdict.Verdict.TheVariants as verdict
 use Rattle.trace_model.specs.declared.voice.Voice.{Voice}
-use Rattle.trace_audit.specs.Audit.{Audits, IsRefused, IsSafeTrace, IsTrace, IsUnrefused, NeverFall, entries_of, in_front, line_says}
+use Rattle.trace_audit.specs.Audit.{Audits, IsRefused, IsSafeTrace, IsUnrefused, NeverFall, entries_of, in_front, line_says}
 use Rattle.trace_model.specs.Tallies.{last_tick}
 use Rattle.trace_audit.specs.Judged.{Judges}
 use Rattle.trace_model.specs.LegsStand.{IsVoiceOf}
 use Rattle.trace_audit.specs.RulesStand.{IsOwed}
 use Rattle.trace_audit.specs.inner.Owed.{is_too_soon, owed_behind}
 use Rattle.trace_audit.proofs.AuditOne.{last_or_none}
-use Rattle.trace_audit.proofs.AuditRead.{entries_append, judged_more, more_entries, trace_more, unrefused_append}
-use Rattle.trace_model.proofs.LegsHeard.{last_one}
+use Rattle.trace_audit.proofs.AuditRead.{entries_append, judged_more, trace_more, unrefused_append}
 use Rattle.trace_audit.proofs.RulesLemmas.{AreVoices, bounded_no, bounded_yes, is_this_leg, leg_within, owed_more, within_leg}
 
 abbrev Decided : Type 0 → Type 0

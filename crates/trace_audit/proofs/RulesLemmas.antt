@@ -1,7 +1,5 @@
 -- What one more entry does to what is kept of a trace, and which rule it breaks.
-use Rattle.std.specs.Prelude.{◌≡◌, ◌≤◌, ◌<◌, ◌+◌, ◌-◌, ◌↔◌, ◌==◌, ◌&&◌, not, nat_lt, nat_eq, ℕ, Bool, true, false, List, [], ◌∷◌, ◌++◌, Option, Some, None, Result, Ok, Err, OnOk, IsTrue, if◌then◌else◌}
-use Rattle.std.specs.Bool.{beq}
-use Rattle.std.specs.Cmp.{nat_eq_equiv}
+use Rattle.std.specs.Prelude.{◌≡◌, ◌≤◌, ◌<◌, ◌+◌, ◌-◌, ◌↔◌, ◌&&◌, not, nat_lt, nat_eq, ℕ, Bool, true, false, List, [], ◌∷◌, ◌++◌, Option, Some, None, Result, Ok, Err, OnOk, IsTrue, if◌then◌else◌}
 use Rattle.std.specs.HashMap.{get}
 use Rattle.std.proofs.Common.{refl, sym, ap, subst, ◌∙◌, arith}
 use Rattle.std.proofs.lemmas.Bool.{false≢true, true≢false, eq-eqb, eqb-true}
@@ -12,17 +10,17 @@ use Rattle.link_frames.specs.declared.note.Note.{Note}
 use Rattle.link_frames.specs.declared.note.Note.TheVariants as note
 use Rattle.link_frames.specs.Legs.{is_data_timer, least_opening, muting_limit, through}
 use Rattle.trace_model.specs.declared.entry.Entry.{Entry}
-use Rattle.trace_model.specs.Safety.{Agreed, Bounded, IsShownFirst, IsWithin, Leg, MustOpen, Opened, OwesOpening, TurnsMuted, ends_wait, first_leg, is_leg, is_own, leg_at, leg_behind, leg_moved, leg_step, own, revoiced, same_end}
+use Rattle.trace_model.specs.Safety.{Agreed, Bounded, IsShownFirst, IsWithin, Leg, MustOpen, Opened, OwesOpening, TurnsMuted, ends_wait, first_leg, is_leg, is_own, leg_at, leg_behind, leg_step, own}
 use Rattle.trace_model.proofs.Fronts.{agreed_one, bounded_one, leg_one, opened_one, step_within}
 use Rattle.trace_model.specs.declared.moved.LegOf.{LegOf}
 use Rattle.trace_audit.specs.declared.rules.Rules.{Rules}
 use Rattle.trace_model.specs.declared.voice.Voice.{Voice}
 use Rattle.trace_model.specs.Tallies.{last_tick}
-use Rattle.trace_model.specs.LegsStand.{IsVoiceOf, Keeps, LegsStandFor, voice_at}
+use Rattle.trace_model.specs.LegsStand.{IsVoiceOf, LegsStandFor, voice_at}
 use Rattle.trace_audit.specs.RulesStand.{IsOwed, RulesStandFor}
 use Rattle.trace_model.specs.LegsMoved.{AreWithin}
 use Rattle.trace_audit.specs.inner.Owed.{is_fresh, is_too_soon, owed_behind, owed_if_muted, voice_of}
-use Rattle.trace_model.proofs.LegsHeard.{last_one, leg_here}
+use Rattle.trace_model.proofs.LegsHeard.{leg_here}
 
 pub on_both : {A E : Type 0} (r : Result A E) (P Q R : Type 0) → (P → Q → R) → OnOk r P → OnOk r Q → OnOk r R
 on_both (Ok x) P Q R f p q = f p q

@@ -1,5 +1,5 @@
 -- Which rule a trace breaks, if it breaks one. This project's profile. Cited by the contracts of `Rules` and `audit`.
-use Rattle.std.specs.Prelude.{ℕ, List, [], ◌∷◌, Option, Some, None}
+use Rattle.std.specs.Prelude.{ℕ, List, Option, Some, None}
 use Rattle.trace_model.specs.declared.entry.Entry.{Entry}
 use Rattle.trace_model.specs.Safety.{Agreed, Bounded, Opened, Safe}
 use Rattle.trace_model.specs.declared.rule.Rule.{Rule}

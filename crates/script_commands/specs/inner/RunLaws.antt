@@ -18,6 +18,7 @@ use Rattle.trace_text.specs.Script.{Said, Script, judged, placed, placed_fact, p
 use Rattle.channel_sim.specs.Lines.{step, trace_from, world_after}
 use Rattle.channel_sim.specs.World.{World, first_world}
 use Rattle.command_base.specs.LineCommands.{IsLined}
+use Rattle.command_base.specs.Outcome.{ClosesSilently}
 use Rattle.command_base.specs.Refusals.{Reply, refusal_line, refusal_reply, in_front_of}
 use Rattle.script_commands.specs.Run.{ended, played, script_trace}
 use Rattle.command_base.specs.declared.refusal.Refused.TheVariants as refused
@@ -164,9 +165,10 @@ run_done seen number =
     ∙ ap script_reply (sym (behind_none seen number))
 
 pub run_lined : (seen : ScriptSeen) → IsTidy seen.said seen.events → IsLined (RunFrom seen) (passes_from seen)
+    ClosesSilently
 run_lined seen tidy =
     record {
-      done = λ number. (record { text = []; status = status.Done }, run_done seen number, refl);
+      done = λ number. (record { text = []; status = status.Done }, run_done seen number, refl, refl);
       some = λ number texts.
           let begins = text_begins seen.said seen.events tidy texts number in
           let answer = (script_reply (script_behind seen number texts)).status in (

@@ -13,6 +13,9 @@ use Rattle.trace_text.specs.Script.{Said, Script, script_from, script_line, judg
 use Rattle.command_base.specs.LineCommands.{IsLined}
 use Rattle.command_base.specs.Refusals.{refusal_reply}
 use Rattle.command_base.specs.declared.refusal.Refused.TheVariants as refused
+use Rattle.call_register.specs.Table.{table}
+use Rattle.script_commands.specs.Register.{ClosesRegister}
+use Rattle.script_commands.specs.Run.{played}
 use Rattle.script_commands.specs.inner.Progress.{events_before, event_of}
 use Rattle.script_commands.specs.inner.RegisterTurns.{RegisteredFrom, registered_script}
 use Rattle.script_commands.specs.inner.ScriptSeen.{ScriptSeen, passes_from, passes_behind_lines, script_behind}
@@ -87,12 +90,17 @@ unfolding passes_behind_lines
 passes_passed said events text texts h = rw (passes_behind_lines, h) refl
 
 pub register_lined : (seen : ScriptSeen) → IsLined (RegisteredFrom seen) (passes_from seen)
+    ClosesRegister
 register_lined seen =
     record {
       done = λ number. (
         registered_script (script_behind seen number []),
         refl,
         ap (λ s. (registered_script s).status) (behind_none seen number),
+        (
+          table (played (facts_in seen.said.facts) seen.events),
+          ap (λ s. (registered_script s).text) (behind_none seen number),
+        ),
       );
       some = λ number texts. (registered_script (script_behind seen number texts), refl);
       passed = λ number text texts r passed is.

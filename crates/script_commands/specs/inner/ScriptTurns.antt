@@ -17,12 +17,13 @@ use Rattle.command_base.specs.Refusals.{refusal_line}
 use Rattle.script_commands.specs.inner.Progress.{event_of, entries_of, passes_by}
 use Rattle.script_commands.specs.inner.Stage.{IsNext, StageStandsFor}
 
--- What a line says in its place, and what was told of it.
+-- What a line says in its place, what was told of it, and how often ends were passed for it.
 pub record Told (place : Result (Option ScriptLine) Reason) (said : Said) (events : List Event)
-    (Grows : List Entry → Type 0) : Type 0 where
+    (Grows : List Entry → Type 0) (Counted : ℕ → Type 0) : Type 0 where
   pub says : ScriptLine
   pub placed : place ≡ Ok (Some says)
   pub grows : Grows (entries_of said events says)
+  pub counted : Counted (passes_by said events says)
 
 -- Why a line is refused in its place, and what was written of that.
 pub record RefusedLine (place : Result (Option ScriptLine) Reason) (number : ℕ) (Wrote : List ℕ → Type 0)
@@ -52,9 +53,10 @@ PlaysTo place number said events old new held held' Grows Partly Counted None =
 PlaysTo place number said events old new held held' Grows Partly Counted (Some (status.Refused why)) =
     RefusedLine place number (Grew held held') why × Counted 0
 PlaysTo place number said events old new held held' Grows Partly Counted (Some status.WriteFault) =
-    ((why : Refused) × RefusedLine place number (GrewPartly held held') why) ⊎ Told place said events Partly
+    ((why : Refused) × RefusedLine place number (GrewPartly held held') why × Counted 0)
+    ⊎ Told place said events Partly Counted
 PlaysTo place number said events old new held held' Grows Partly Counted (Some status.Memory) =
-    Told place said events Partly
+    Told place said events Partly Counted
 PlaysTo place number said events old new held held' Grows Partly Counted (Some _) = ⊥
 
 -- the same where the lines of the entries are written

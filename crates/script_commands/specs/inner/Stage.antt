@@ -69,7 +69,7 @@ Obeys Grew Partly Counted old new said events says (Ok done) =
 Obeys Grew Partly Counted old new said events says (Err (halt.Refused why)) =
     (placed said says ≡ Err why) × Grew [] × Counted 0
 Obeys Grew Partly Counted old new said events says (Err (halt.Sim fault)) =
-    (placed said says ≡ Ok (Some says)) × Partly (entries_of said events says)
+    (placed said says ≡ Ok (Some says)) × Partly (entries_of said events says) × Counted (passes_by said events says)
 
 -- what the answer to a fact line says, in front of the first event line
 abbrev pub Learns : {A : Type 0} → (old new : Draft) → FactLine → Result A Halt → Type 0
@@ -92,7 +92,7 @@ PlaysEvent Grew Partly Counted old new step passes (Ok done) =
     Grew step.entries × StandsIn new step.world × (calls_by new ≤ calls_drawn old + 1)
     × (ticks_by new ≤ ticks_reached old + 4294967295) × Counted passes
 PlaysEvent Grew Partly Counted old new step passes (Err (halt.Refused why)) = ⊥
-PlaysEvent Grew Partly Counted old new step passes (Err (halt.Sim fault)) = Partly step.entries
+PlaysEvent Grew Partly Counted old new step passes (Err (halt.Sim fault)) = Partly step.entries × Counted passes
 
 -- what the answer to a line says of the count of faults of what is told: a write failed, or else none did
 abbrev pub HaltWriteCause : {A : Type 0} → Result A Halt → (old new : ℕ) → Type 0

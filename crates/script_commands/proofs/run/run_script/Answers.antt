@@ -28,3 +28,9 @@ returns-clause-outcome g c =
     run_outcome _ _ c.carry_out_lines.result
     (c.carry_out_lines.ensures.outcome (record { said = nothing_said; events = [] }) first) in
     search rules
+
+pub returns-clause-told : goal.returns-clause-told
+returns-clause-told g c =
+    c.carry_out_lines.ensures.told (record { said = nothing_said; events = [] })
+    (run_first c.new-stage.result c.new-stage.ensures.stands
+    (record { calls = omega (arith, c.new-stage.ensures.calls); ticks = omega (arith, c.new-stage.ensures.ticks) }))

@@ -9,3 +9,6 @@ returns-in-Ok-clause-played g c = λ w stands.
       c.in-Ok.ensures.reached w stands,
       c.in-Ok.ensures.passes w stands,
     )
+
+pub returns-in-Err-clause-played : goal.returns-in-Err-clause-played
+returns-in-Err-clause-played g c = λ w stands. (c.in-Err.ensures.step w stands, c.in-Err.ensures.passes w stands)

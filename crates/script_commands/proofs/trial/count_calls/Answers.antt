@@ -6,7 +6,7 @@ use Rattle.channel_sim.specs.World.{first_world}
 use Rattle.channel_sim.specs.WorldStands.{WorldStandsFor}
 use Rattle.script_commands.specs.inner.Trialled.{Counted, events_of_calls, made_own}
 use Rattle.script_commands.proofs.MadeText.{x_behind-more, x_behind-none}
-use Rattle.script_commands.proofs.Trialled.{counted_call, counted_none, counted_passes, counted_tally, events_of_calls-none, length-events_of_calls}
+use Rattle.script_commands.proofs.Trialled.{counted_call, counted_none, counted_passes, counted_tally, events_of_calls-none, halted_calls, length-events_of_calls}
 use Rattle.script_commands.proofs.trial.count_calls.Goals as goal
 
 pub loop-made-init : goal.loop-made-init
@@ -52,3 +52,11 @@ returns-clause-tally g c =
 pub returns-clause-passes : goal.returns-clause-passes
 returns-clause-passes g c =
     counted_passes _ c.args.seed c.loop-made.made _ _ _ (omega arith) c.loop-made.invariant.counts
+
+pub returns-in_err-count_call-clause-passes : goal.returns-in_err-count_call-clause-passes
+returns-in_err-count_call-clause-passes g c =
+    let before = c.loop-made.invariant in
+    halted_calls c.args.moments.now c.args.seed c.loop-made.made c.call.result c.loop-made.draws.x
+    c.count_call.new.moments before.drawn c.call.ensures.times (omega arith)
+    (c.count_call.ensures.few c.args.moments.now (facts.Own made_own) (events_of_calls c.args.seed c.loop-made.made)
+    before.counts)
