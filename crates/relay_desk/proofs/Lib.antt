@@ -1,0 +1,5 @@
+pub mod CarriedLemmas
+pub mod Phases
+pub mod QueueLemmas
+pub mod RequestLemmas
+pub mod UnitLemmas

@@ -1,0 +1,5 @@
+pub mod Carried
+pub mod Desk
+pub mod RelayStands
+pub mod Requests
+pub mod inner

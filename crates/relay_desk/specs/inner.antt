@@ -1,0 +1,3 @@
+-- Definitions that only contracts of private functions cite. No public contract rests on them.
+pub mod Queue
+pub mod Sets
