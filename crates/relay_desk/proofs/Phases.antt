@@ -3,7 +3,7 @@ use Rattle.std.proofs.Common.{arith, ◌≡◌, ◌<◌, ◌≤◌, ◌+◌, ◌
 use Rattle.std.specs.Prelude.{◌≢◌}
 use Rattle.std.proofs.Common.{inl, inr}
 use Rattle.std.proofs.lemmas.Bool.{cases_lt}
-use Rattle.relay_desk.specs.inner.Queue.{gap}
+use Rattle.relay_desk.specs.Waits.{gap}
 
 -- the ticks of a request that is made now
 pub fresh : (phase : ℕ) → phase < 10 → 0 * 10 + gap phase phase ≡ 0

@@ -8,7 +8,8 @@ use Rattle.std.proofs.Math.Seq.{take-add}
 use Rattle.std.proofs.lemmas.List.Sums.{sum_by-cons, sum_by-take-drop}
 use Rattle.relay_desk.specs.declared.pending.Wait.{Wait}
 use Rattle.relay_desk.specs.Desk.{give_up_after}
-use Rattle.relay_desk.specs.inner.Queue.{HasRoom, IsQueue, IsSettled, IsWait, SomeDue, aged, gap, is_at, passed, passed_wait, ticks_in, ticks_of, turned}
+use Rattle.relay_desk.specs.inner.Queue.{HasRoom, IsQueue, IsSettled, IsWait, SomeDue, aged, is_at, passed, passed_wait, turned}
+use Rattle.relay_desk.specs.Waits.{gap, ticks_in, ticks_of}
 use Rattle.relay_desk.proofs.Phases.{closes, due_then, gap_idle, gap_later, gap_turn, room_then}
 
 -- those that aren't pending have no ticks

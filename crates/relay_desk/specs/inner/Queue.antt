@@ -48,21 +48,6 @@ DueIn (Some n) ts = (1 ≤ n) × (n ≤ resend_after) × AllByRecursion (HasRoom
 
 -- How the ticks are kept.
 
--- how many ticks ago the message was sent, at this tick in ten
-abbrev pub gap : (phase at : ℕ) → ℕ
-gap phase at = (phase + 10 - at) % 10
-
-abbrev pub ticks_of : ℕ → Wait → ℕ
-ticks_of phase w = w.resent * 10 + gap phase w.at
-
-abbrev pub ticks_in : ℕ → Option Wait → Option ℕ
-ticks_in phase None = None
-ticks_in phase (Some w) = Some (ticks_of phase w)
-
-abbrev pub IsWait : Option Wait → Type 0
-IsWait None = Unit {0}
-IsWait (Some w) = (w.at < 10) × (w.resent < 10)
-
 abbrev pub is_at : ℕ → Option Wait → Bool
 is_at i None = false
 is_at i (Some w) = w.at == i

@@ -1,7 +1,8 @@
 use Rattle.std.proofs.Common.{arith, ◌+◌, ◌%◌, ◌∙◌, ap, map, drop}
 use Rattle.std.specs.Prelude.{count_by}
 use Rattle.std.proofs.lemmas.List.{take_rest}
-use Rattle.relay_desk.specs.inner.Queue.{is_at, ticks_in}
+use Rattle.relay_desk.specs.inner.Queue.{is_at}
+use Rattle.relay_desk.specs.Waits.{ticks_in}
 use Rattle.relay_desk.proofs.QueueLemmas.{front_passed, passed_queue, passed_ticks}
 use Rattle.relay_desk.proofs.pending.Pending.pass.Goals as goal
 
