@@ -115,14 +115,6 @@ abbrev pub WriteCause : Status → (old new : ℕ) → Type 0
 WriteCause status.WriteFault old new = Rose old new
 WriteCause _ old new = new ≡ old
 
--- the answers of what reads nothing
-abbrev pub EndsUnread : Status → Type 0
-EndsUnread status.Done = Unit {0}
-EndsUnread status.Usage = Unit {0}
-EndsUnread status.WriteFault = Unit {0}
-EndsUnread status.Memory = Unit {0}
-EndsUnread _ = ⊥
-
 -- the answers of a command that read all that it needed and wrote all that it owed
 abbrev pub IsUncut : Status → Type 0
 IsUncut status.Usage = ⊥
@@ -130,6 +122,13 @@ IsUncut status.ReadFault = ⊥
 IsUncut status.WriteFault = ⊥
 IsUncut status.Memory = ⊥
 IsUncut _ = Unit {0}
+
+-- an answer that was cut short, and not by a failed write
+abbrev pub IsCutSilently : Status → Type 0
+IsCutSilently status.Memory = Unit {0}
+IsCutSilently status.ReadFault = Unit {0}
+IsCutSilently status.TooLong = Unit {0}
+IsCutSilently _ = ⊥
 
 -- The answer is the status of the reply to these bytes, and its whole text was written.
 pub record IsWholeReply (replies : List ℕ → Reply → Type 0) (bytes : List ℕ) (held held' : Option (List ℕ))

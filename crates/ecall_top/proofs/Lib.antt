@@ -1,4 +1,5 @@
 mod ReplyLaws
+mod StatusLaws
 mod Unread
 mod Handed
 mod WholeAnswers

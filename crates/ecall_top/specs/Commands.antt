@@ -51,6 +51,13 @@ takes_memory (Some command.Register) = true
 takes_memory (Some (command.Trial number)) = true
 takes_memory _ = false
 
+-- whether a command writes nothing before its end, but the refusal of a line
+abbrev pub writes_once : Option Command → Bool
+writes_once (Some command.Register) = true
+writes_once (Some command.Replay) = true
+writes_once (Some (command.Trial number)) = true
+writes_once _ = false
+
 -- whether a command reads an input
 abbrev pub reads : Option Command → Bool
 reads None = false

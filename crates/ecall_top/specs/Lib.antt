@@ -1,3 +1,4 @@
 pub mod Commands
+pub mod Completeness
 pub mod Replies
 pub mod inner

@@ -8,13 +8,14 @@ ghost use Rattle.call_io.specs.Ways.{Onward};
 ghost use Rattle.line_input.specs.Lines.{most_bytes};
 ghost use Rattle.trace_model.specs.Safety.{Agreed, Bounded, Finished, Opened};
 ghost use Rattle.trace_text.specs.Script.{script_of};
-ghost use Rattle.ecall_top.specs.Commands.{command_of, plays, reads, takes_memory};
+ghost use Rattle.ecall_top.specs.Commands.{command_of, plays, reads, takes_memory, writes_once};
 ghost use Rattle.script_commands.specs.CutTraces.{IsSafelyCut};
 ghost use Rattle.command_base.specs.Ends.{EndsWithText};
-ghost use Rattle.command_base.specs.Outcome.{EndsUnread, IsUncut, IsWholeReply, ReadCause, WriteCause, streams_of};
+ghost use Rattle.command_base.specs.Outcome.{IsCutSilently, ReadCause, ToldBefore, WriteCause, streams_of};
+ghost use Rattle.ecall_top.specs.Completeness.{Closes, EndsUnread, IsComplete, NothingFailed};
 ghost use Rattle.ecall_top.specs.Replies.{CommandOutcome, Replies, usage_line};
 ghost use Rattle.script_commands.specs.Run.{script_tick, script_trace};
-ghost use Rattle.ecall_top.specs.inner.Ends.{HandsOver};
+ghost use Rattle.ecall_top.specs.inner.Ends.{CommandEnds, HandsOver};
 
 #[cfg(test)]
 mod block_tests;
@@ -71,11 +72,19 @@ pub fn ecall<I: Source, O: Sink, L: Ledger>(
     ensures outcome { CommandOutcome (command_of (map string_bytes words.now))
         (streams_of I.left O.held input.old output.old moments.old)
         (streams_of I.left O.held input.new output.new moments.new) result }
-    // Where the input tells its bytes, and they are no more than it may have, an answer that isn't cut short is the
-    // whole reply to the words and all of them.
-    ensures complete { (bytes : List ℕ) → I.left input.old ≡ Some bytes → length bytes ≤ most_bytes → IsUncut result →
-        IsWholeReply (λ input r. Replies (command_of (map string_bytes words.now)) input r) bytes
+    // Where the input tells its bytes, these are no more than it may have, and no read and no write failed, the answer is
+    // the whole reply to the words and all of them, or there was no memory.
+    ensures complete { (bytes : List ℕ) → I.left input.old ≡ Some bytes → length bytes ≤ most_bytes →
+        NothingFailed (I.faults input.old) (I.faults input.new) (O.faults output.old) (O.faults output.new) →
+        IsComplete (command_of (map string_bytes words.now)) bytes (O.held output.old) (O.held output.new) result }
+    // Where a read failed, what was taken stops within a line, and all that the lines before it give was written: nothing
+    // is kept back while more is read.
+    ensures told { ToldBefore (λ input r. Replies (command_of (map string_bytes words.now)) input r)
+        (λ text. Closes (command_of (map string_bytes words.now)) text) (I.left input.old) (I.left input.new)
         (O.held output.old) (O.held output.new) result }
+    // A command that writes at its end alone wrote nothing where it was cut short, and not by a failed write.
+    ensures silent { writes_once (command_of (map string_bytes words.now)) ≡ true → IsCutSilently result →
+        O.held output.new ≡ O.held output.old }
     // In the trace of every script, every acknowledged set was shown earlier by the point for that call, octet for
     // octet.
     ensures agreed { (script : List ℕ) → Agreed (script_trace (script_of script)) }
@@ -88,17 +97,14 @@ pub fn ecall<I: Source, O: Sink, L: Ledger>(
     // refuses a line of the script.
     ensures cut { command_of (map string_bytes words.now) ≡ Some Command.Run → (before written : List ℕ) →
         O.held output.old ≡ Some before → O.held output.new ≡ Some (before ++ written) → IsSafelyCut written }
-    // Words that name no command get the usage line unless writing fails.
-    ensures usage { command_of (map string_bytes words.now) ≡ None →
-        (result ≡ Status.Usage) ⊎ (result ≡ Status.WriteFault) }
     // Ends are passed by commands that play a script alone.
     ensures uncounted { (plays (command_of (map string_bytes words.now)) ≡ true) ⊎ (moments.new ≡ moments.old) }
     // Memory is wanted by those commands alone that take any.
     ensures in_place { result ≡ Status.Memory → takes_memory (command_of (map string_bytes words.now)) ≡ true }
-    // Words that name no command, and commands that read nothing, leave the input as it was, and are done, or couldn't
-    // write, or had no memory.
+    // Words that name no command, and commands that read nothing, leave the input as it was, and have no other answers
+    // than these.
     ensures untouched { reads (command_of (map string_bytes words.now)) ≡ false → I.left input.new ≡ I.left input.old }
-    ensures unrefused { reads (command_of (map string_bytes words.now)) ≡ false → EndsUnread result }
+    ensures ends_unread { EndsUnread (command_of (map string_bytes words.now)) result }
     // A read failed where the answer says so, and else none did; the same of writes.
     ensures unread { ReadCause result (I.faults input.old) (I.faults input.new) }
     ensures unwritten { WriteCause result (O.faults output.old) (O.faults output.new) }
@@ -118,15 +124,12 @@ fn carry_out<I: Source, O: Sink, L: Ledger>(
     moments: &mut Steps<L>,
 ) -> Status
     requires { pending output.old ≡ [] }
-    ensures outcome { CommandOutcome (command_of (map string_bytes words.now))
+    ensures ends { CommandEnds (command_of (map string_bytes words.now))
         (streams_of I.left (λ block. O.held (sink block)) input.old output.old moments.old)
         (streams_of I.left (λ block. O.held (sink block)) input.new output.new moments.new) result }
-    ensures usage { command_of (map string_bytes words.now) ≡ None →
-        (result ≡ Status.Usage) ⊎ (result ≡ Status.WriteFault) }
     ensures uncounted { (plays (command_of (map string_bytes words.now)) ≡ true) ⊎ (moments.new ≡ moments.old) }
     ensures in_place { result ≡ Status.Memory → takes_memory (command_of (map string_bytes words.now)) ≡ true }
     ensures untouched { reads (command_of (map string_bytes words.now)) ≡ false → I.left input.new ≡ I.left input.old }
-    ensures unrefused { reads (command_of (map string_bytes words.now)) ≡ false → EndsUnread result }
     ensures unread { ReadCause result (I.faults input.old) (I.faults input.new) }
     ensures unwritten { WriteCause result (O.faults (sink output.old)) (O.faults (sink output.new)) }
     ensures reads_counted { I.faults input.old ≤ I.faults input.new }
@@ -145,15 +148,14 @@ fn reply<I: Source, O: Sink, L: Ledger>(
     output: &mut Block<'_, O>,
     moments: &mut Steps<L>,
 ) -> Status
-    ensures outcome { CommandOutcome (command_of (map string_bytes words.now))
+    requires { pending output.old ≡ [] }
+    ensures ends { CommandEnds (command_of (map string_bytes words.now))
         (streams_of I.left (held O.held) input.old output.old moments.old)
         (streams_of I.left (held O.held) input.new output.new moments.new) result }
-    ensures usage { command_of (map string_bytes words.now) ≡ None →
-        (result ≡ Status.Usage) ⊎ (result ≡ Status.WriteFault) }
+    ensures handed { result ≡ Status.ReadFault → pending output.new ≡ [] }
     ensures uncounted { (plays (command_of (map string_bytes words.now)) ≡ true) ⊎ (moments.new ≡ moments.old) }
     ensures in_place { result ≡ Status.Memory → takes_memory (command_of (map string_bytes words.now)) ≡ true }
     ensures untouched { reads (command_of (map string_bytes words.now)) ≡ false → I.left input.new ≡ I.left input.old }
-    ensures unrefused { reads (command_of (map string_bytes words.now)) ≡ false → EndsUnread result }
     ensures unread { ReadCause result (I.faults input.old) (I.faults input.new) }
     ensures unwritten { WriteCause result (O.faults (sink output.old)) (O.faults (sink output.new)) }
     ensures reads_counted { I.faults input.old ≤ I.faults input.new }
@@ -189,6 +191,7 @@ fn usage<O: Sink>(output: &mut O) -> Status
 
 /// Hands the sink all that is pending, and answers how the command ended: so, or with a failed write.
 fn hand_over<O: Sink>(status: Status, output: &mut Block<'_, O>) -> Status
+    requires { status ≡ Status.ReadFault → pending output.old ≡ [] }
     ensures over { HandsOver status (pending output.new) result }
     ensures kept { held O.held output.new ≡ held O.held output.old }
     ensures unwritten { (before : ℕ) → WriteCause status before (O.faults (sink output.old)) →

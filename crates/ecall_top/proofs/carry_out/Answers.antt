@@ -2,31 +2,21 @@ use Rattle.std.specs.Prelude.{map}
 use Rattle.std.specs.String.{string_bytes}
 use Rattle.call_io.proofs.BlockLemmas.{Onward-append}
 use Rattle.ecall_top.specs.Commands.{command_of}
-use Rattle.ecall_top.proofs.Handed.{handed_over, handed_read, handed_usage, handed_memory, handed_unread}
+use Rattle.ecall_top.proofs.Handed.{handed_over, handed_read, handed_memory}
 use Rattle.ecall_top.proofs.carry_out.Goals as goal
 
-pub returns-clause-outcome : goal.returns-clause-outcome
-returns-clause-outcome g c =
+pub returns-clause-ends : goal.returns-clause-ends
+returns-clause-ends g c =
     handed_over (command_of (map string_bytes c.args.words.now)) g.O.Sink.held (g.I.Source.left c.args.input.now)
     (g.I.Source.left c.reply-status.new.input) c.args.moments.now c.reply-status.new.moments c.args.output.now
     c.reply-status.new.output c.hand_over.new.output c.requires
     (Onward-append _ _ _ c.reply-status.ensures.onward c.hand_over.ensures.onward) c.hand_over.ensures.kept
-    c.reply-status.result c.hand_over.result c.hand_over.ensures.over c.reply-status.ensures.outcome
-
-pub returns-clause-usage : goal.returns-clause-usage
-returns-clause-usage g c =
-    λ none. handed_usage c.reply-status.result c.hand_over.result _ c.hand_over.ensures.over
-    (c.reply-status.ensures.usage none)
+    c.reply-status.result c.hand_over.result c.hand_over.ensures.over c.reply-status.ensures.ends
 
 pub returns-clause-in_place : goal.returns-clause-in_place
 returns-clause-in_place g c =
     λ wants. c.reply-status.ensures.in_place
     (handed_memory c.reply-status.result c.hand_over.result _ c.hand_over.ensures.over wants)
-
-pub returns-clause-unrefused : goal.returns-clause-unrefused
-returns-clause-unrefused g c =
-    λ nothing. handed_unread c.reply-status.result c.hand_over.result _ c.hand_over.ensures.over
-    (c.reply-status.ensures.unrefused nothing)
 
 pub returns-clause-unread : goal.returns-clause-unread
 returns-clause-unread g c =

@@ -1,15 +1,15 @@
 use Rattle.trace_text.specs.Script.{script_of}
 use Rattle.script_commands.proofs.SafeTraces.{script_safe, script_finished}
-use Rattle.std.specs.Prelude.{ℕ, List, Some, map}
+use Rattle.std.specs.Prelude.{Some, map}
 use Rattle.std.specs.String.{string_bytes}
-use Rattle.std.proofs.Common.{◌∙◌, ap, subst, sym}
+use Rattle.std.proofs.Common.{rules, ◌∙◌, ap, subst, sym}
 use Rattle.call_io.specs.Blocks.{sink}
-use Rattle.command_base.specs.Outcome.{IsWholeReply, Streams}
-use Rattle.command_base.specs.Refusals.{Reply}
+use Rattle.command_base.specs.Outcome.{Streams}
 use Rattle.ecall_top.specs.Commands.{command_of, reads}
-use Rattle.ecall_top.specs.Replies.{CommandOutcome, Replies, passes_of}
+use Rattle.ecall_top.specs.Replies.{CommandOutcome, passes_of}
+use Rattle.ecall_top.specs.inner.Ends.{CommandEnds}
 use Rattle.ecall_top.specs.declared.command.Command.TheVariants as command
-use Rattle.ecall_top.proofs.WholeAnswers.{whole_answer}
+use Rattle.ecall_top.proofs.WholeAnswers.{complete_answer}
 use Rattle.script_commands.proofs.SafelyCut.{run_cut}
 use Rattle.ecall_top.proofs.ecall.Goals as goal
 
@@ -25,6 +25,57 @@ returns-clause-finished g c = λ script. script_finished (script_of script)
 pub returns-clause-bounded : goal.returns-clause-bounded
 returns-clause-bounded g c = λ script. (script_safe (script_of script)).bounded
 
+pub returns-clause-outcome : goal.returns-clause-outcome
+returns-clause-outcome g c =
+    let ends = subst (λ h'. CommandEnds (command_of (map string_bytes c.args.words.now))
+    (record { left = g.I.Source.left c.args.input.now; held = g.O.Sink.held c.args.output.now; passes = c.args.moments.now })
+    (record { left = g.I.Source.left c.carry_out.new.input; held = h'; passes = c.carry_out.new.moments }) c.carry_out.result)
+    (ap g.O.Sink.held
+    (sym (c.output-1.given.1 (sym (c.carry_out.ensures.same_sink ∙ c.over-block.ensures.same_sink)))))
+    (subst (λ h. CommandEnds (command_of (map string_bytes c.args.words.now))
+    (record { left = g.I.Source.left c.args.input.now; held = h; passes = c.args.moments.now })
+    (record {
+      left = g.I.Source.left c.carry_out.new.input;
+      held = g.O.Sink.held (sink c.carry_out.new.output);
+      passes = c.carry_out.new.moments;
+    }) c.carry_out.result) (ap g.O.Sink.held c.over-block.ensures.value) c.carry_out.ensures.ends) in
+    ends.outcome
+
+pub returns-clause-told : goal.returns-clause-told
+returns-clause-told g c =
+    let ends = subst (λ h'. CommandEnds (command_of (map string_bytes c.args.words.now))
+    (record { left = g.I.Source.left c.args.input.now; held = g.O.Sink.held c.args.output.now; passes = c.args.moments.now })
+    (record { left = g.I.Source.left c.carry_out.new.input; held = h'; passes = c.carry_out.new.moments }) c.carry_out.result)
+    (ap g.O.Sink.held
+    (sym (c.output-1.given.1 (sym (c.carry_out.ensures.same_sink ∙ c.over-block.ensures.same_sink)))))
+    (subst (λ h. CommandEnds (command_of (map string_bytes c.args.words.now))
+    (record { left = g.I.Source.left c.args.input.now; held = h; passes = c.args.moments.now })
+    (record {
+      left = g.I.Source.left c.carry_out.new.input;
+      held = g.O.Sink.held (sink c.carry_out.new.output);
+      passes = c.carry_out.new.moments;
+    }) c.carry_out.result) (ap g.O.Sink.held c.over-block.ensures.value) c.carry_out.ensures.ends) in
+    ends.told
+
+pub returns-clause-silent : goal.returns-clause-silent
+returns-clause-silent g c =
+    let ends = subst (λ h'. CommandEnds (command_of (map string_bytes c.args.words.now))
+    (record { left = g.I.Source.left c.args.input.now; held = g.O.Sink.held c.args.output.now; passes = c.args.moments.now })
+    (record { left = g.I.Source.left c.carry_out.new.input; held = h'; passes = c.carry_out.new.moments }) c.carry_out.result)
+    (ap g.O.Sink.held
+    (sym (c.output-1.given.1 (sym (c.carry_out.ensures.same_sink ∙ c.over-block.ensures.same_sink)))))
+    (subst (λ h. CommandEnds (command_of (map string_bytes c.args.words.now))
+    (record { left = g.I.Source.left c.args.input.now; held = h; passes = c.args.moments.now })
+    (record {
+      left = g.I.Source.left c.carry_out.new.input;
+      held = g.O.Sink.held (sink c.carry_out.new.output);
+      passes = c.carry_out.new.moments;
+    }) c.carry_out.result) (ap g.O.Sink.held c.over-block.ensures.value) c.carry_out.ensures.ends) in
+    ends.silent
+
+pub returns-clause-ends_unread : goal.returns-clause-ends_unread
+returns-clause-ends_unread g c = c.carry_out.ensures.ends.unread
+
 pub returns-clause-cut : goal.returns-clause-cut
 returns-clause-cut g c =
     λ runs. λ before written. λ was is.
@@ -39,29 +90,25 @@ returns-clause-cut g c =
       passes = c.carry_out.new.moments;
     } in
     run_cut (λ input. passes_of (Some command.Run) input) (reads (Some command.Run)) old new c.carry_out.result
-    (subst (λ asked. CommandOutcome asked old new c.carry_out.result) runs c.carry_out.ensures.outcome) before written
+    (subst (λ asked. CommandOutcome asked old new c.carry_out.result) runs c.carry_out.ensures.ends.outcome) before written
     (ap g.O.Sink.held c.over-block.ensures.value ∙ was)
     (ap g.O.Sink.held
     (sym (c.output-1.given.1 (sym (c.carry_out.ensures.same_sink ∙ c.over-block.ensures.same_sink)))) ∙ is)
 
 pub returns-clause-complete : goal.returns-clause-complete
 returns-clause-complete g c =
-    λ bytes told few uncut.
-    let asked = command_of (map string_bytes c.args.words.now) in
-    let To : List ℕ → Reply → Type 0 = λ input r. Replies asked input r in
-    let old : Streams = record {
-      left = g.I.Source.left c.args.input.now;
-      held = g.O.Sink.held (sink c.over-block.result);
-      passes = c.args.moments.now;
-    } in
-    let new : Streams = record {
+    λ bytes told few calm.
+    let ends = subst (λ h'. CommandEnds (command_of (map string_bytes c.args.words.now))
+    (record { left = g.I.Source.left c.args.input.now; held = g.O.Sink.held c.args.output.now; passes = c.args.moments.now })
+    (record { left = g.I.Source.left c.carry_out.new.input; held = h'; passes = c.carry_out.new.moments }) c.carry_out.result)
+    (ap g.O.Sink.held
+    (sym (c.output-1.given.1 (sym (c.carry_out.ensures.same_sink ∙ c.over-block.ensures.same_sink)))))
+    (subst (λ h. CommandEnds (command_of (map string_bytes c.args.words.now))
+    (record { left = g.I.Source.left c.args.input.now; held = h; passes = c.args.moments.now })
+    (record {
       left = g.I.Source.left c.carry_out.new.input;
       held = g.O.Sink.held (sink c.carry_out.new.output);
       passes = c.carry_out.new.moments;
-    } in
-    subst (λ h. IsWholeReply To bytes (g.O.Sink.held c.args.output.now) h c.carry_out.result)
-    (ap g.O.Sink.held
-    (sym (c.output-1.given.1 (sym (c.carry_out.ensures.same_sink ∙ c.over-block.ensures.same_sink)))))
-    (subst (λ h. IsWholeReply To bytes h (g.O.Sink.held (sink c.carry_out.new.output)) c.carry_out.result)
-    (ap g.O.Sink.held c.over-block.ensures.value)
-    (whole_answer asked old new bytes told few c.carry_out.result uncut c.carry_out.ensures.outcome))
+    }) c.carry_out.result) (ap g.O.Sink.held c.over-block.ensures.value) c.carry_out.ensures.ends) in
+    complete_answer (command_of (map string_bytes c.args.words.now)) _ _ bytes told few c.carry_out.result _ _ _ _
+    (search rules) (search rules) calm c.carry_out.ensures.in_place ends.outcome
