@@ -100,7 +100,8 @@ impl Turns {
     /// The desk request is given up.
     fn give_up(&mut self, place: u32) -> Result<(), AllocError>
         requires { place + 1 < 2 ^ 32 }
-        ensures notes { OnOk result (self.new.notes.items ≡ self.old.notes.items ++ RelayNote.GaveUp (place + 1) ∷ []) }
+        ensures notes { OnOk result (self.new.notes.items
+            ≡ self.old.notes.items ++ RelayNote.GaveUp (place + 1) ∷ []) }
         ensures again { OnOk result (self.new.again.items ≡ self.old.again.items ++ []) }
     {
         self.notes.push(RelayNote::GaveUp(place + 1))?;

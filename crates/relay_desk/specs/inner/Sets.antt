@@ -1,4 +1,5 @@
--- What a unit tick brings for each desk request, by the places of their sets. Cited by the private functions of the desk.
+-- What a unit tick brings for each desk request, by the places of their sets. Cited by the private functions of the
+-- desk.
 use Rattle.std.specs.Prelude.{◌+◌, ℕ, List, [], ◌∷◌, ◌++◌, Option}
 use Rattle.relay_desk.specs.declared.event.RelayNote.{RelayNote}
 use Rattle.relay_desk.specs.declared.sets.DeskSet.{DeskSet}
@@ -18,7 +19,8 @@ turn_place turn.Waits place = []
 abbrev pub turn_items : ℕ → ℕ → List DeskSet → List (Option ℕ) → List RelayNote
 turn_items n place [] ts = []
 turn_items n place (s ∷ ss) [] = []
-turn_items n place (s ∷ ss) (t ∷ ts) = turn_item (turn_in n t) (message_of place s) ++ turn_items n (place + 1) ss ts
+turn_items n place (s ∷ ss) (t ∷ ts) =
+    turn_item (turn_in n t) (message_of place s) ++ turn_items n (place + 1) ss ts
 
 abbrev pub turn_places : ℕ → ℕ → List DeskSet → List (Option ℕ) → List ℕ
 turn_places n place [] ts = []
