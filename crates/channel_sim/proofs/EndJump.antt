@@ -14,7 +14,7 @@ use Rattle.ivs_machine.specs.VehicleRows as vehicle
 use Rattle.psap_machine.specs.Point as at_point
 use Rattle.psap_machine.specs.Point.{Point}
 use Rattle.psap_machine.specs.PointRows as point
-use Rattle.channel_sim.specs.World.{left_by}
+use Rattle.trace_fit.specs.Seats.{left_by}
 
 -- Lines by the ticks that they have left.
 
