@@ -13,7 +13,3 @@ ticks_of phase w = w.resent * 10 + gap phase w.at
 abbrev pub ticks_in : ℕ → Option Wait → Option ℕ
 ticks_in phase None = None
 ticks_in phase (Some w) = Some (ticks_of phase w)
-
-abbrev pub IsWait : Option Wait → Type 0
-IsWait None = Unit {0}
-IsWait (Some w) = (w.at < 10) × (w.resent < 10)

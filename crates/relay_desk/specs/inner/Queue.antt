@@ -48,6 +48,10 @@ DueIn (Some n) ts = (1 ≤ n) × (n ≤ resend_after) × AllByRecursion (HasRoom
 
 -- How the ticks are kept.
 
+abbrev pub IsWait : Option Wait → Type 0
+IsWait None = Unit {0}
+IsWait (Some w) = (w.at < 10) × (w.resent < 10)
+
 abbrev pub is_at : ℕ → Option Wait → Bool
 is_at i None = false
 is_at i (Some w) = w.at == i
