@@ -37,7 +37,6 @@ impl Model for Pending {
     ghost Value = { List (Option ℕ) };
 
     ghost use Rattle.relay_desk.specs.inner.Queue.{IsQueue};
-
     ghost use Rattle.relay_desk.specs.Waits.{ticks_in};
 
     ghost view = { λ p. map (ticks_in p.phase) p.waits.items };

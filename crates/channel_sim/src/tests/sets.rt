@@ -1,7 +1,9 @@
 //! Worked scripts in which a set is told, asked for, or damaged.
 ghost use Rattle.std.specs.Prelude.{◌≡◌, ◌<◌};
 
-use super::plays::{accepts, ends, gives_the_set, goes_to, opened, requested, talked, tells_in_vain};
+use super::plays::{
+    accepts, ends, gives_the_set, goes_to, opened, requested, talked, tells_in_vain,
+};
 use super::{
     Played, SET, acked, answered, asks, deliver, down, ended, flow, positive, request, sends,
     takes, tells, tick, voice,

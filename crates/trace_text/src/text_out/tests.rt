@@ -51,11 +51,7 @@ fn up() -> Note {
 }
 
 fn three_entries() -> [Entry; 3] {
-    [
-        at(0, Note::Arming),
-        at(49, Note::Cancelled),
-        at(50, up()),
-    ]
+    [at(0, Note::Arming), at(49, Note::Cancelled), at(50, up())]
 }
 
 /// 38 bytes: 9, 13 and 16.
