@@ -34,8 +34,8 @@ pub record Answered (replies : List ℕ → Reply → Type 0) (most : List ℕ �
 
 -- This input was taken, and the answer was cut short: the sink grew by exactly this text, with which a reply begins
 -- whatever comes behind a front of what was taken; or, where the source is at its end, a reply to what was taken. No
--- more was taken than an input may have and what is read at once, and ends were passed no more often than what was taken
--- gives reason for.
+-- more was taken than an input may have and what is read at once, and ends were passed no more often than what was
+-- taken gives reason for.
 pub record CutShort (replies : List ℕ → Reply → Type 0) (most : List ℕ → ℕ) (old new : Streams) (input : List ℕ)
     : Type 0 where
   pub took : Took old.left new.left input

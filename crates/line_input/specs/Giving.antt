@@ -1,5 +1,5 @@
--- What the reader of a source's bytes says of the bytes at hand when it gives the next one, or a run of them that ends no
--- line. This project's profile. Cited by the contract of `Bytes`.
+-- What the reader of a source's bytes says of the bytes at hand when it gives the next one, or a run of them that ends
+-- no line. This project's profile. Cited by the contract of `Bytes`.
 use Rattle.std.specs.Prelude.{◌≡◌, ℕ, ◌+◌, ◌-◌, min, take, ◌<◌, ◌≤◌, nat_lt, true, false, List, [], ◌∷◌, ◌++◌, length, Option, Some, None, Result, Ok, Err}
 use Rattle.std.specs.List.{AllByRecursion, before_first, list_any, slice_range}
 use Rattle.line_input.specs.Characters.{newline, is_newline}

@@ -25,8 +25,8 @@ pub record IsSettledBy (Holds : List ℕ → Type 0) (number : ℕ) (input : Lis
   pub near : length rest ≤ most_at_once
   pub holds : (more : List ℕ) → Holds (front ++ more)
 
--- What was taken stops within a line, as far as it is known: whole lines, of which this holds, and then a part of a line
--- that neither ended nor is too long.
+-- What was taken stops within a line, as far as it is known: whole lines, of which this holds, and then a part of a
+-- line that neither ended nor is too long.
 pub record StopsWithin (Holds : List ℕ → Type 0) (input : List ℕ) : Type 0 where
   pub front : List ℕ
   pub unended : List ℕ

@@ -69,8 +69,8 @@ pub record FindsEnd (old new : Reading) (bytes : List ℕ) : Type 0 where
   pub ended : new.feed.ended ≡ true
   pub lines : lines_of bytes ≡ passed
 
--- A front of the bytes is lines that are passed over and then one that is refused, whatever may follow: as far as to its
--- newline, to the end of the input, or to the first byte that is too many for a line.
+-- A front of the bytes is lines that are passed over and then one that is refused, whatever may follow: as far as to
+-- its newline, to the end of the input, or to the first byte that is too many for a line.
 pub record FindsBad (old new : Reading) (bytes : List ℕ) (bad : BadLine) : Type 0 where
   pub front : List ℕ
   pub passed : List (List ℕ)

@@ -1,6 +1,6 @@
--- What the two ends of a live link tell each other in a round: a message of parts, as octets, and what an item of an end
--- gives to send. This project's profile. Cited by the contracts of `write_part` and `part_of_item`, and by the runs of
--- both ends.
+-- What the two ends of a live link tell each other in a round: a message of parts, as octets, and what an item of an
+-- end gives to send. This project's profile. Cited by the contracts of `write_part` and `part_of_item`, and by the runs
+-- of both ends.
 use Rattle.std.specs.Prelude.{ℕ, Bool, false, List, [], ◌∷◌, ◌++◌, ◌/◌, ◌%◌}
 use Rattle.std.specs.List.{flat_map}
 use Rattle.link_frames.specs.declared.note.Note.{Note}

@@ -45,7 +45,8 @@ abbrev pub IsGoing : PartReader → Type 0
 IsGoing r = IsGoingIn r.stage r.reader
 
 -- what an octet behind these makes of a part, by what was answered
-abbrev pub Says : Next Part → (kept : List ℕ) → (octet : ℕ) → Result (Option Part) PartFault → (new : PartReader) → Type 0
+abbrev pub Says : Next Part → (kept : List ℕ) → (octet : ℕ) → Result (Option Part) PartFault → (new : PartReader)
+    → Type 0
 Says More kept octet (Ok None) new = (kept_of new ≡ kept ++ octet ∷ []) × IsGoing new
 Says (Whole part) kept octet (Ok (Some p)) new = (p ≡ part) × (kept_of new ≡ []) × IsGoing new
 Says (Wrong fault) kept octet (Err f) new = f ≡ fault

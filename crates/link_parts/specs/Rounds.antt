@@ -1,5 +1,5 @@
--- The messages that a stream of octets consists of, as an end reads them, and where they stop: at the end of the octets,
--- or at an octet with which no message goes on. It is read octet by octet. This project's profile. Cited by the
+-- The messages that a stream of octets consists of, as an end reads them, and where they stop: at the end of the
+-- octets, or at an octet with which no message goes on. It is read octet by octet. This project's profile. Cited by the
 -- contracts of `MessageReader` and `PartFault`, and by the runs of both ends.
 use Rattle.std.specs.Prelude.{ℕ, ◌+◌, ◌*◌, Bool, false, List, [], ◌∷◌, ◌++◌, ◌==◌, ◌&&◌, ◌||◌, length, nat_le, if◌then◌else◌}
 use Rattle.link_frames.specs.declared.frame.End.{End}
@@ -43,7 +43,8 @@ number_of n (o ∷ os) = number_of (n * 256 + o) os
 -- Frames: an octet behind those that have come of one.
 
 abbrev pub frame_of_one : ℕ → Next Frame
-frame_of_one o = if o == 1 then Whole frame.Init else if nat_le 2 o && nat_le o 6 then More else Wrong (wrong.Frame fault.Kind)
+frame_of_one o =
+    if o == 1 then Whole frame.Init else if nat_le 2 o && nat_le o 6 then More else Wrong (wrong.Frame fault.Kind)
 
 abbrev pub frame_of_two : (kind request : ℕ) → Next Frame
 frame_of_two kind r =
@@ -108,7 +109,8 @@ next_part e _ o = More
 
 -- Messages.
 
--- What an octet makes of a message of which some whole parts, or none, and the octets of a part that has begun have come.
+-- What an octet makes of a message of which some whole parts, or none, and the octets of a part that has begun have
+-- come.
 pub data Taken : Type 0 where
   -- a part goes on, of which these octets have come
   GoesOn : (kept : List ℕ) → Taken
@@ -141,8 +143,8 @@ take_octet e none kept o =
 abbrev pub and_message : List Part → Rounds → Rounds
 and_message parts rest = record rest { messages = Parts parts ∷ rest.messages }
 
--- The messages from a place on, where these whole parts and these octets of one have come of the first. Behind the octet
--- in place of a message nothing is read.
+-- The messages from a place on, where these whole parts and these octets of one have come of the first. Behind the
+-- octet in place of a message nothing is read.
 abbrev pub rounds_from : End → (parts : List Part) → (kept : List ℕ) → (place : ℕ) → List ℕ → Rounds
 rounds_from e parts kept place [] = record { messages = []; stop = LinkCut }
 rounds_from e parts kept place (o ∷ octets) = elim (take_octet e (length parts == 0) kept o) [

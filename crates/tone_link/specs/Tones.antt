@@ -1,5 +1,5 @@
--- How a frame goes over a voice channel: each of its bits is eight samples, and its samples are one block. This project's
--- own modem, and nothing of 3GPP TS 26.267. Cited by the contracts of `tone_write` and `bit_sum`.
+-- How a frame goes over a voice channel: each of its bits is eight samples, and its samples are one block. This
+-- project's own modem, and nothing of 3GPP TS 26.267. Cited by the contracts of `tone_write` and `bit_sum`.
 use Rattle.std.specs.Prelude.{ℕ, ◌*◌, ℤ, pos, neg_ℤ, ◌+ℤ◌, Bool, true, false, List, [], ◌∷◌, map, take, drop}
 use Rattle.std.specs.List.{flat_map}
 use Rattle.link_frames.specs.declared.frame.Frame.{Frame}

@@ -1,5 +1,6 @@
 -- Both ends of a call as seats: where an end is in the call, and how that fits what the entries say of its leg. This
--- project's profile. Cited by the definitions of the world, by the invariant of the world and by the laws of joint traces.
+-- project's profile. Cited by the definitions of the world, by the invariant of the world and by the laws of joint
+-- traces.
 use Rattle.std.specs.Prelude.{◌≡◌, ℕ, ◌+◌, ◌==◌, Bool, true, false, List, Option, Some, None, if◌then◌else◌}
 use Rattle.link_frames.specs.Legs.{Kept}
 use Rattle.link_frames.specs.Owes.{Seat}

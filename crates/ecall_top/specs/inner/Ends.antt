@@ -1,5 +1,5 @@
--- What an answer to words says, and what it becomes where what was written is handed over. This project's profile. Cited
--- by the functions that carry out a command and hand over what it wrote.
+-- What an answer to words says, and what it becomes where what was written is handed over. This project's profile.
+-- Cited by the functions that carry out a command and hand over what it wrote.
 use Rattle.std.specs.Prelude.{◌≡◌, ℕ, ◌⊎◌, true, List, [], Option}
 use Rattle.command_base.specs.declared.status.Status.{Status}
 use Rattle.command_base.specs.declared.status.Status.TheVariants as status
@@ -9,13 +9,14 @@ use Rattle.ecall_top.specs.Commands.{writes_once}
 use Rattle.ecall_top.specs.Completeness.{Closes, EndsUnread}
 use Rattle.ecall_top.specs.Replies.{CommandOutcome, Replies}
 
--- What an answer says of the bytes taken and written, and of the passes: by the reply to the words; that all was written
--- that the lines before a failed read gave; that a command which writes at its end alone wrote nothing where it was cut
--- short before; and which answers there are where nothing is read.
+-- What an answer says of the bytes taken and written, and of the passes: by the reply to the words; that all was
+-- written that the lines before a failed read gave; that a command which writes at its end alone wrote nothing where it
+-- was cut short before; and which answers there are where nothing is read.
 pub record CommandEnds (asked : Option Command) (old new : Streams) (answer : Status) : Type 0 where
   pub outcome : CommandOutcome asked old new answer
   pub told :
-      ToldBefore (λ input r. Replies asked input r) (λ text. Closes asked text) old.left new.left old.held new.held answer
+      ToldBefore (λ input r. Replies asked input r) (λ text. Closes asked text) old.left new.left old.held new.held
+      answer
   pub silent : writes_once asked ≡ true → IsCutSilently answer → new.held ≡ old.held
   pub unread : EndsUnread asked answer
 
