@@ -170,16 +170,19 @@ fn the_least_set_of_format_1_has_room_for_107_octets(rt: HostRuntime) {
     assert_eq!(rt; &set[30..33], [0xa0, 0x20, 0x6d].as_slice());
 }
 
+// Checks that a set has the front of the full set of format 1, and 99 octets 0 behind it.
+fn same_halves(rt: &impl Abort, set: &[u8]) {
+    assert_eq!(rt; set.get(..41), Some(FRONT_OF_FORMAT_1.as_slice()));
+    assert_eq!(rt; set.get(41..), ZEROS.get(..99));
+}
+
 // With 297 bits beside it, additional data of 101 octets needs 1121 bits, and of 100 octets 1113.
 #[test]
 fn the_full_set_of_format_1_has_room_for_100_octets(rt: HostRuntime) {
     let extras = [zeros(&rt, 1, 100), zeros(&rt, 1, 99)];
     let mut facts = full(&rt, &extras);
     facts.format = Format::One;
-    let set = spell(&facts, Cause::Auto, 1);
-    assert_eq!(rt; set.len(), 140);
-    assert_eq!(rt; &set[..41], FRONT_OF_FORMAT_1.as_slice());
-    assert_eq!(rt; &set[41..], &ZEROS[..99]);
+    same_halves(&rt, spell(&facts, Cause::Auto, 1).as_slice());
 }
 
 #[test]
