@@ -5,6 +5,8 @@ mod make;
 #[cfg(test)]
 mod make_tests;
 #[cfg(test)]
+mod outside_tests;
+#[cfg(test)]
 mod refusal_tests;
 mod register;
 #[cfg(test)]
@@ -14,6 +16,8 @@ mod replay;
 mod replay_tests;
 #[cfg(test)]
 mod restart_tests;
+#[cfg(test)]
+mod row_tests;
 mod run;
 #[cfg(test)]
 mod run_tests;

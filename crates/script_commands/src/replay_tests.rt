@@ -1,8 +1,8 @@
 //! What no clause says: that the definitions mean, on traces worked out by hand, what the description of an audit says.
 
 use crate::tests::{Asked, bad, expand_all, expect, failing, source};
-use command_base::Status;
-use line_input::Reason;
+use command_base::{Refused, Status};
+use line_input::{BadLine, Reason};
 use std::alloc::Global;
 use std::process::Abort;
 use std::test::Fail;
@@ -84,4 +84,53 @@ fn refuses_a_line_and_says_no_more(rt: HostRuntime) -> Result<(), Fail> {
 fn writes_nothing_behind_a_failed_read(rt: HostRuntime) -> Result<(), Fail> {
     let whole = [SENT, SHOWN, ACKNOWLEDGED];
     expect_told(&rt, rt.alloc(), &whole, 2, Status::ReadFault, "")
+}
+
+/// Traces at the bounds of what is sound, how their replay ends, and what is written.
+const AT_BOUNDS: [(&str, Status, &str); 5] = [
+    (
+        "0 up vehicle 1\n0 voice vehicle 1 muted muted\n70 ended vehicle 1 T5\n70 nothing\n",
+        Status::Broken {
+            line: 4,
+            rule: Rule::Opened,
+        },
+        "broken 4 2\n",
+    ),
+    (
+        "0 up vehicle 1\n0 voice vehicle 1 muted muted\n321 nothing\n",
+        Status::Broken {
+            line: 3,
+            rule: Rule::Bounded,
+        },
+        "broken 3 3\n",
+    ),
+    (
+        "0 up vehicle 1\n0 voice vehicle 1 muted muted\n320 nothing\n",
+        Status::Done,
+        "sound 3\n",
+    ),
+    (
+        "0 up point 1\n0 voice point 1 open open\n19 voice point 1 muted muted\n",
+        Status::Broken {
+            line: 3,
+            rule: Rule::Bounded,
+        },
+        "broken 3 3\n",
+    ),
+    (
+        "5 nothing\n4 nothing\n",
+        Status::Refused(Refused::Line(BadLine {
+            line: 2,
+            reason: Reason::Number,
+        })),
+        "refused 2 2\n",
+    ),
+];
+
+#[test]
+fn tells_of_traces_at_the_bounds(rt: HostRuntime) -> Result<(), Fail> {
+    for (trace, status, text) in &AT_BOUNDS {
+        expect_told(&rt, rt.alloc(), &[trace], 0, *status, text)?;
+    }
+    Ok(())
 }

@@ -25,10 +25,12 @@ pub(crate) enum Asked {
 }
 
 /// A set of data; the digits of its 140 octets, for which `H` stands in the expected lines; and its summary, for which
-/// `S` stands there.
+/// `S` stands there. For those of the second set of the same facts stand `G` and `U`.
 pub(crate) const SET: &str = "set 02000681d54970d65c3597ca0420c414640af05f080452e9960413e2550168\n";
 
 const DIGITS: &str = "02000681d54970d65c3597ca0420c414640af05f080452e9960413e2550168";
+
+const SECOND_DIGITS: &str = "02000a81d54970d65c3597ca0420c414640af05f080452e9960413e2550168";
 
 pub(crate) const ZEROS: &str =
     "000000000000000000000000000000000000000000000000000000000000000000000000000000000000000000\
@@ -36,6 +38,8 @@ pub(crate) const ZEROS: &str =
     00000000000000000000000000000000000000";
 
 const SUMMARY: &str = "ok 1 WM9VDSVDSYA123456 1577836800 173880000 41700000";
+
+const SECOND_SUMMARY: &str = "ok 2 WM9VDSVDSYA123456 1577836800 173880000 41700000";
 
 /// The facts of which a vehicle makes that set.
 pub(crate) const FACTS: &str =
@@ -69,19 +73,24 @@ pub(crate) const UP: &str = "0 dial 1
 0 voice point 1 muted muted
 ";
 
-/// Adds what stands for a character: the digits of the set for `H`, its summary for `S`, and else itself.
+/// Adds what stands for a character: the digits of a set for `H` and `G`, its summary for `S` and `U`, and else itself.
 fn push_expanded(text: &mut String, c: char) -> Result<(), AllocError> {
     match c {
         'H' => {
             text.push_str(DIGITS)?;
             text.push_str(ZEROS)
         }
+        'G' => {
+            text.push_str(SECOND_DIGITS)?;
+            text.push_str(ZEROS)
+        }
         'S' => text.push_str(SUMMARY),
+        'U' => text.push_str(SECOND_SUMMARY),
         _ => text.push(c),
     }
 }
 
-/// Text with the digits of the set in place of each `H`, and its summary in place of each `S`.
+/// Text with the digits of the sets in place of each `H` and `G`, and their summaries in place of each `S` and `U`.
 pub(crate) fn expand(alloc: Global, text: &str) -> Result<String, AllocError> {
     let mut all = String::new(alloc);
     for c in text.chars() {
@@ -164,7 +173,7 @@ pub(crate) fn bad(line: u32, reason: Reason) -> Status {
 
 /// A sink with room for any run here.
 pub(crate) fn sink(alloc: Global, fails: Vec<u64>) -> Result<MemSink, Fail> {
-    Ok(MemSink::new(alloc, 20_000, fails)?)
+    Ok(MemSink::new(alloc, 100_000, fails)?)
 }
 
 /// How it ends over this input, and a sink that holds what it wrote, where the writes of these numbers fail.
@@ -239,4 +248,13 @@ pub(crate) fn joined(alloc: Global, pieces: &[&str]) -> Result<String, AllocErro
 /// How many newlines were written.
 pub(crate) fn lines_in(written: &[u8]) -> usize {
     written.iter().filter(|byte| **byte == b'\n').count()
+}
+
+/// So many times the same text.
+pub(crate) fn repeated(alloc: Global, text: &str, count: usize) -> Result<String, AllocError> {
+    let mut all = String::new(alloc);
+    for _ in 0..count {
+        all.push_str(text)?;
+    }
+    Ok(all)
 }

@@ -11,10 +11,10 @@ use std::process::Abort;
 use std::test::Fail;
 
 /// A call whose frames are handed over after 3 ticks by themselves.
-const FLOWS: &str = "flow up 3\nflow down 3\ntrigger auto\nanswer\n";
+pub(crate) const FLOWS: &str = "flow up 3\nflow down 3\ntrigger auto\nanswer\n";
 
 /// What it comes to in its first 100 ticks, once it is up.
-const FLOWS_TRACE: &str = "3 send point 1 start 1
+pub(crate) const FLOWS_TRACE: &str = "3 send point 1 start 1
 5 send vehicle 1 init
 6 send vehicle 1 data 1 0 H
 8 send point 1 start 1
@@ -31,14 +31,19 @@ const FLOWS_TRACE: &str = "3 send point 1 start 1
 ";
 
 /// Checks what is written for a script that stands behind the facts.
-fn expect_run(rt: &impl Abort, alloc: Global, script: &str, text: &str) -> Result<(), Fail> {
+pub(crate) fn expect_run(
+    rt: &impl Abort,
+    alloc: Global,
+    script: &str,
+    text: &str,
+) -> Result<(), Fail> {
     let input = source(alloc, &[FACTS, script], 4096, Vec::new(alloc))?;
     tests::expect(rt, alloc, Asked::Run, text, input, Status::Done, text)
 }
 
 /// Checks what is written for a script that stands behind the facts: what a call that comes up gives, and then these
 /// two pieces.
-fn expect(
+pub(crate) fn expect(
     rt: &impl Abort,
     alloc: Global,
     script: &[&str],

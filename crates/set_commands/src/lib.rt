@@ -4,6 +4,8 @@
 mod conform;
 #[cfg(test)]
 mod conform_tests;
+#[cfg(test)]
+mod damaged_tests;
 mod decode;
 #[cfg(test)]
 mod decode_tests;
