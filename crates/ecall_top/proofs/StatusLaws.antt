@@ -18,7 +18,7 @@ use Rattle.set_commands.specs.Encode.{encoded_from, facts_behind}
 use Rattle.set_commands.specs.Frames.{AreFrames, IsLineOfFrames}
 use Rattle.script_commands.specs.Register.{registered}
 use Rattle.script_commands.specs.Replay.{verdict_status}
-use Rattle.script_commands.specs.Run.{ended, script_trace}
+use Rattle.script_stage.specs.ScriptTrace.{ended, script_trace}
 use Rattle.trace_model.specs.declared.entry.Entry.{Entry}
 use Rattle.ecall_top.specs.declared.command.Command.{Command}
 use Rattle.ecall_top.specs.declared.command.Command.TheVariants as command

@@ -12,7 +12,7 @@ use Rattle.command_base.specs.Refusals.{Reply}
 use Rattle.command_base.specs.declared.status.Status.{Status}
 use Rattle.command_base.specs.declared.status.Status.TheVariants as status
 use Rattle.script_commands.specs.Make.{made_script}
-use Rattle.script_commands.specs.Run.{script_passes}
+use Rattle.script_stage.specs.ScriptTrace.{script_passes}
 use Rattle.script_commands.specs.Trial.{EndsTrial, trial_reply}
 use Rattle.ecall_top.specs.Commands.{reads, writes_once}
 use Rattle.ecall_top.specs.Completeness.{Closes, EndsUnread}

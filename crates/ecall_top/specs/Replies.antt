@@ -17,7 +17,8 @@ use Rattle.command_base.specs.Outcome.{Outcome, Streams}
 use Rattle.command_base.specs.Refusals.{Reply}
 use Rattle.script_commands.specs.Replay.{IsReplayed}
 use Rattle.script_commands.specs.Register.{register_reply}
-use Rattle.script_commands.specs.Run.{run_reply, script_passes}
+use Rattle.script_stage.specs.ScriptTrace.{script_passes}
+use Rattle.script_commands.specs.Run.{run_reply}
 use Rattle.script_commands.specs.Trial.{trial_reply}
 
 abbrev pub usage_line : List ℕ

@@ -14,7 +14,7 @@ ghost use Rattle.command_base.specs.Ends.{EndsWithText};
 ghost use Rattle.command_base.specs.Outcome.{IsCutSilently, ReadCause, ToldBefore, WriteCause, streams_of};
 ghost use Rattle.ecall_top.specs.Completeness.{Closes, EndsUnread, IsComplete, NothingFailed};
 ghost use Rattle.ecall_top.specs.Replies.{CommandOutcome, Replies, usage_line};
-ghost use Rattle.script_commands.specs.Run.{script_tick, script_trace};
+ghost use Rattle.script_stage.specs.ScriptTrace.{script_tick, script_trace};
 ghost use Rattle.ecall_top.specs.inner.Ends.{CommandEnds, HandsOver};
 
 #[cfg(test)]

@@ -28,7 +28,7 @@ use Rattle.line_input.proofs.NumberLemmas.{digits_model, first_true, second_true
 use Rattle.script_commands.specs.declared.make.CallTimes.{CallTimes}
 use Rattle.script_commands.specs.Make.{call_lines, call_times, fact_lines, lines_of_calls, made_script, most_made, text_of_lines, x_behind}
 use Rattle.script_commands.specs.inner.Trialled.{call_events, events_of_calls, made_own}
-use Rattle.script_commands.specs.inner.ScriptLaws.{judged-line, script_from-line, script_from-none}
+use Rattle.script_stage.specs.inner.ScriptLaws.{judged-line, script_from-line, script_from-none}
 
 -- ---- lines of printable characters
 

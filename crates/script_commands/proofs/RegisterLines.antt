@@ -15,20 +15,21 @@ use Rattle.command_base.specs.LineCommands.{Begins, IsQuietLine, Ends, EndsInput
 use Rattle.command_base.specs.Refusals.{line_of, refusal_line, refusal_reply}
 use Rattle.command_base.specs.Outcome.{Outcome, Streams}
 use Rattle.script_commands.specs.Register.{register_reply, table_line}
-use Rattle.script_commands.specs.Run.{played, script_passes}
+use Rattle.script_stage.specs.ScriptTrace.{played, script_passes}
 use Rattle.command_base.specs.declared.refusal.Refused.{Refused}
-use Rattle.script_commands.specs.declared.stage.Stage.{Stage}
+use Rattle.script_stage.specs.declared.stage.Stage.{Stage}
 use Rattle.command_base.specs.declared.status.Status.{Status}
 use Rattle.command_base.specs.declared.status.Status.TheVariants as status
-use Rattle.script_commands.specs.inner.Progress.{event_of}
+use Rattle.script_stage.specs.Progress.{event_of}
 use Rattle.script_commands.specs.inner.RegisterTurns.{RegisteredFrom, Registers, RegisterStands, WritesRows, registered_script}
-use Rattle.script_commands.specs.inner.ScriptSeen.{ScriptSeen, passes_behind_lines, passes_from, script_behind}
-use Rattle.script_commands.specs.inner.ScriptLaws.{behind_none, behind_refused, judged-line}
-use Rattle.script_commands.specs.inner.ScriptTurns.{RefusedLine}
-use Rattle.script_commands.specs.inner.Stage.{IsEarly, StageStandsFor}
+use Rattle.script_stage.specs.ScriptSeen.{ScriptSeen, passes_behind_lines, passes_from, script_behind}
+use Rattle.script_stage.specs.inner.ScriptLaws.{behind_none, judged-line}
+use Rattle.script_commands.specs.inner.RegisterLaws.{behind_refused}
+use Rattle.script_stage.specs.ScriptTurns.{RefusedLine}
+use Rattle.script_stage.specs.Stage.{IsEarly, StageStandsFor}
 use Rattle.command_base.proofs.LineEnds as ends
-use Rattle.script_commands.proofs.ScriptSoFar.{passes_said, passes_whole, played-nothing, script_said, tidy_behind, trace_behind}
-use Rattle.script_commands.proofs.PlayedLines.{early_next}
+use Rattle.script_stage.proofs.ScriptSoFar.{passes_said, passes_whole, played-nothing, script_said, tidy_behind, trace_behind}
+use Rattle.script_stage.proofs.PlayedLines.{early_next}
 
 -- nothing was said yet
 pub register_first : (stage : Stage) (rows : Rows) → StageStandsFor stage nothing_said [] → IsEarly stage 0

@@ -11,20 +11,21 @@ use Rattle.trace_text.specs.declared.script.ScriptLine.{ScriptLine}
 use Rattle.command_base.specs.LineCommands.{Ends, GoesOn, TakesLine}
 use Rattle.command_base.specs.Outcome.{Outcome, Streams}
 use Rattle.command_base.specs.Refusals.{Reply, line_of, refusal_line, refusal_reply, in_front_of}
-use Rattle.script_commands.specs.Run.{played, run_reply, script_passes}
+use Rattle.script_stage.specs.ScriptTrace.{played, script_passes}
+use Rattle.script_commands.specs.Run.{run_reply}
 use Rattle.command_base.specs.declared.refusal.Refused.{Refused}
-use Rattle.script_commands.specs.declared.stage.Stage.{Stage}
+use Rattle.script_stage.specs.declared.stage.Stage.{Stage}
 use Rattle.command_base.specs.declared.status.Status.{Status}
 use Rattle.command_base.specs.declared.status.Status.TheVariants as status
-use Rattle.script_commands.specs.inner.Progress.{entries_of, event_of}
-use Rattle.script_commands.specs.inner.ScriptSeen.{ScriptSeen, passes_behind_lines, passes_from}
+use Rattle.script_stage.specs.Progress.{entries_of, event_of}
+use Rattle.script_stage.specs.ScriptSeen.{ScriptSeen, passes_behind_lines, passes_from}
 use Rattle.script_commands.specs.inner.RunLaws.{RunFrom, RunStands, run_lined, run_refused, script_reply, text_so_far}
-use Rattle.script_commands.specs.inner.ScriptLaws.{judged-line}
-use Rattle.script_commands.specs.inner.ScriptTurns.{Plays, RefusedLine}
-use Rattle.script_commands.specs.inner.Stage.{IsEarly, StageStandsFor}
+use Rattle.script_stage.specs.inner.ScriptLaws.{judged-line}
+use Rattle.script_stage.specs.ScriptTurns.{Plays, RefusedLine}
+use Rattle.script_stage.specs.Stage.{IsEarly, StageStandsFor}
 use Rattle.command_base.proofs.LineEnds as ends
-use Rattle.script_commands.proofs.ScriptSoFar.{passes_said, passes_whole, script_said, tidy_behind, trace_behind}
-use Rattle.script_commands.proofs.PlayedLines.{early_next}
+use Rattle.script_stage.proofs.ScriptSoFar.{passes_said, passes_whole, script_said, tidy_behind, trace_behind}
+use Rattle.script_stage.proofs.PlayedLines.{early_next}
 
 -- nothing was said yet
 pub run_first : (stage : Stage) → StageStandsFor stage nothing_said [] → IsEarly stage 0

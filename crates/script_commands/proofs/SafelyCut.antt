@@ -14,12 +14,13 @@ use Rattle.trace_model.proofs.Fronts.{nothing_safe, safe_front}
 use Rattle.script_commands.specs.CutTraces.{AreSafeLines, IsSafelyCut}
 use Rattle.command_base.specs.Outcome.{CutShort, Outcome, Streams}
 use Rattle.command_base.specs.Refusals.{Reply, refusal_line}
-use Rattle.script_commands.specs.Run.{ended, run_reply, script_tick, script_trace}
+use Rattle.script_stage.specs.ScriptTrace.{ended, script_tick, script_trace}
+use Rattle.script_commands.specs.Run.{run_reply}
 use Rattle.command_base.specs.declared.refusal.Refused.TheVariants as refused
 use Rattle.command_base.specs.declared.status.Status.{Status}
 use Rattle.command_base.specs.declared.status.Status.TheVariants as status
 use Rattle.command_base.proofs.LineEnds.{cut_partly}
-use Rattle.script_commands.proofs.SafeTraces.{script_safe}
+use Rattle.script_stage.proofs.SafeTraces.{script_safe}
 
 -- Of two ways to cut a list, one cuts further behind.
 data CutTwice (a b c d : List ℕ) : Type 0 where

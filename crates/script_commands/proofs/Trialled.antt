@@ -17,14 +17,14 @@ use Rattle.channel_sim.specs.World.{first_world}
 use Rattle.channel_sim.specs.WorldStands.{WorldStandsFor, calls_drawn, ticks_reached}
 use Rattle.script_commands.specs.declared.make.CallTimes.{CallTimes}
 use Rattle.script_commands.specs.Make.{call_times, made_script, most_made, text_of_lines, x_behind}
-use Rattle.script_commands.specs.Run.{script_passes, script_trace}
+use Rattle.script_stage.specs.ScriptTrace.{script_passes, script_trace}
 use Rattle.script_commands.specs.Trial.{made_tally, trial_text}
 use Rattle.script_commands.specs.inner.Trialled.{Counted, call_events, events_of_calls, made_own, most_events}
 use Rattle.script_commands.proofs.MadeScript.{made_says}
 use Rattle.script_commands.proofs.MadeText.{AreLines}
-use Rattle.script_commands.proofs.ScriptSoFar.{bound_from-append}
-use Rattle.script_commands.proofs.StagePlays.{world_after-push}
-use Rattle.script_commands.specs.inner.RunLaws.{trace_from-append}
+use Rattle.script_stage.proofs.ScriptSoFar.{bound_from-append}
+use Rattle.script_stage.proofs.StagePlays.{world_after-push}
+use Rattle.script_stage.specs.inner.TraceLaws.{trace_from-append}
 
 -- before any event
 pub counted_none : (start : ℕ) (known : Facts) (world : World) (tally : Tally)

@@ -11,7 +11,7 @@ use Rattle.call_register.specs.Text.{table_text}
 use Rattle.command_base.specs.declared.refusal.Refused.TheVariants as refused
 use Rattle.command_base.specs.declared.status.Status.TheVariants as status
 use Rattle.command_base.specs.Refusals.{Reply, refusal_reply}
-use Rattle.script_commands.specs.Run.{script_trace}
+use Rattle.script_stage.specs.ScriptTrace.{script_trace}
 
 -- the text of a table, and a newline
 abbrev pub table_line : Rows → List ℕ

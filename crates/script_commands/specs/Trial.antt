@@ -9,7 +9,7 @@ use Rattle.command_base.specs.declared.status.Status.{Status}
 use Rattle.command_base.specs.declared.status.Status.TheVariants as status
 use Rattle.script_commands.specs.Make.{made_script, text_of_lines}
 use Rattle.command_base.specs.Refusals.{Reply}
-use Rattle.script_commands.specs.Run.{script_trace}
+use Rattle.script_stage.specs.ScriptTrace.{script_trace}
 
 -- the lines of the counts: entries, calls that the point took, sets shown, sets acknowledged, and the last entry's tick
 abbrev pub tally_lines : Tally → List (List ℕ)

@@ -21,7 +21,6 @@ mod row_tests;
 mod run;
 #[cfg(test)]
 mod run_tests;
-mod stage;
 #[cfg(test)]
 mod tests;
 #[cfg(test)]

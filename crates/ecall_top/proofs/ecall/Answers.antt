@@ -1,5 +1,5 @@
 use Rattle.trace_text.specs.Script.{script_of}
-use Rattle.script_commands.proofs.SafeTraces.{script_safe, script_finished}
+use Rattle.script_stage.proofs.SafeTraces.{script_safe, script_finished}
 use Rattle.std.specs.Prelude.{Some, map}
 use Rattle.std.specs.String.{string_bytes}
 use Rattle.std.proofs.Common.{rules, ◌∙◌, ap, subst, sym}

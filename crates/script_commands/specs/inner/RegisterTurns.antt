@@ -9,16 +9,16 @@ use Rattle.trace_text.specs.declared.script.ScriptLine.{ScriptLine}
 use Rattle.call_register.specs.Growth.{RegisterGrew}
 use Rattle.call_register.specs.Rows.{Rows}
 use Rattle.call_register.specs.Table.{table}
-use Rattle.script_commands.specs.declared.stage.Stage.{Stage}
+use Rattle.script_stage.specs.declared.stage.Stage.{Stage}
 use Rattle.command_base.specs.declared.status.Status.{Status}
 use Rattle.command_base.specs.declared.status.Status.TheVariants as status
 use Rattle.command_base.specs.Refusals.{Reply}
 use Rattle.script_commands.specs.Register.{registered, table_line}
-use Rattle.script_commands.specs.Run.{played, script_trace}
+use Rattle.script_stage.specs.ScriptTrace.{played, script_trace}
 use Rattle.command_base.specs.Ends.{EndsWithText}
-use Rattle.script_commands.specs.inner.ScriptSeen.{IsTidy, ScriptSeen, script_behind}
-use Rattle.script_commands.specs.inner.ScriptTurns.{PlaysTo}
-use Rattle.script_commands.specs.inner.Stage.{IsEarly, StageStandsFor}
+use Rattle.script_stage.specs.ScriptSeen.{IsTidy, ScriptSeen, script_behind}
+use Rattle.script_stage.specs.ScriptTurns.{PlaysTo}
+use Rattle.script_stage.specs.Stage.{IsEarly, StageStandsFor}
 
 abbrev pub registered_script : Script → Reply
 registered_script script = registered (script_trace script) script.refused

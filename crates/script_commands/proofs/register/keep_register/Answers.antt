@@ -3,7 +3,7 @@ use Rattle.call_io.specs.Blocks.{held}
 use Rattle.trace_text.specs.Script.{nothing_said, script_of}
 use Rattle.command_base.specs.Outcome.{Outcome, streams_of}
 use Rattle.script_commands.specs.Register.{register_reply}
-use Rattle.script_commands.specs.Run.{script_passes}
+use Rattle.script_stage.specs.ScriptTrace.{script_passes}
 use Rattle.script_commands.specs.inner.RegisterTurns.{RegisterStands}
 use Rattle.script_commands.proofs.RegisterLines.{register_first, register_outcome}
 use Rattle.script_commands.proofs.register.keep_register.Goals as goal

@@ -3,7 +3,7 @@ use Rattle.std.proofs.Common.{◌+◌, ◌≤◌, refl}
 use Rattle.call_register.specs.Growth.{RegisterGrew}
 use Rattle.trace_text.specs.Script.{placed}
 use Rattle.command_base.specs.declared.refusal.Refused.TheVariants as refused
-use Rattle.script_commands.proofs.PlayedLines.{refused_by}
+use Rattle.script_stage.proofs.PlayedLines.{refused_by}
 use Rattle.script_commands.proofs.register.obey.Goals as goal
 
 pub returns-in-Err-Refused-clause-plays : goal.returns-in-Err-Refused-clause-plays

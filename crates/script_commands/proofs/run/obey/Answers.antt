@@ -1,8 +1,8 @@
 use Rattle.std.proofs.Common.{◌+◌, ◌≤◌}
 use Rattle.call_io.specs.Bytes.{Grew, GrewPartly}
 use Rattle.trace_text.specs.EntryLine.{text_of}
-use Rattle.script_commands.specs.inner.Stage.{StageStandsFor}
-use Rattle.script_commands.proofs.PlayedLines.{plays_out_of_place}
+use Rattle.script_stage.specs.Stage.{StageStandsFor}
+use Rattle.script_stage.proofs.PlayedLines.{plays_out_of_place}
 use Rattle.script_commands.proofs.run.obey.Goals as goal
 
 pub returns-in-Err-Refused-clause-plays : goal.returns-in-Err-Refused-clause-plays

@@ -1,8 +1,8 @@
 use Rattle.std.proofs.Common.{◌+◌, ◌≤◌, arith}
 use Rattle.call_io.specs.Bytes.{Grew, GrewPartly}
 use Rattle.trace_text.specs.EntryLine.{text_of}
-use Rattle.script_commands.specs.inner.Stage.{StageStandsFor}
-use Rattle.script_commands.proofs.PlayedLines.{plays_said, plays_refused}
+use Rattle.script_stage.specs.Stage.{StageStandsFor}
+use Rattle.script_stage.proofs.PlayedLines.{plays_said, plays_refused}
 use Rattle.script_commands.proofs.run.play_line.Goals as goal
 
 pub returns-in-Ok-clause-plays : goal.returns-in-Ok-clause-plays

@@ -1,5 +1,5 @@
 use Rattle.std.proofs.Common.{rules, ◌+◌, ◌≤◌}
-use Rattle.script_commands.proofs.PlayedLines.{KeepsSink, told_same_sink}
+use Rattle.script_stage.proofs.PlayedLines.{KeepsSink, told_same_sink}
 use Rattle.script_commands.proofs.run.tell.Goals as goal
 
 pub returns-clause-unwritten : goal.returns-clause-unwritten

@@ -10,12 +10,12 @@ use Rattle.trace_text.specs.EntryLine.{text_of}
 use Rattle.trace_text.specs.Script.{Said, said_after}
 use Rattle.command_base.specs.declared.refusal.Refused.{Refused}
 use Rattle.command_base.specs.declared.refusal.Refused.TheVariants as refused
-use Rattle.script_commands.specs.declared.stage.Stage.{Stage}
+use Rattle.script_stage.specs.declared.stage.Stage.{Stage}
 use Rattle.command_base.specs.declared.status.Status.{Status}
 use Rattle.command_base.specs.declared.status.Status.TheVariants as status
 use Rattle.command_base.specs.Refusals.{refusal_line}
-use Rattle.script_commands.specs.inner.Progress.{event_of, entries_of, passes_by}
-use Rattle.script_commands.specs.inner.Stage.{IsNext, StageStandsFor}
+use Rattle.script_stage.specs.Progress.{event_of, entries_of, passes_by}
+use Rattle.script_stage.specs.Stage.{IsNext, StageStandsFor}
 
 -- What a line says in its place, what was told of it, and how often ends were passed for it.
 pub record Told (place : Result (Option ScriptLine) Reason) (said : Said) (events : List Event)

@@ -12,11 +12,11 @@ use Rattle.trace_text.specs.Facts.{facts_in}
 use Rattle.trace_text.specs.Script.{Said, judged, said_after, script_from}
 use Rattle.channel_sim.specs.Lines.{bound_from, passes_within, step, trace_from, world_after}
 use Rattle.channel_sim.specs.World.{World, first_world}
-use Rattle.script_commands.specs.Run.{most_passes, played, script_passes}
-use Rattle.script_commands.specs.inner.Progress.{event_of, events_before, entries_in, entries_of, passes_by, passes_in, world_left}
-use Rattle.script_commands.specs.inner.ScriptSeen.{IsTidy, ScriptSeen, passes_behind_lines, script_behind}
-use Rattle.script_commands.specs.inner.RunLaws.{IsNoFact, no_fact_judged, trace_from-append}
-use Rattle.script_commands.specs.inner.ScriptLaws.{behind_none, events_before-in_front, passes_passed, script_from-bad, script_from-comment, script_from-line}
+use Rattle.script_stage.specs.ScriptTrace.{most_passes, played, script_passes}
+use Rattle.script_stage.specs.Progress.{event_of, events_before, entries_in, entries_of, passes_by, passes_in, world_left}
+use Rattle.script_stage.specs.ScriptSeen.{IsTidy, ScriptSeen, passes_behind_lines, script_behind}
+use Rattle.script_stage.specs.inner.TraceLaws.{IsNoFact, no_fact_judged, trace_from-append}
+use Rattle.script_stage.specs.inner.ScriptLaws.{behind_none, events_before-in_front, passes_passed, script_from-bad, script_from-comment, script_from-line}
 
 -- the entries of one more line stand behind those before it
 pub played-line : (said : Said) (events : List Event) → (says : ScriptLine)

@@ -1,6 +1,6 @@
 use Rattle.std.proofs.Common.{◌+◌, ◌≤◌, Some}
-use Rattle.script_commands.proofs.StagePlays.{obeys_next}
-use Rattle.script_commands.proofs.stage.Stage.go_on.Goals as goal
+use Rattle.script_stage.proofs.StagePlays.{obeys_next}
+use Rattle.script_stage.proofs.stage.Stage.go_on.Goals as goal
 
 pub returns-in-Some-clause-obeys : goal.returns-in-Some-clause-obeys
 returns-in-Some-clause-obeys g c =

@@ -17,10 +17,10 @@ use Rattle.channel_sim.specs.Lines.{world_after}
 use Rattle.channel_sim.specs.World as model
 use Rattle.channel_sim.specs.World.{first_world}
 use Rattle.channel_sim.specs.WorldStands.{WorldStandsFor, calls_drawn, ticks_reached}
-use Rattle.script_commands.specs.declared.stage.Stage.{Stage}
-use Rattle.script_commands.specs.declared.stage.Halt.{Halt}
-use Rattle.script_commands.specs.declared.stage.Halt.TheVariants as halt
-use Rattle.script_commands.specs.inner.Progress.{event_of, entries_of, passes_by}
+use Rattle.script_stage.specs.declared.stage.Stage.{Stage}
+use Rattle.script_stage.specs.declared.stage.Halt.{Halt}
+use Rattle.script_stage.specs.declared.stage.Halt.TheVariants as halt
+use Rattle.script_stage.specs.Progress.{event_of, entries_of, passes_by}
 
 -- the facts, or the world that they led to, stand for what the lines said and the events that they brought
 abbrev pub StandsBy : Draft → Option World → Said → List Event → Type 0

@@ -1,4 +1,4 @@
-use Rattle.script_commands.proofs.stage.play.Goals as goal
+use Rattle.script_stage.proofs.stage.play.Goals as goal
 
 pub returns-in-Ok-clause-played : goal.returns-in-Ok-clause-played
 returns-in-Ok-clause-played g c = λ w stands.

@@ -15,11 +15,11 @@ use Rattle.channel_sim.specs.World as model
 use Rattle.channel_sim.specs.Lines.{passes_within, step, world_after}
 use Rattle.channel_sim.specs.World.{first_world}
 use Rattle.channel_sim.specs.WorldStands.{WorldStandsFor, calls_drawn, ticks_reached}
-use Rattle.script_commands.specs.declared.stage.Stage.{Stage}
-use Rattle.script_commands.specs.declared.stage.Halt.{Halt}
-use Rattle.script_commands.specs.declared.stage.Halt.TheVariants as halt
-use Rattle.script_commands.specs.inner.Progress.{entries_in, passes_in, world_left}
-use Rattle.script_commands.specs.inner.Stage.{StandsBy, StageStandsFor, StandsIn, Obeys, PlaysEvent, calls_by, calls_in, ticks_by, ticks_in}
+use Rattle.script_stage.specs.declared.stage.Stage.{Stage}
+use Rattle.script_stage.specs.declared.stage.Halt.{Halt}
+use Rattle.script_stage.specs.declared.stage.Halt.TheVariants as halt
+use Rattle.script_stage.specs.Progress.{entries_in, passes_in, world_left}
+use Rattle.script_stage.specs.Stage.{StandsBy, StageStandsFor, StandsIn, Obeys, PlaysEvent, calls_by, calls_in, ticks_by, ticks_in}
 
 -- the world behind one more event
 pub world_after-push : (w : model.World) → (es : List Event) (e : Event)

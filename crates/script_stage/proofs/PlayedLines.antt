@@ -11,20 +11,20 @@ use Rattle.trace_text.specs.declared.script.ScriptLine.{ScriptLine}
 use Rattle.line_input.specs.Lines.{Numbered}
 use Rattle.trace_text.specs.Script.{Said, placed, placed_line, script_line}
 use Rattle.line_input.specs.Lines.{line_answer}
-use Rattle.script_commands.specs.declared.stage.Stage.{Stage}
+use Rattle.script_stage.specs.declared.stage.Stage.{Stage}
 use Rattle.command_base.specs.declared.status.Status.{Status}
 use Rattle.command_base.specs.declared.status.Status.TheVariants as status
 use Rattle.command_base.specs.Refusals.{refusal_line}
 use Rattle.command_base.specs.declared.refusal.Refused.{Refused}
 use Rattle.command_base.specs.declared.refusal.Refused.TheVariants as refused
-use Rattle.script_commands.specs.inner.Stage.{IsEarly, IsNext, Obeys}
-use Rattle.script_commands.specs.declared.stage.Halt.{Halt}
-use Rattle.script_commands.specs.declared.stage.Halt.TheVariants as halt
+use Rattle.script_stage.specs.Stage.{IsEarly, IsNext, Obeys}
+use Rattle.script_stage.specs.declared.stage.Halt.{Halt}
+use Rattle.script_stage.specs.declared.stage.Halt.TheVariants as halt
 use Rattle.trace_text.specs.declared.text_out.TextOut.{TextOut}
 use Rattle.trace_text.specs.TextListener.{TextGrew, TextGrewPartly, sink, sink_name}
 use Rattle.call_io.specs.Ways.{Way, Onward}
 use Rattle.command_base.specs.Ends.{EndsWithText}
-use Rattle.script_commands.specs.inner.ScriptTurns.{PlaysTo}
+use Rattle.script_stage.specs.ScriptTurns.{PlaysTo}
 
 -- what is read in a line is what it says
 answer_ok : (line : Numbered) (says : ScriptLine) → (r : Result ScriptLine Reason) → Ok says ≡ line_answer line r

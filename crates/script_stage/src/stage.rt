@@ -1,4 +1,4 @@
-//! What a script that is being played has come to.
+//! The stage: what the lines of a script so far have come to.
 
 ghost use Rattle.std.specs.Prelude.{◌≡◌, ℕ, ◌+◌, ◌^◌, ◌<◌, ◌≤◌, List, [], None, Some};
 ghost use Rattle.trace_model.specs.declared.event.Event.{Event};
@@ -7,8 +7,8 @@ ghost use Rattle.channel_sim.specs.Lines as lines;
 ghost use Rattle.channel_sim.specs.World as model;
 ghost use Rattle.channel_sim.specs.WorldStands.{WorldStandsFor, calls_drawn, ticks_reached};
 ghost use Rattle.trace_text.specs.declared.script.ScriptLine.TheVariants as line;
-ghost use Rattle.script_commands.specs.inner.Stage.{HaltWriteCause, Learns, Obeys, PlaysEvent};
-ghost use Rattle.script_commands.specs.inner.Stage.{StageStandsFor, calls_in, ticks_in};
+ghost use Rattle.script_stage.specs.Stage.{HaltWriteCause, Learns, Obeys, PlaysEvent};
+ghost use Rattle.script_stage.specs.Stage.{StageStandsFor, calls_in, ticks_in};
 
 use channel_sim::{SimFault, World};
 use line_input::Reason;
@@ -20,15 +20,17 @@ use trace_text::{Draft, FactLine, ScriptLine};
 
 /// What the lines so far have come to: facts, and from the first event line on a world.
 #[derive(Drop)]
-pub(crate) struct Stage {
+pub struct Stage {
     draft: Draft,
     world: Option<World>,
 }
 
 /// Why a line isn't played to its end.
 #[derive(Clone, Copy, Debug, PartialEq, Eq)]
-pub(crate) enum Halt {
+pub enum Halt {
+    /// The line is refused in its place.
     Refused(Reason),
+    /// What listens couldn't write, or there was no memory: the stage is spent.
     Sim(SimFault),
 }
 
@@ -54,7 +56,7 @@ fn ticks_are_few(event: &Event)
 
 impl Stage {
     /// Before any line.
-    pub(crate) fn new() -> Stage
+    pub fn new() -> Stage
         ensures stands { StageStandsFor result nothing_said [] }
         ensures calls { calls_in result ≡ 0 }
         ensures ticks { ticks_in result ≡ 0 }
@@ -67,7 +69,7 @@ impl Stage {
 
     /// Plays one line: a fact in front of the first event, or an event. Where a fault of the simulation is answered,
     /// the stage is spent.
-    pub(crate) fn obey<H: Listener, L: Ledger>(
+    pub fn obey<H: Listener, L: Ledger>(
         &mut self,
         alloc: Global,
         says: &ScriptLine,
@@ -139,7 +141,7 @@ impl Stage {
 }
 
 /// Plays an event in a world.
-pub(crate) fn play<H: Listener, L: Ledger>(
+pub fn play<H: Listener, L: Ledger>(
     world: &mut World,
     alloc: Global,
     event: &Event,

@@ -3,7 +3,7 @@
 use Rattle.std.specs.Prelude.{◌≡◌, ℕ, ◌+◌, ◌⊎◌, true, List, [], ◌∷◌, ◌++◌, Some, None, Ok, Err}
 use Rattle.trace_text.specs.Script.{Said, Script, judged, said_after, script_from}
 use Rattle.trace_model.specs.declared.event.Event.{Event}
-use Rattle.script_commands.specs.inner.Progress.{event_of, events_before, passes_by}
+use Rattle.script_stage.specs.Progress.{event_of, events_before, passes_by}
 
 -- what the lines so far said, and the events that they brought
 pub record ScriptSeen : Type 0 where

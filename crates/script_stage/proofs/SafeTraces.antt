@@ -5,7 +5,7 @@ use Rattle.msd_fit.specs.declared.facts.Facts.{Facts}
 use Rattle.trace_model.specs.Safety.{Finished, Safe}
 use Rattle.trace_text.specs.Script.{Script}
 use Rattle.channel_sim.proofs.Whole.{trace_fits}
-use Rattle.script_commands.specs.Run.{tick_after, played, script_tick, script_trace}
+use Rattle.script_stage.specs.ScriptTrace.{tick_after, played, script_tick, script_trace}
 
 -- nothing is safe
 nothing_safe : Safe [] 0

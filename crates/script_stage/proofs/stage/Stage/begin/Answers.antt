@@ -1,6 +1,6 @@
 use Rattle.std.proofs.Common.{◌+◌, ◌≤◌, Some}
-use Rattle.script_commands.proofs.StagePlays.{obeys_first}
-use Rattle.script_commands.proofs.stage.Stage.begin.Goals as goal
+use Rattle.script_stage.proofs.StagePlays.{obeys_first}
+use Rattle.script_stage.proofs.stage.Stage.begin.Goals as goal
 
 pub returns-clause-obeys : goal.returns-clause-obeys
 returns-clause-obeys g c =

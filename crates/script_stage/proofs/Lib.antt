@@ -1,0 +1,4 @@
+pub mod ScriptSoFar
+pub mod StagePlays
+pub mod PlayedLines
+pub mod SafeTraces
