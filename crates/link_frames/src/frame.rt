@@ -89,3 +89,27 @@ impl Frame {
         }
     }
 }
+
+impl FrameRef<'_> {
+    /// The same frame, with octets of its own.
+    pub fn own(self) -> Frame
+        ensures { result ≡ lent self.entry }
+    {
+        match self {
+            FrameRef::Init => Frame::Init,
+            FrameRef::Start(request) => Frame::Start(request),
+            FrameRef::Content {
+                request,
+                attempt,
+                octets,
+            } => Frame::Content {
+                request,
+                attempt,
+                octets: *octets,
+            },
+            FrameRef::Nack(request) => Frame::Nack(request),
+            FrameRef::Ack(request) => Frame::Ack(request),
+            FrameRef::App { request, answer } => Frame::App { request, answer },
+        }
+    }
+}
