@@ -1,13 +1,12 @@
 //! Reads the parts of messages, octet by octet.
 
 ghost use Rattle.std.specs.Prelude.{◌≡◌, ◌≤◌, ◌<◌, ◌+◌, ◌++◌, ◌∷◌, [], ◌^◌, ◌==◌, length, Ok, None};
-ghost use Rattle.link_frames.specs.Frame.{lent};
 ghost use Rattle.link_parts.specs.Rounds.{carried, next_frame, next_part, number_of, numbered, part_of_one};
 ghost use Rattle.link_parts.specs.PartReading.{IsBegun, IsGoing, Says, kept_of, kind_octet};
 
 use crate::fault::PartFault;
 use crate::part::Part;
-use link_frames::{End, Frame, FrameRef, Reader};
+use link_frames::{End, Reader};
 
 /// A part that has a number.
 #[derive(Clone, Copy, Debug, PartialEq, Eq)]
@@ -42,28 +41,6 @@ fn number(a: u8, b: u8, c: u8, d: u8) -> u32
     ensures { result ≡ number_of 0 (a ∷ b ∷ c ∷ d ∷ []) }
 {
     a as u32 * 16777216 + b as u32 * 65536 + c as u32 * 256 + d as u32
-}
-
-/// The same frame, with its own octets.
-fn owned(frame: FrameRef<'_>) -> Frame
-    ensures { result ≡ lent frame.entry }
-{
-    match frame {
-        FrameRef::Init => Frame::Init,
-        FrameRef::Start(request) => Frame::Start(request),
-        FrameRef::Content {
-            request,
-            attempt,
-            octets,
-        } => Frame::Content {
-            request,
-            attempt,
-            octets: *octets,
-        },
-        FrameRef::Nack(request) => Frame::Nack(request),
-        FrameRef::Ack(request) => Frame::Ack(request),
-        FrameRef::App { request, answer } => Frame::App { request, answer },
-    }
 }
 
 impl PartReader {
@@ -176,7 +153,7 @@ impl PartReader {
             Ok(_) => match self.reader.frame() {
                 None => Ok(None),
                 Some(frame) => {
-                    let part = Part::Carries(number(a, b, c, d), owned(frame));
+                    let part = Part::Carries(number(a, b, c, d), frame.own());
                     self.stage = PartStage::Nothing;
                     Ok(Some(part))
                 }

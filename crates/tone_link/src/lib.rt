@@ -11,6 +11,6 @@ mod writing;
 
 pub use fault::ToneFault;
 pub use laws::frame_laws;
-pub use reading::{own, tone_read};
+pub use reading::tone_read;
 pub use sums::bit_sum;
 pub use writing::{MOST_SAMPLES, tone_write};

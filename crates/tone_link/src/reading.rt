@@ -1,6 +1,5 @@
 //! Frames from samples.
 ghost use Rattle.std.specs.Prelude.{◌≡◌, ◌≤◌, ◌<◌, ◌+◌, ◌*◌, ◌↔◌, ◌⊎◌, ℕ, ℤ, List, Result, Ok, length, IsTrue, MatchOption, MatchResult};
-ghost use Rattle.link_frames.specs.Frame.{lent};
 ghost use Rattle.link_frames.specs.FrameOctets.{frame_octets, IsFrame};
 ghost use Rattle.link_frames.specs.declared.frame.Frame.{Frame};
 ghost use Rattle.per_bits.specs.Bits.{digits};
@@ -15,7 +14,7 @@ use crate::fault::ToneFault;
 use crate::sums::bit_sum;
 use crate::writing::MOST_SAMPLES;
 use arrayvec::ArrayVec;
-use link_frames::{Frame, FrameRef, Reader};
+use link_frames::{Frame, Reader};
 
 /// How many samples an octet has.
 const OCTET_SAMPLES: usize = 64;
@@ -124,29 +123,7 @@ fn whole_frame(octets: &[u8]) -> Option<Frame>
         return None;
     }
     match reader.frame() {
-        Some(frame) => Some(own(frame)),
+        Some(frame) => Some(frame.own()),
         None => None,
-    }
-}
-
-/// The frame, with octets of its own.
-pub fn own(frame: FrameRef<'_>) -> Frame
-    ensures { result ≡ lent frame.entry }
-{
-    match frame {
-        FrameRef::Init => Frame::Init,
-        FrameRef::Start(request) => Frame::Start(request),
-        FrameRef::Content {
-            request,
-            attempt,
-            octets,
-        } => Frame::Content {
-            request,
-            attempt,
-            octets: *octets,
-        },
-        FrameRef::Nack(request) => Frame::Nack(request),
-        FrameRef::Ack(request) => Frame::Ack(request),
-        FrameRef::App { request, answer } => Frame::App { request, answer },
     }
 }

@@ -21,4 +21,4 @@ returns-in-Some c =
     let most : c.in-Ok.field-0 ≤ 1 = c.in-Ok.ensures.bound in
     let some : 0 < c.in-Ok.field-0 = c.in-Ok.ensures.some (omega arith) in
     says_whole c.args.self.now.reader c.feed.new.self c.args.a c.args.b c.args.c c.args.d c.args.octet c.in-Ok.field-0
-    c.number.result c.owned.result _ refl (omega arith) (sym c.in-Some.ensures ∙ ap Some (sym c.owned.ensures)) c.number.ensures (c.in-Ok.ensures.fed c.requires.going.going)
+    c.number.result c.own.result _ refl (omega arith) (sym c.in-Some.ensures ∙ ap Some (sym c.own.ensures)) c.number.ensures (c.in-Ok.ensures.fed c.requires.going.going)
