@@ -75,12 +75,14 @@ impl Bytes {
         self.at < self.lines_end && may_begin(self.block[self.at])
     }
 
-    /// The next byte, or none at the end of the input. The source is read where no byte is pending.
+    /// The next byte, or none at the end of the input. The source is read where no byte is pending, and not again once it
+    /// said that it ended.
     pub fn next<I: Source>(&mut self, source: &mut I) -> Result<Option<u8>, LineFault>
         ensures next { NextByte self.old self.new (I.left source.old) (I.left source.new) result }
         ensures limit { self.new.given ≤ most_bytes }
         ensures near { length self.new.pending ≤ most_at_once }
         ensures at_hand { 0 < length self.old.pending → source.new ≡ source.old }
+        ensures ended { self.old.ended ≡ true → source.new ≡ source.old }
         ensures stood { OnOk result (I.faults source.new ≡ I.faults source.old) }
         ensures cause { IfErr result (λ e. LineFaultCause e (I.faults source.old) (I.faults source.new)) }
         ensures counted { I.faults source.old ≤ I.faults source.new }
@@ -122,6 +124,7 @@ impl Bytes {
         ensures limit { self.new.given ≤ most_bytes }
         ensures near { length self.new.pending ≤ most_at_once }
         ensures at_hand { 0 < length self.old.pending → source.new ≡ source.old }
+        ensures ended { self.old.ended ≡ true → source.new ≡ source.old }
         ensures stood { OnOk result (I.faults source.new ≡ I.faults source.old) }
         ensures cause { OnErr result (Rose (I.faults source.old) (I.faults source.new)) }
         ensures counted { I.faults source.old ≤ I.faults source.new }

@@ -36,6 +36,7 @@ pub fn gather<I: Source>(
     ensures limit { bytes.new.given ≤ most_bytes }
     ensures near { length bytes.new.pending ≤ most_at_once }
     ensures at_hand { list_any is_newline bytes.old.pending ≡ true → source.new ≡ source.old }
+    ensures ended { bytes.old.ended ≡ true → source.new ≡ source.old }
     ensures stood { OnOk result (I.faults source.new ≡ I.faults source.old) }
     ensures cause { IfErr result (λ e. LineFaultCause e (I.faults source.old) (I.faults source.new)) }
     ensures counted { I.faults source.old ≤ I.faults source.new }

@@ -69,6 +69,8 @@ impl Lines {
         requires { self.old.failed ≡ false }
         ensures reads { ReadsLine self.old self.new (I.left source.old) (I.left source.new) result }
         ensures at_hand { begins_with_line self.old.feed.pending ≡ true → source.new ≡ source.old }
+        // A source that said that it ended isn't read again.
+        ensures ended { self.old.feed.ended ≡ true → source.new ≡ source.old }
         ensures stood { OnOk result (I.faults source.new ≡ I.faults source.old) }
         ensures cause { IfErr result (λ e. LineFaultCause e (I.faults source.old) (I.faults source.new)) }
         ensures counted { I.faults source.old ≤ I.faults source.new }
@@ -101,6 +103,7 @@ fn skim<I: Source>(
         (reading bytes.new number.new text.new.items)
         (I.left source.old) (I.left source.new) result }
     ensures at_hand { begins_with_line bytes.old.pending ≡ true → source.new ≡ source.old }
+    ensures ended { bytes.old.ended ≡ true → source.new ≡ source.old }
     ensures stood { OnOk result (I.faults source.new ≡ I.faults source.old) }
     ensures cause { IfErr result (λ e. LineFaultCause e (I.faults source.old) (I.faults source.new)) }
     ensures counted { I.faults source.old ≤ I.faults source.new }

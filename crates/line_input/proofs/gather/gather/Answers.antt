@@ -30,6 +30,10 @@ loop-byte-preserved g c = let room : length c.put_run.new.text.items < 512 = bel
     newline_after_byte _ _ _ _ _ (rw c.in-Some.is at c.in_ok-byte.ensures.next) c.if-byte-eq10.false (newline_after_run _ _ _ c.put_run.ensures.run now.0),
     c.in_ok-byte.ensures.at_hand (run_is_some _ _ _ c.put_run.ensures.run now.0) ∙ now.1,
   ),
+  λ ended. let now = c.loop-byte.invariant.3 ended in (
+    c.in_ok-byte.ensures.next.draws.stays (c.put_run.ensures.run.ended ∙ now.0),
+    c.in_ok-byte.ensures.ended (c.put_run.ensures.run.ended ∙ now.0) ∙ now.1,
+  ),
 )
 
 pub returns-in_err-byte-clause-at_hand : goal.returns-in_err-byte-clause-at_hand
@@ -43,3 +47,15 @@ returns-then-byte-eq10-clause-at_hand g c = λ some. let now = c.loop-byte.invar
 
 pub returns-then-is_full-clause-at_hand : goal.returns-then-is_full-clause-at_hand
 returns-then-is_full-clause-at_hand g c = λ some. let now = c.loop-byte.invariant.2 some in c.in_ok-byte.ensures.at_hand (run_is_some _ _ _ c.put_run.ensures.run now.0) ∙ now.1
+
+pub returns-in_err-byte-clause-ended : goal.returns-in_err-byte-clause-ended
+returns-in_err-byte-clause-ended g c = λ ended. let now = c.loop-byte.invariant.3 ended in c.in_err-byte.ensures.ended (c.put_run.ensures.run.ended ∙ now.0) ∙ now.1
+
+pub returns-in_default-clause-ended : goal.returns-in_default-clause-ended
+returns-in_default-clause-ended g c = λ ended. let now = c.loop-byte.invariant.3 ended in c.in_ok-byte.ensures.ended (c.put_run.ensures.run.ended ∙ now.0) ∙ now.1
+
+pub returns-then-byte-eq10-clause-ended : goal.returns-then-byte-eq10-clause-ended
+returns-then-byte-eq10-clause-ended g c = λ ended. let now = c.loop-byte.invariant.3 ended in c.in_ok-byte.ensures.ended (c.put_run.ensures.run.ended ∙ now.0) ∙ now.1
+
+pub returns-then-is_full-clause-ended : goal.returns-then-is_full-clause-ended
+returns-then-is_full-clause-ended g c = λ ended. let now = c.loop-byte.invariant.3 ended in c.in_ok-byte.ensures.ended (c.put_run.ensures.run.ended ∙ now.0) ∙ now.1

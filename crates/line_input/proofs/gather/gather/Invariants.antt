@@ -4,12 +4,13 @@ use Rattle.line_input.specs.Characters.{is_newline}
 use Rattle.line_input.proofs.GatherLemmas.{Gathering}
 use Rattle.line_input.proofs.gather.gather.Given as goal
 
--- These bytes of the line were gathered; and while a newline is at hand, the source isn't read.
+-- These bytes of the line were gathered; and while a newline is at hand, and where the source ended, it isn't read.
 abbrev pub invariant-loop-byte : goal.invariant-loop-byte
 invariant-loop-byte g l =
     Gathering l.initial.bytes l.bytes (g.I.Source.left l.initial.source) (g.I.Source.left l.source) l.text.items
     × (g.I.Source.faults l.source ≡ g.I.Source.faults l.initial.source)
     × (list_any is_newline l.initial.bytes.pending ≡ true → (list_any is_newline l.bytes.pending ≡ true) × (l.source ≡ l.initial.source))
+    × (l.initial.bytes.ended ≡ true → (l.bytes.ended ≡ true) × (l.source ≡ l.initial.source))
 
 abbrev pub decreases-loop-byte : goal.decreases-loop-byte
 decreases-loop-byte g l = 512 - length l.text.items

@@ -4,7 +4,7 @@ use Rattle.line_input.proofs.SkimLemmas.{Skimmed-none, Skimmed-more, ReadsLine-f
 use Rattle.line_input.proofs.lines.skim.Goals as goal
 
 pub loop-ending-init : goal.loop-ending-init
-loop-ending-init g c = (Skimmed-none _ _ _ _ c.requires.done c.requires.few, refl, λ _. (refl, refl))
+loop-ending-init g c = (Skimmed-none _ _ _ _ c.requires.done c.requires.few, refl, λ _. (refl, refl), λ ended. (ended, refl))
 
 pub returns-in_err-ending-clause-reads : goal.returns-in_err-ending-clause-reads
 returns-in_err-ending-clause-reads g c =
@@ -35,6 +35,7 @@ loop-ending-preserved g c =
       Skimmed-more _ _ _ _ _ _ _ _ c.loop-ending.invariant.0 line.draws line.done cut.0 cut.1,
       c.in_ok-ending.ensures.stood ∙ c.loop-ending.invariant.1,
       λ begins. absurd (passed_none _ _ _ _ _ _ line (sym (rw c.as_slice.ensures.value at c.in-PassedOver.ensures)) (begins_still _ _ (c.loop-ending.invariant.2 begins).0 begins)),
+      λ ended. let now = c.loop-ending.invariant.3 ended in (line.draws.stays now.0, c.in_ok-ending.ensures.ended now.0 ∙ now.1),
     )
 
 pub returns-in_err-ending-clause-at_hand : goal.returns-in_err-ending-clause-at_hand
@@ -48,3 +49,15 @@ returns-in-Says-clause-at_hand g c = λ begins. let first = c.loop-ending.invari
 
 pub returns-in-Refused-clause-at_hand : goal.returns-in-Refused-clause-at_hand
 returns-in-Refused-clause-at_hand g c = λ begins. let first = c.loop-ending.invariant.2 begins in c.in_ok-ending.ensures.at_hand (newline_too c.loop-ending.bytes.pending (begins_still _ _ first.0 begins)) ∙ first.1
+
+pub returns-in_err-ending-clause-ended : goal.returns-in_err-ending-clause-ended
+returns-in_err-ending-clause-ended g c = λ ended. let now = c.loop-ending.invariant.3 ended in c.in_err-ending.ensures.ended now.0 ∙ now.1
+
+pub returns-in-NoLine-clause-ended : goal.returns-in-NoLine-clause-ended
+returns-in-NoLine-clause-ended g c = λ ended. let now = c.loop-ending.invariant.3 ended in c.in_ok-ending.ensures.ended now.0 ∙ now.1
+
+pub returns-in-Says-clause-ended : goal.returns-in-Says-clause-ended
+returns-in-Says-clause-ended g c = λ ended. let now = c.loop-ending.invariant.3 ended in c.in_ok-ending.ensures.ended now.0 ∙ now.1
+
+pub returns-in-Refused-clause-ended : goal.returns-in-Refused-clause-ended
+returns-in-Refused-clause-ended g c = λ ended. let now = c.loop-ending.invariant.3 ended in c.in_ok-ending.ensures.ended now.0 ∙ now.1
