@@ -1,5 +1,5 @@
 -- How often ends are passed: sums over steps, and that no step adds an end.
-use Rattle.std.proofs.Common.{Result, Ok, Err, OnOk, ◌≡◌, ◌≢◌, ℕ, zero, suc, ◌+◌, ◌<◌, ◌≤◌, ◌==◌, ◌||◌, if◌then◌else◌, Bool, true, false, Option, Some, None, IfSome, unwrap_or, List, [], ◌∷◌, ◌++◌, length, map, refl, ap, sym, ◌∙◌, subst, arith, length-append, get_or, take, add-one}
+use Rattle.std.proofs.Common.{◌≡◌, ◌≢◌, ℕ, zero, suc, ◌+◌, ◌<◌, ◌≤◌, ◌==◌, ◌||◌, if◌then◌else◌, Bool, true, false, Option, Some, None, IfSome, unwrap_or, List, [], ◌∷◌, ◌++◌, length, map, refl, ap, sym, ◌∙◌, subst, arith, length-append, get_or, take, add-one}
 use Rattle.std.proofs.lemmas.Bool.{eqb-true}
 use Rattle.std.specs.Option.{is_some}
 use Rattle.link_frames.specs.declared.note.Note.{Note}
@@ -294,11 +294,6 @@ passes_front s f m after few =
   where
     sums : (a b : ℕ) → after ≤ m + a → after ≤ m + (a + b)
     sums a b few = omega arith
-
--- what holds of any answer holds where it is done
-pub any_ok : {A E P : Type 0} (r : Result A E) → P → OnOk r P
-any_ok (Ok a) h = h
-any_ok (Err e) h = tt
 
 -- one pass, for a step with an item
 pub once_more : (old new : ℕ) (s t : Step) → s ≡ t → 1 ≤ passes_of t → new ≤ old + 1 → new ≤ old + passes_of s

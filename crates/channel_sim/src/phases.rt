@@ -61,7 +61,7 @@ impl World {
         ensures passes { (floor before : ℕ) (w : model.World) →
             StandsAt before floor (λ c. before) self.old.channel w → before + 1 ≡ ticks_reached self.old →
             ticks_reached self.old < floor + 2 ^ 32 →
-            OnOk result (moments.new ≤ moments.old + passes_of (model.vehicle_passes w)) }
+            moments.new ≤ moments.old + passes_of (model.vehicle_passes w) }
     {
         self.channel
             .vehicle_passes(alloc, &mut self.room.given, to, moments)
@@ -87,7 +87,7 @@ impl World {
             StandsAt ahead floor before self.old.channel w →
             ahead ≡ ticks_reached self.old → before number + 1 ≡ ahead → after number ≡ ahead →
             AreSameBut number before after → ticks_reached self.old < floor + 2 ^ 32 →
-            OnOk result (moments.new ≤ moments.old + passes_of (model.session_passes number w)) }
+            moments.new ≤ moments.old + passes_of (model.session_passes number w) }
     {
         self.channel
             .session_passes(alloc, number, &mut self.room.given, to, moments)
@@ -124,7 +124,7 @@ impl World {
         ensures passes { (ahead floor : ℕ) (w : model.World) →
             StandsAt ahead floor (λ c. ahead) self.old.channel w → ahead ≡ ticks_reached self.old →
             ticks_reached self.old < floor + 2 ^ 32 →
-            OnOk result (moments.new ≤ moments.old + passes_of (hands_way up (due_of due.now) w)) }
+            moments.new ≤ moments.old + passes_of (hands_way up (due_of due.now) w) }
     {
         self.channel
             .hand(alloc, up, due, &mut self.room.given, to, moments)
