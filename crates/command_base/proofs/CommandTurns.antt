@@ -80,7 +80,7 @@ module _ {Seen : Type 0} (Rest : Seen → ℕ → List (List ℕ) → Reply → 
         endings.ends_line (Rest first 1) (most first 1) (Rest s.seen) (most s.seen) closes is_lined start now old s.lines
             passes new left held reads answer t.0 t.1,
         endings.told_line (Rest first 1) (most first 1) (Rest s.seen) (most s.seen) closes is_lined start now old s.lines
-            new.lines new.text left now.held held answer t.0,
+            new left held reads answer t.0,
       )
 
   -- the end of the input was read, with all as it was written, and the command ended there
@@ -96,7 +96,7 @@ module _ {Seen : Type 0} (Rest : Seen → ℕ → List (List ℕ) → Reply → 
     endings.ended (Rest first 1) (most first 1) (Rest s.seen) (most s.seen) closes (lined old.lines s.seen s.stands)
         start now old s.lines new left held reads answer e,
     endings.told_input (Rest first 1) (most first 1) (Rest s.seen) (most s.seen) closes
-        (lined old.lines s.seen s.stands) start now old s.lines n left now.held held answer e,
+        (lined old.lines s.seen s.stands) start now old s.lines new left held reads n answer e,
   )
     where
       n : ℕ

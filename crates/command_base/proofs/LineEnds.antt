@@ -71,14 +71,14 @@ ends_as Rest Rest' number line line' held held' same status.Usage e = absurd e
 ends_as Rest Rest' number line line' held held' same status.ReadFault e = absurd e
 ends_as Rest Rest' number line line' held held' same status.TooLong e = absurd e
 
--- what an answer that was cut short says doesn't depend on passes
-cut_passes : (replies : List ℕ → Reply → Type 0) (left left' held held' : Option (List ℕ)) (passes : ℕ)
-    (input : List ℕ)
-    → CutShort replies (λ bytes. 0) (record { left = left; held = held; passes = 0 })
-    (record { left = left'; held = held'; passes = 0 }) input
-    → CutShort replies (λ bytes. 0) (record { left = left; held = held; passes = passes })
-    (record { left = left'; held = held'; passes = passes }) input
-cut_passes replies left left' held held' passes input c =
+-- what an answer that was cut short says depends on passes by their count alone
+cut_counted : (replies : List ℕ → Reply → Type 0) (most most' : List ℕ → ℕ) (left left' held held' : Option (List ℕ))
+    (passes passes' other other' : ℕ) (input : List ℕ)
+    → CutShort replies most (record { left = left; held = held; passes = passes })
+    (record { left = left'; held = held'; passes = passes' }) input → other' ≤ other + most' input
+    → CutShort replies most' (record { left = left; held = held; passes = other })
+    (record { left = left'; held = held'; passes = other' }) input
+cut_counted replies most most' left left' held held' passes passes' other other' input c counted =
     record {
       took = c.took;
       within = c.within;
@@ -88,10 +88,20 @@ cut_passes replies left left' held held' passes input c =
       text = c.text;
       wrote = c.wrote;
       begins = c.begins;
-      counted = omega arith;
+      counted = counted;
     }
 
--- nor what one that answered whole says, of a command that passes no ends
+-- so of a command that passes no ends
+cut_passes : (replies : List ℕ → Reply → Type 0) (left left' held held' : Option (List ℕ)) (passes : ℕ)
+    (input : List ℕ)
+    → CutShort replies (λ bytes. 0) (record { left = left; held = held; passes = 0 })
+    (record { left = left'; held = held'; passes = 0 }) input
+    → CutShort replies (λ bytes. 0) (record { left = left; held = held; passes = passes })
+    (record { left = left'; held = held'; passes = passes }) input
+cut_passes replies left left' held held' passes input c =
+    cut_counted replies (λ bytes. 0) (λ bytes. 0) left left' held held' 0 0 passes passes input c (omega arith)
+
+-- and so does what one that answered whole says
 answered_passes : (replies : List ℕ → Reply → Type 0) (left left' held held' : Option (List ℕ)) (passes : ℕ)
     (input : List ℕ) (r : Reply)
     → Answered replies (λ bytes. 0) (record { left = left; held = held; passes = 0 })
@@ -130,17 +140,8 @@ cut_more : (replies : List ℕ → Reply → Type 0) (most most' : List ℕ → 
     → ((input : List ℕ) → most input ≤ most' input) → (input : List ℕ) → CutShort replies most old new input
     → CutShort replies most' old new input
 cut_more replies most most' old new more input c =
-    record {
-      took = c.took;
-      within = c.within;
-      front = c.front;
-      rest = c.rest;
-      split = c.split;
-      text = c.text;
-      wrote = c.wrote;
-      begins = c.begins;
-      counted = omega (arith, c.counted, more input);
-    }
+    cut_counted replies most most' old.left new.left old.held new.held old.passes new.passes old.passes new.passes input c
+    (omega (arith, c.counted, more input))
 
 pub most_more : (replies : List ℕ → Reply → Type 0) (most most' : List ℕ → ℕ) (old new : Streams)
     → ((input : List ℕ) → most input ≤ most' input) → (answer : Status) → Outcome replies most true old new answer

@@ -170,28 +170,32 @@ module _ (Replies : List (List ℕ) → Reply → Type 0) (most : List (List ℕ
   told_unread new left held answer (in_front is left_is held_is) =
       subst (λ (a : Status). ToldEnded left held a) (sym is) tt
 
-  -- no other end is one of a failed read
-  pub told_line : (number : ℕ) (line : List ℕ) (left held held' : Option (List ℕ)) (answer : Status)
-      → EndsLine Rest number line held held' answer → ToldEnded left held' answer
-  told_line number line left held held' status.ReadFault e = absurd e
-  told_line number line left held held' (status.Refused why) e = tt
-  told_line number line left held held' (status.Broken place rule) e = tt
-  told_line number line left held held' status.WriteFault e = tt
-  told_line number line left held held' status.Memory e = tt
-  told_line number line left held held' status.Done e = tt
-  told_line number line left held held' status.Usage e = tt
-  told_line number line left held held' status.TooLong e = tt
+  -- a line that wanted memory ends it with all written before; no other line is one of which more is said
+  pub told_line : (new : Reading) (left held : Option (List ℕ)) → ReadsLine old new now.left left (Ok true)
+      → (answer : Status) → EndsLine Rest new.lines new.text now.held held answer → ToldEnded left held answer
+  told_line new left held reads status.Memory e =
+      read.line_told Replies most Rest passing closes lined start now old s new left reads held e.0 e.2
+  told_line new left held reads status.ReadFault e = absurd e
+  told_line new left held reads (status.Refused why) e = tt
+  told_line new left held reads (status.Broken place rule) e = tt
+  told_line new left held reads status.WriteFault e = tt
+  told_line new left held reads status.Done e = tt
+  told_line new left held reads status.Usage e = tt
+  told_line new left held reads status.TooLong e = tt
 
-  pub told_input : (number : ℕ) (left held held' : Option (List ℕ)) (answer : Status)
-      → EndsInput Rest number held held' answer → ToldEnded left held' answer
-  told_input number left held held' status.ReadFault e = absurd e
-  told_input number left held held' (status.Refused why) e = tt
-  told_input number left held held' (status.Broken place rule) e = tt
-  told_input number left held held' status.WriteFault e = tt
-  told_input number left held held' status.Memory e = tt
-  told_input number left held held' status.Done e = tt
-  told_input number left held held' status.Usage e = tt
-  told_input number left held held' status.TooLong e = tt
+  -- and so does the end
+  pub told_input : (new : Reading) (left held : Option (List ℕ)) → ReadsLine old new now.left left (Ok false)
+      → (number : ℕ) (answer : Status) → EndsInput Rest number now.held held answer → ToldEnded left held answer
+  told_input new left held reads number status.Memory e =
+      subst (λ (h : Option (List ℕ)). ToldEnded left h status.Memory) (sym e)
+      (read.end_told Replies most Rest passing closes lined start now old s new left reads)
+  told_input new left held reads number status.ReadFault e = absurd e
+  told_input new left held reads number (status.Refused why) e = tt
+  told_input new left held reads number (status.Broken place rule) e = tt
+  told_input new left held reads number status.WriteFault e = tt
+  told_input new left held reads number status.Done e = tt
+  told_input new left held reads number status.Usage e = tt
+  told_input new left held reads number status.TooLong e = tt
 
   module _ (new : Reading) (left held : Option (List ℕ)) (reads : ReadsLine old new now.left left (Ok false)) where
     abbrev whole_input : List ℕ

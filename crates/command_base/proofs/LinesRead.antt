@@ -7,7 +7,7 @@ use Rattle.std.proofs.Common.{sym, ◌∙◌, ap, refl, subst, append_assoc, inl
 use Rattle.std.proofs.lemmas.List.{append-nil}
 use Rattle.std.proofs.lemmas.Bool.{false≢true}
 use Rattle.call_io.specs.Bytes.{Took, Grew, GrewPartly}
-use Rattle.call_io.proofs.BytesLemmas.{Grew-append}
+use Rattle.call_io.proofs.BytesLemmas.{Grew-append, Grew-nothing}
 use Rattle.line_input.specs.declared.reason.BadLine.{BadLine}
 use Rattle.line_input.specs.declared.fault.LineFault.TheVariants as fault
 use Rattle.line_input.specs.Feed.{Draws, Feed}
@@ -17,11 +17,12 @@ use Rattle.line_input.specs.Reading.{Reading, MayFollow, ReadsLine}
 use Rattle.command_base.specs.declared.status.Status.TheVariants as status
 use Rattle.command_base.specs.declared.refusal.Refused.TheVariants as refused
 use Rattle.command_base.specs.LineCommands.{IsLined, GoesOn, Ends, Begins}
-use Rattle.command_base.specs.Outcome.{Streams, Answered, CutShort, IsUnrefused, Outcome, ToldAll, ToldBefore}
+use Rattle.command_base.specs.Outcome.{Streams, Answered, CutShort, IsUnrefused, Outcome, ToldAll, ToldBefore, ToldMore}
 use Rattle.command_base.specs.Refusals.{Reply, refusal_reply, in_front_of}
 use Rattle.command_base.specs.inner.Standing.{LinesStanding}
 use Rattle.command_base.proofs.LineEnds.{cut_settled, settled_few}
-use Rattle.line_input.proofs.LinesSoFar.{StopsAt, bad_stops, ended_lines, found_lines, found_stops, over_lines, over_most, part_lines, settled_as, stopped_all, stopped_by, stopped_few, stopped_input, taken_input, taken_took, within_as}
+use Rattle.line_input.specs.Taken.{LinesSoFar}
+use Rattle.line_input.proofs.LinesSoFar.{StopsAt, bad_stops, ended_lines, ended_whole, found_lines, found_stops, line_near, over_lines, over_most, part_lines, settled_as, stopped_all, stopped_by, stopped_few, stopped_input, taken_input, taken_took, whole_near, within_as}
 use Rattle.line_input.proofs.Takings.{at_end, at_hand}
 
 -- sums that a count of passes goes through
@@ -117,6 +118,38 @@ module _ (Replies : List (List ℕ) → Reply → Type 0) (most : List (List ℕ
           subst (λ (ls : List (List ℕ)). Replies ls (in_front_of s.text rest.0)) (sym (s.so_far.split more follows))
               (s.read (lines_of more) rest.0 rest.1),
         )
+
+    -- where no line follows those that are passed over, the reply is done, and closes so
+    abbrev Closed : List (List ℕ) → Type 0
+    Closed ls = (r : Reply) × Replies ls (in_front_of s.text r) × (r.status ≡ status.Done) × closes r.text
+
+    closed : (passed : List (List ℕ)) → AllByRecursion IsPassedOver passed → Closed (s.lines ++ passed)
+    closed passed each =
+        let n : ℕ = old.lines + 1 + length passed in
+        let here : (r : Reply) × Rest n [] r × (r.status ≡ status.Done) × closes r.text = lined.done n in (
+          here.0,
+          subst (λ (ls : List (List ℕ)). Replies ls (in_front_of s.text here.0))
+              (append-nil (s.lines ++ passed)) (behind_replied passed n each refl [] here.0 here.1),
+          here.2,
+          here.3,
+        )
+
+    -- and where this part of a further line's text was written, too
+    told_more : (passed : List (List ℕ)) → AllByRecursion IsPassedOver passed → (held : Option (List ℕ))
+        → (part : List ℕ) → Grew now.held held part
+        → ToldMore replies closes start.held held (s.lines ++ passed)
+    told_more passed each held part grew =
+        let here : Closed (s.lines ++ passed) = closed passed each in
+        record {
+          text = s.text;
+          part = part;
+          wrote = Grew-append start.held now.held held s.text part s.wrote grew;
+          closing = here.0;
+          replied = λ bytes same.
+              subst (λ (ls : List (List ℕ)). Replies ls (in_front_of s.text here.0)) (sym same) here.1;
+          done = here.2;
+          closes = here.3;
+        }
 
     -- the command ended where the reading stops
     ending_at : (passes : ℕ) (left : Option (List ℕ)) (feed : Feed) (before : List (List ℕ)) (number : ℕ)
@@ -219,6 +252,19 @@ module _ (Replies : List (List ℕ) → Reply → Type 0) (most : List (List ℕ
                 in_front_twice ((s.lines ++ passed) ++ new.text ∷ rest) s.text text r.0
                     (line_replied (in_front_of text r.0) rest r.1),
               )
+
+      -- a line wanted memory, behind this part of what it gives
+      pub line_told : (held : Option (List ℕ)) (part : List ℕ) → Grew now.held held part
+          → ToldBefore replies closes start.left left start.held held status.Memory
+      line_told held part grew =
+          let so : LinesSoFar start.left left new ((s.lines ++ passed) ++ new.text ∷ []) =
+          found_lines start.left now.left left old new s.lines s.so_far reads in (
+            so.front ++ new.feed.pending,
+            so.taken.took,
+            line_near start.left left new (s.lines ++ passed) (new.text ∷ []) so (omega arith)
+                (λ ls. ToldMore replies closes start.held held ls)
+                (told_more passed reads.finds.0.each held part grew),
+          )
 
       -- a line gave its text, and the reply goes on
       pub goes_on : (Next : ℕ → List (List ℕ) → Reply → Type 0) (passing' : ℕ → List (List ℕ) → ℕ) (passes : ℕ)
@@ -339,50 +385,46 @@ module _ (Replies : List (List ℕ) → Reply → Type 0) (most : List (List ℕ
       pub too_long : ReadsLine old new now.left left (Err fault.TooLong)
           → Outcome replies most_of true start (record now { left = left }) status.TooLong
       too_long reads =
-          let passed : List (List ℕ) = reads.finds.passed in
-          let n : ℕ = old.lines + 1 + length passed in
-          let here : (r : Reply) × Rest n [] r × (r.status ≡ status.Done) × closes r.text = lined.done n in
+          let here : Closed (s.lines ++ reads.finds.passed) = closed reads.finds.passed reads.finds.each in
           let over : RunsOver (IsUnrefused replies) (taken_all reads.taken) =
           over_lines start.left now.left left old new s.lines s.so_far
-          (λ ls. (r : Reply) × Replies ls r × (r.status ≡ status.Done)) reads (
-            in_front_of s.text here.0,
-            subst (λ (ls : List (List ℕ)). Replies ls (in_front_of s.text here.0))
-                (append-nil (s.lines ++ passed)) (behind_replied passed n reads.finds.each refl [] here.0 here.1),
-            here.2,
-          ) in (
+          (λ ls. (r : Reply) × Replies ls r × (r.status ≡ status.Done)) reads
+          (in_front_of s.text here.0, here.1, here.2) in (
             taken_all reads.taken,
             cut_here reads.taken reads.draws (over_most _ (taken_all reads.taken) over),
             over,
           )
 
+      -- the end of the input wanted memory
+      pub end_told : ReadsLine old new now.left left (Ok false)
+          → ToldBefore replies closes start.left left start.held now.held status.Memory
+      end_told reads =
+          let passed : List (List ℕ) = reads.finds.0.passed in (
+            taken_all reads.taken,
+            taken_took start.left now.left left old new s.lines s.so_far reads.taken reads.draws,
+            whole_near left (taken_all reads.taken) (s.lines ++ passed)
+                (ended_lines start.left now.left left old new s.lines s.so_far reads)
+                (ended_whole start.left now.left left old new s.lines s.so_far reads)
+                (λ ls. ToldMore replies closes start.held now.held ls)
+                (told_more passed reads.finds.0.each now.held [] (Grew-nothing now.held)),
+          )
+
       -- the source couldn't be read
       pub unread_told : ReadsLine old new now.left left (Err fault.ReadFault)
           → ToldBefore replies closes start.left left start.held now.held status.ReadFault
-      unread_told reads =
-          let passed : List (List ℕ) = reads.finds.passed in
-          let n : ℕ = old.lines + 1 + length passed in
-          let here : (r : Reply) × Rest n [] r × (r.status ≡ status.Done) × closes r.text = lined.done n in (
-            taken_all reads.taken,
-            taken_took start.left now.left left old new s.lines s.so_far reads.taken reads.draws,
-            within_as (λ bytes. Closed (lines_of bytes)) (λ bytes. ToldAll replies closes start.held now.held bytes)
-                (taken_all reads.taken)
-                (λ bytes closed. record {
-                  text = s.text;
-                  wrote = s.wrote;
-                  closing = closed.0;
-                  replied = closed.1;
-                  done = closed.2;
-                  closes = closed.3;
-                })
-                (part_lines start.left now.left left old new s.lines s.so_far Closed reads (
-                  here.0,
-                  subst (λ (ls : List (List ℕ)). Replies ls (in_front_of s.text here.0))
-                      (append-nil (s.lines ++ passed)) (behind_replied passed n reads.finds.each refl [] here.0 here.1),
-                  here.2,
-                  here.3,
-                )),
-          )
-        where
-          -- the reply to these lines closes with them
-          Closed : List (List ℕ) → Type 0
-          Closed ls = (r : Reply) × Replies ls (in_front_of s.text r) × (r.status ≡ status.Done) × closes r.text
+      unread_told reads = (
+        taken_all reads.taken,
+        taken_took start.left now.left left old new s.lines s.so_far reads.taken reads.draws,
+        within_as (λ bytes. Closed (lines_of bytes)) (λ bytes. ToldAll replies closes start.held now.held bytes)
+            (taken_all reads.taken)
+            (λ bytes here. record {
+              text = s.text;
+              wrote = s.wrote;
+              closing = here.0;
+              replied = here.1;
+              done = here.2;
+              closes = here.3;
+            })
+            (part_lines start.left now.left left old new s.lines s.so_far Closed reads
+            (closed reads.finds.passed reads.finds.each)),
+      )

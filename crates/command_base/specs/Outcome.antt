@@ -6,8 +6,8 @@ use Rattle.std.specs.Prelude.{◌≡◌, ℕ, ◌+◌, ◌≤◌, ◌⊎◌, Boo
 use Rattle.std.specs.Io.KnownBytes.{IsAtEnd}
 use Rattle.call_io.specs.Bytes.{Took, Grew}
 use Rattle.call_io.specs.Counts.{Rose}
-use Rattle.line_input.specs.Inputs.{IsSettledBy, RunsOver, StopsWithin}
-use Rattle.line_input.specs.Lines.{IsWhole, most_at_once, most_bytes}
+use Rattle.line_input.specs.Inputs.{IsSettledBy, RunsOver, StopsNear, StopsWithin}
+use Rattle.line_input.specs.Lines.{IsWhole, lines_of, most_at_once, most_bytes}
 use Rattle.command_base.specs.declared.status.Status.{Status}
 use Rattle.command_base.specs.declared.status.Status.TheVariants as status
 use Rattle.command_base.specs.Refusals.{Reply, in_front_of, line_of}
@@ -93,12 +93,27 @@ pub record ToldAll (replies : List ℕ → Reply → Type 0) (Closes : List ℕ 
   pub done : closing.status ≡ status.Done
   pub closes : Closes closing.text
 
+-- All that these lines give was written, and then a part of what a line behind them gives, or none.
+pub record ToldMore (replies : List ℕ → Reply → Type 0) (Closes : List ℕ → Type 0) (held held' : Option (List ℕ))
+    (lines : List (List ℕ)) : Type 0 where
+  pub text : List ℕ
+  pub part : List ℕ
+  pub wrote : Grew held held' (text ++ part)
+  pub closing : Reply
+  pub replied : (bytes : List ℕ) → lines_of bytes ≡ lines → replies bytes (in_front_of text closing)
+  pub done : closing.status ≡ status.Done
+  pub closes : Closes closing.text
+
 -- What an answer says of all that was written before a read. Where a read failed, what was taken stops within a line,
--- and all that the lines before it give was written: nothing was kept back while more was read.
+-- and all that the lines before it give was written: nothing was kept back while more was read. Where there was no
+-- memory, no more was taken than to the line that wanted it, or to the end of the input, and what was read at once with
+-- that, and all that the lines before it give was written.
 abbrev pub ToldBefore : (replies : List ℕ → Reply → Type 0) → (closes : List ℕ → Type 0)
     → (left left' held held' : Option (List ℕ)) → Status → Type 0
 ToldBefore replies closes left left' held held' status.ReadFault =
     (input : List ℕ) × Took left left' input × StopsWithin (λ bytes. ToldAll replies closes held held' bytes) input
+ToldBefore replies closes left left' held held' status.Memory =
+    (input : List ℕ) × Took left left' input × StopsNear (λ lines. ToldMore replies closes held held' lines) input
 ToldBefore replies closes left left' held held' _ = Unit {0}
 
 -- it closes with nothing

@@ -88,7 +88,8 @@ pub fn carry_out_lines<C: LineCommand, I: Source, O: Sink>(
         I.left input.old ≡ Some bytes → length bytes ≤ most_bytes → IsUncut result →
         IsWholeReply (λ bytes r. C.rest seen 1 (lines_of bytes) r) bytes (held O.held output.old)
         (held O.held output.new) result }
-    // Where a read failed, all that the lines before it give was handed to the sink.
+    // Where a read failed, all that the lines before it give was handed to the sink. Where a line or the end wanted memory,
+    // all that the lines before it give was written, and no more was taken than what was read at once with its end.
     ensures told { (seen : C.Seen) → C.stands command.old 0 seen →
         ToldBefore (λ bytes r. C.rest seen 1 (lines_of bytes) r) C.closes (I.left input.old) (I.left input.new)
         (held O.held output.old) (held O.held output.new) result }

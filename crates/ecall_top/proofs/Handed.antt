@@ -9,11 +9,11 @@ use Rattle.call_io.specs.declared.block.Block.{Block}
 use Rattle.call_io.proofs.BlockLemmas.{Grew_through, GrewPartly_through}
 use Rattle.call_io.proofs.BytesLemmas.{Grew-nothing, GrewPartly-whole}
 use Rattle.line_input.specs.Lines.{IsWhole}
-use Rattle.line_input.proofs.LinesSoFar.{settled_as, within_as}
+use Rattle.line_input.proofs.LinesSoFar.{near_as, settled_as, within_as}
 use Rattle.command_base.proofs.LineEnds.{cut_settled, settled_few}
 use Rattle.command_base.specs.declared.status.Status.{Status}
 use Rattle.command_base.specs.declared.status.Status.TheVariants as status
-use Rattle.command_base.specs.Outcome.{Streams, Answered, CutShort, IsCutSilently, IsRead, IsSettled, Outcome, ReadCause, ToldAll, ToldBefore}
+use Rattle.command_base.specs.Outcome.{Streams, Answered, CutShort, IsCutSilently, IsRead, IsSettled, Outcome, ReadCause, ToldAll, ToldBefore, ToldMore}
 use Rattle.command_base.specs.Refusals.{Reply, in_front_of, line_of}
 use Rattle.ecall_top.specs.Commands.{reads}
 use Rattle.ecall_top.specs.Replies.{Replies, passes_of}
@@ -197,6 +197,23 @@ module _ (replies : List ℕ → Reply → Type 0) (closes : List ℕ → Type 0
         closes = t.closes;
       }
 
+  -- and a part of what a line behind them gives
+  more_through : pending new ≡ [] → (lines : List (List ℕ))
+      → ToldMore replies closes (held of_sink old) (held of_sink mid) lines
+      → ToldMore replies closes (of_sink (sink old)) (of_sink (sink new)) lines
+  more_through empty lines t =
+      record {
+        text = t.text;
+        part = t.part;
+        wrote =
+            Grew_through of_sink old new (t.text ++ t.part) began empty
+            (subst (λ (h : Option (List ℕ)). Grew (held of_sink old) h (t.text ++ t.part)) (sym kept) t.wrote);
+        closing = t.closing;
+        replied = t.replied;
+        done = t.done;
+        closes = t.closes;
+      }
+
   told_stays : (answer : Status) → pending new ≡ []
       → ToldBefore replies closes left left' (held of_sink old) (held of_sink mid) answer
       → ToldBefore replies closes left left' (of_sink (sink old)) (of_sink (sink new)) answer
@@ -211,7 +228,12 @@ module _ (replies : List ℕ → Reply → Type 0) (closes : List ℕ → Type 0
   told_stays (status.Refused why) empty t = tt
   told_stays (status.Broken place rule) empty t = tt
   told_stays status.WriteFault empty t = tt
-  told_stays status.Memory empty t = tt
+  told_stays status.Memory empty t = (
+    t.0,
+    t.1,
+    near_as (λ lines. ToldMore replies closes (held of_sink old) (held of_sink mid) lines)
+        (λ lines. ToldMore replies closes (of_sink (sink old)) (of_sink (sink new)) lines) t.0 (more_through empty) t.2,
+  )
   told_stays status.TooLong empty t = tt
 
   abbrev ToldOf : Status → Type 0

@@ -1,12 +1,13 @@
 -- What an answer says where the words name no command, or one that reads nothing.
-use Rattle.std.specs.Prelude.{◌≡◌, ℕ, ◌+◌, ◌≤◌, ◌⊎◌, false, List, [], Option, Some, None}
+use Rattle.std.specs.Prelude.{◌≡◌, ℕ, ◌+◌, ◌≤◌, ◌⊎◌, false, List, [], ◌++◌, Option, Some, None}
 use Rattle.std.proofs.Common.{sym, ◌∙◌, refl, subst, inl, inr, arith}
 use Rattle.std.proofs.lemmas.Bool.{false≢true}
 use Rattle.call_io.specs.Bytes.{Grew, GrewPartly}
 use Rattle.call_io.proofs.BytesLemmas.{Grew-nothing, Took-nothing}
+use Rattle.line_input.proofs.LinesLemmas.{lines_of-nil}
 use Rattle.trace_text.specs.Script.{script_of}
 use Rattle.command_base.specs.Ends.{EndsWithText}
-use Rattle.command_base.specs.Outcome.{Answered, IsCutSilently, Streams, ToldBefore}
+use Rattle.command_base.specs.Outcome.{Answered, CutShort, IsCutSilently, Streams, ToldBefore}
 use Rattle.command_base.specs.LineCommands.{IsQuietTurn}
 use Rattle.command_base.specs.Refusals.{Reply}
 use Rattle.command_base.specs.declared.status.Status.{Status}
@@ -27,17 +28,18 @@ pub named : (asked asked' : Option Command) (old new : Streams) (answer : Status
 named asked asked' old new answer same ends =
     subst (λ (a : Option Command). CommandEnds a old new answer) (sym same) ends
 
--- where no read failed, nothing is said of one
+-- where no read failed and there was memory, nothing is said of these
 told_unless : (replies : List ℕ → Reply → Type 0) (closes : List ℕ → Type 0) (left left' held held' : Option (List ℕ))
-    (answer : Status) → (answer ≡ status.ReadFault → ⊥) → ToldBefore replies closes left left' held held' answer
-told_unless replies closes left left' held held' status.ReadFault none = absurd (none refl)
-told_unless replies closes left left' held held' status.Done none = tt
-told_unless replies closes left left' held held' status.Usage none = tt
-told_unless replies closes left left' held held' (status.Refused why) none = tt
-told_unless replies closes left left' held held' (status.Broken number rule) none = tt
-told_unless replies closes left left' held held' status.WriteFault none = tt
-told_unless replies closes left left' held held' status.Memory none = tt
-told_unless replies closes left left' held held' status.TooLong none = tt
+    (answer : Status) → (answer ≡ status.ReadFault → ⊥) → (answer ≡ status.Memory → ⊥)
+    → ToldBefore replies closes left left' held held' answer
+told_unless replies closes left left' held held' status.ReadFault read full = absurd (read refl)
+told_unless replies closes left left' held held' status.Memory read full = absurd (full refl)
+told_unless replies closes left left' held held' status.Done read full = tt
+told_unless replies closes left left' held held' status.Usage read full = tt
+told_unless replies closes left left' held held' (status.Refused why) read full = tt
+told_unless replies closes left left' held held' (status.Broken number rule) read full = tt
+told_unless replies closes left left' held held' status.WriteFault read full = tt
+told_unless replies closes left left' held held' status.TooLong read full = tt
 
 -- an answer that was cut short in silence ends a turn in silence
 pub cut_quiet : (answer : Status) → IsCutSilently answer → IsQuietTurn (Some answer)
@@ -50,17 +52,70 @@ cut_quiet status.WriteFault cut = absurd cut
 cut_quiet (status.Refused why) cut = absurd cut
 cut_quiet (status.Broken number rule) cut = absurd cut
 
--- what was written is all, or a part, and no read failed
+-- what was written is all, or a part: no answer is another one
+text_ends : (held held' : Option (List ℕ)) (text : List ℕ) (wanted other answer : Status)
+    → EndsWithText held held' text wanted answer → (wanted ≡ other → ⊥) → (status.WriteFault ≡ other → ⊥)
+    → answer ≡ other → ⊥
+text_ends held held' text wanted other answer (inl h) whole part is = whole (sym h.0 ∙ is)
+text_ends held held' text wanted other answer (inr h) whole part is = part (sym h.0 ∙ is)
+
+-- so no read failed
 pub text_reads_on : (held held' : Option (List ℕ)) (text : List ℕ) (wanted answer : Status)
     → EndsWithText held held' text wanted answer → (wanted ≡ status.ReadFault → ⊥) → answer ≡ status.ReadFault → ⊥
-text_reads_on held held' text wanted answer (inl h) fine is = fine (sym h.0 ∙ is)
-text_reads_on held held' text wanted answer (inr h) fine is = let both = sym h.0 ∙ is in cc
+text_reads_on held held' text wanted answer ends fine is =
+    text_ends held held' text wanted status.ReadFault answer ends fine (λ same. cc) is
 
 pub trial_reads_on : (number : ℕ) (held held' : Option (List ℕ)) (answer : Status) → EndsTrial number held held' answer
     → answer ≡ status.ReadFault → ⊥
 trial_reads_on number held held' answer (inl h) is =
     text_reads_on held held' (trial_reply number).text status.Done answer h (λ same. cc) is
 trial_reads_on number held held' answer (inr h) is = let both = sym h.0 ∙ is in cc
+
+-- and nothing is said of one, or of want of memory
+told_text : (replies : List ℕ → Reply → Type 0) (closes : List ℕ → Type 0) (left left' held held' : Option (List ℕ))
+    (text : List ℕ) (wanted answer : Status) → EndsWithText held held' text wanted answer
+    → (wanted ≡ status.ReadFault → ⊥) → (wanted ≡ status.Memory → ⊥)
+    → ToldBefore replies closes left left' held held' answer
+told_text replies closes left left' held held' text wanted answer ends read full =
+    told_unless replies closes left left' held held' answer
+    (text_reads_on held held' text wanted answer ends read)
+    (text_ends held held' text wanted status.Memory answer ends full (λ same. cc))
+
+-- where there was no memory for a trial, nothing was taken, and nothing was to be written before
+trial_told : (number : ℕ) (left held held' : Option (List ℕ)) (answer : Status) → EndsTrial number held held' answer
+    → ToldBefore (λ input r. Replies (Some (command.Trial number)) input r)
+    (λ text. Closes (Some (command.Trial number)) text) left left held held' answer
+trial_told number left held held' answer (inl h) =
+    told_text (λ input r. Replies (Some (command.Trial number)) input r)
+    (λ text. Closes (Some (command.Trial number)) text) left left held held' (trial_reply number).text status.Done
+    answer h (λ same. cc) (λ same. cc)
+trial_told number left held held' answer (inr h) =
+    subst (λ (a : Status). ToldBefore (λ input r. Replies (Some (command.Trial number)) input r)
+    (λ text. Closes (Some (command.Trial number)) text) left left held held' a) (sym h.0) (
+      [],
+      Took-nothing left,
+      record {
+        front = [];
+        rest = [];
+        split = refl;
+        within = omega arith;
+        near = omega arith;
+        before = [];
+        last = [];
+        lines = lines_of-nil;
+        few = omega arith;
+        holds =
+            record {
+              text = [];
+              part = [];
+              wrote = subst (λ (h : Option (List ℕ)). Grew held h []) (sym h.1) (Grew-nothing held);
+              closing = trial_reply number;
+              replied = λ bytes same. refl;
+              done = refl;
+              closes = refl;
+            };
+      },
+    )
 
 trial_silent : (number : ℕ) (held held' : Option (List ℕ)) (answer : Status) → EndsTrial number held held' answer
     → IsCutSilently answer → held' ≡ held
@@ -98,9 +153,10 @@ module _ (asked : Option Command) (left held held' : Option (List ℕ)) (passes 
   abbrev Counts : Type 0
   Counts = passes' ≤ passes + passes_of asked []
 
-  -- its text was written in part
-  cut : Counts → GrewPartly held held' text → Ended status.WriteFault
-  cut few grew = (
+  -- a front of its text was written
+  front_written : Counts → (front rest : List ℕ) → front ++ rest ≡ text → Grew held held' front
+      → (input : List ℕ) × CutShort (λ input r. Replies asked input r) (λ input. passes_of asked input) before after input
+  front_written few front rest same grew = (
     [],
     record {
       took = Took-nothing left;
@@ -108,36 +164,28 @@ module _ (asked : Option Command) (left held held' : Option (List ℕ)) (passes 
       front = [];
       rest = [];
       split = refl;
-      text = grew.0;
-      wrote = grew.3;
+      text = front;
+      wrote = grew;
       begins =
           inl
           (λ more. (
-            record { text = grew.1; status = wanted },
-            subst (λ (t : List ℕ). Replies asked more (record { text = t; status = wanted })) (sym grew.2)
+            record { text = rest; status = wanted },
+            subst (λ (t : List ℕ). Replies asked more (record { text = t; status = wanted })) (sym same)
                 (replies more),
           ));
       counted = few;
     },
   )
 
+  -- its text was written in part
+  cut : Counts → GrewPartly held held' text → Ended status.WriteFault
+  cut few grew = front_written few grew.0 grew.1 grew.2 grew.3
+
   -- there was no memory, and nothing was written
   pub unread_memory : (answer : Status) → Counts → (answer ≡ status.Memory) × (held' ≡ held) → Ended answer
   unread_memory answer few ends =
-      answered_so answer status.Memory ends.0 (
-        [],
-        record {
-          took = Took-nothing left;
-          within = omega arith;
-          front = [];
-          rest = [];
-          split = refl;
-          text = [];
-          wrote = subst (λ (h : Option (List ℕ)). Grew held h []) (sym ends.1) (Grew-nothing held);
-          begins = inl (λ more. (record { text = text; status = wanted }, replies more));
-          counted = few;
-        },
-      )
+      answered_so answer status.Memory ends.0
+      (front_written few [] text refl (subst (λ (h : Option (List ℕ)). Grew held h []) (sym ends.1) (Grew-nothing held)))
 
   answered : Counts → Grew held held' text
       → Answered (λ input r. Replies asked input r) (λ input. passes_of asked input) before after []
@@ -174,8 +222,8 @@ used left held held' passes answer ends =
           usage_text None left held held' passes passes usage_line status.Usage (λ input. refl) answer refl
           (omega arith) ends;
       told =
-          told_unless (λ input r. Replies None input r) (λ text. Closes None text) left left held held' answer
-          (text_reads_on held held' usage_line status.Usage answer ends (λ same. cc));
+          told_text (λ input r. Replies None input r) (λ text. Closes None text) left left held held' usage_line
+          status.Usage answer ends (λ same. cc) (λ same. cc);
       silent = λ once cut. absurd (false≢true once);
       unread = text_unread held held' usage_line status.Usage answer ends;
     }
@@ -193,8 +241,8 @@ written asked left held held' passes text answer replies none many unread ends =
       outcome =
           unread_text asked left held held' passes passes text status.Done replies answer none refl (omega arith) ends;
       told =
-          told_unless (λ input r. Replies asked input r) (λ text. Closes asked text) left left held held' answer
-          (text_reads_on held held' text status.Done answer ends (λ same. cc));
+          told_text (λ input r. Replies asked input r) (λ text. Closes asked text) left left held held' text status.Done
+          answer ends (λ same. cc) (λ same. cc);
       silent = λ once cut. absurd (false≢true (sym many ∙ once));
       unread = unread (text_unread held held' text status.Done answer ends);
     }
@@ -207,10 +255,7 @@ pub tried : (number : ℕ) (left held held' : Option (List ℕ)) (passes passes'
 tried number left held held' passes passes' answer few ends =
     record {
       outcome = by_ends ends;
-      told =
-          told_unless (λ input r. Replies (Some (command.Trial number)) input r)
-          (λ text. Closes (Some (command.Trial number)) text) left left held held' answer
-          (trial_reads_on number held held' answer ends);
+      told = trial_told number left held held' answer ends;
       silent = λ once cut. trial_silent number held held' answer ends cut;
       unread = trial_unread number held held' answer ends;
     }

@@ -7,6 +7,7 @@ use Rattle.command_base.specs.declared.status.Status.{Status}
 use Rattle.command_base.specs.declared.status.Status.TheVariants as status
 use Rattle.script_commands.specs.Register.{ClosesRegister}
 use Rattle.script_commands.specs.Replay.{ClosesReplay}
+use Rattle.script_commands.specs.Trial.{trial_reply}
 use Rattle.set_commands.specs.Frames.{ClosesFrames}
 use Rattle.ecall_top.specs.declared.command.Command.{Command}
 use Rattle.ecall_top.specs.declared.command.Command.TheVariants as command
@@ -59,4 +60,5 @@ abbrev pub Closes : Option Command → List ℕ → Type 0
 Closes (Some command.Frames) text = ClosesFrames text
 Closes (Some command.Register) text = ClosesRegister text
 Closes (Some command.Replay) text = ClosesReplay text
+Closes (Some (command.Trial number)) text = text ≡ (trial_reply number).text
 Closes _ text = ClosesSilently text

@@ -79,6 +79,8 @@ pub fn ecall<I: Source, O: Sink, L: Ledger>(
         IsComplete (command_of (map string_bytes words.now)) bytes (O.held output.old) (O.held output.new) result }
     // Where a read failed, what was taken stops within a line, and all that the lines before it give was written: nothing
     // is kept back while more is read.
+    // Where there was no memory, no more was taken than to the line that wanted it, or to the end of the input, and what was
+    // read at once with that, and all that the lines before it give was written.
     ensures told { ToldBefore (λ input r. Replies (command_of (map string_bytes words.now)) input r)
         (λ text. Closes (command_of (map string_bytes words.now)) text) (I.left input.old) (I.left input.new)
         (O.held output.old) (O.held output.new) result }

@@ -6,7 +6,7 @@ use Rattle.std.proofs.lemmas.Bool.{cases_lt, false≢true}
 use Rattle.std.proofs.lemmas.List.{append-nil}
 use Rattle.call_io.specs.Bytes.{Took}
 use Rattle.line_input.specs.Feed.{Draws, Feed, IsDone}
-use Rattle.line_input.specs.Inputs.{EndsInLine, IsSettledBy, RunsOver, StopsWithin}
+use Rattle.line_input.specs.Inputs.{EndsInLine, IsSettledBy, RunsOver, StopsNear, StopsWithin}
 use Rattle.line_input.specs.Lines.{IsWhole, line_fault, lines_of, most_at_once, most_bytes}
 use Rattle.line_input.specs.Reading.{FindsBad, FindsLine, FindsPart, FindsTooMany, MayFollow, Reading, ReadsLine, first_reading}
 use Rattle.line_input.specs.Taken.{LinesSoFar}
@@ -89,6 +89,72 @@ within_few Holds input s =
 no_lines : lines_of [] ≡ []
 unfolding lines_of
 no_lines = refl
+
+-- what stops near a line is no more than an input may have, and what is read at once
+pub near_few : (Holds : List (List ℕ) → Type 0) (input : List ℕ) → StopsNear Holds input
+    → length input ≤ most_bytes + most_at_once
+near_few Holds input s =
+    let parts : length input ≡ length s.front + length s.rest = ap length s.split ∙ length-append s.front s.rest in
+    omega (arith, parts, s.within, s.near)
+
+pub near_as : (Holds Holds' : List (List ℕ) → Type 0) (input : List ℕ)
+    → ((lines : List (List ℕ)) → Holds lines → Holds' lines) → StopsNear Holds input → StopsNear Holds' input
+near_as Holds Holds' input gives s =
+    record {
+      front = s.front;
+      rest = s.rest;
+      split = s.split;
+      within = s.within;
+      near = s.near;
+      before = s.before;
+      last = s.last;
+      lines = s.lines;
+      few = s.few;
+      holds = gives s.before s.holds;
+    }
+
+-- the lines so far are those of their bytes
+lines_front : (start now : Option (List ℕ)) (reading : Reading) (lines : List (List ℕ))
+    → (s : LinesSoFar start now reading lines) → lines_of s.front ≡ lines
+lines_front start now reading lines s =
+    ap lines_of (sym (append-nil s.front))
+    ∙ (s.split [] (λ _. refl)
+    ∙ (ap (λ (z : List (List ℕ)). lines ++ z) no_lines ∙ append-nil lines))
+
+-- where the last of them ended the reading, it stops near that line
+pub line_near : (start now : Option (List ℕ)) (reading : Reading) (before last : List (List ℕ))
+    → (s : LinesSoFar start now reading (before ++ last)) → length last ≤ 1
+    → (Holds : List (List ℕ) → Type 0) → Holds before → StopsNear Holds (s.front ++ reading.feed.pending)
+line_near start now reading before last s few Holds holds =
+    record {
+      front = s.front;
+      rest = reading.feed.pending;
+      split = refl;
+      within = s.taken.within;
+      near = s.taken.near;
+      before = before;
+      last = last;
+      lines = lines_front start now reading (before ++ last) s;
+      few = few;
+      holds = holds;
+    }
+
+-- where the input was read to its end, it stops there
+pub whole_near : (left : Option (List ℕ)) (input : List ℕ) (lines : List (List ℕ)) → lines_of input ≡ lines
+    → IsWhole left input → (Holds : List (List ℕ) → Type 0) → Holds lines → StopsNear Holds input
+whole_near left input lines same whole Holds holds =
+    record {
+      front = input;
+      rest = [];
+      split = sym (append-nil input);
+      within = whole.within;
+      near = omega arith;
+      before = lines;
+      last = [];
+      lines = same ∙ sym (append-nil lines);
+      few = omega arith;
+      holds = holds;
+    }
 
 -- a line that isn't refused is short
 short_line : (text : List ℕ) → line_fault text ≡ None → length text ≤ 513

@@ -52,3 +52,17 @@ pub record RunsOver (Holds : List ℕ → Type 0) (input : List ℕ) : Type 0 wh
   pub inner : AllByRecursion IsInner unended
   pub short : length unended ≤ most_in_line
   pub holds : Holds front
+
+-- What was taken goes no further than to the end of whole lines, or of one line behind them, and what was read at once
+-- with that end: of the lines before it this holds.
+pub record StopsNear (Holds : List (List ℕ) → Type 0) (input : List ℕ) : Type 0 where
+  pub front : List ℕ
+  pub rest : List ℕ
+  pub split : input ≡ front ++ rest
+  pub within : length front ≤ most_bytes
+  pub near : length rest ≤ most_at_once
+  pub before : List (List ℕ)
+  pub last : List (List ℕ)
+  pub lines : lines_of front ≡ before ++ last
+  pub few : length last ≤ 1
+  pub holds : Holds before

@@ -5,7 +5,7 @@ use Rattle.call_io.specs.Bytes.{Took, Grew, GrewPartly}
 use Rattle.call_io.proofs.BytesLemmas.{Grew-nothing}
 use Rattle.line_input.specs.Inputs.{IsSettledBy}
 use Rattle.line_input.specs.Lines.{IsWhole, lines_of, most_at_once, most_bytes}
-use Rattle.line_input.proofs.LinesSoFar.{over_as, over_most, settled_as, within_as, within_few}
+use Rattle.line_input.proofs.LinesSoFar.{near_as, near_few, over_as, over_most, settled_as, within_as, within_few}
 use Rattle.command_base.proofs.LineEnds.{cut_settled, settled_few}
 use Rattle.trace_audit.specs.Audit.{Audits}
 use Rattle.trace_audit.specs.Outcome as audit
@@ -16,7 +16,7 @@ use Rattle.trace_audit.proofs.AuditOne.{one_verdict}
 use Rattle.command_base.specs.declared.refusal.Refused.TheVariants as refused
 use Rattle.command_base.specs.declared.status.Status.{Status}
 use Rattle.command_base.specs.declared.status.Status.TheVariants as status
-use Rattle.command_base.specs.Outcome.{Streams, Answered, CutShort, IsSettled, IsUnrefused, Outcome, ReadCause, ToldAll, ToldBefore}
+use Rattle.command_base.specs.Outcome.{Streams, Answered, CutShort, IsSettled, IsUnrefused, Outcome, ReadCause, ToldAll, ToldBefore, ToldMore}
 use Rattle.command_base.specs.Refusals.{Reply, in_front_of}
 use Rattle.script_commands.specs.Replay.{ClosesReplay, IsReplayed, verdict_reply, verdict_status, verdict_text}
 use Rattle.script_commands.specs.inner.ReplayEnds.{EndsWithVerdict}
@@ -81,6 +81,9 @@ module _ (left left' held held' : Option (List ℕ)) (passes : ℕ) where
       )
 
   -- nothing was written
+  none_written : held' ≡ held → Grew held held' []
+  none_written same = subst (λ (h : Option (List ℕ)). Grew held h []) (sym same) (Grew-nothing held)
+
   untold : (input : List ℕ) → Took left left' input → length input ≤ most_bytes + most_at_once → held' ≡ held
       → CutShort IsReplayed (λ input. 0) old new input
   untold input took within same =
@@ -91,7 +94,7 @@ module _ (left left' held held' : Option (List ℕ)) (passes : ℕ) where
         rest = input;
         split = refl;
         text = [];
-        wrote = subst (λ (h : Option (List ℕ)). Grew held h []) (sym same) (Grew-nothing held);
+        wrote = none_written same;
         begins = inl (λ more. replayed_some more);
         counted = omega arith;
       }
@@ -142,37 +145,55 @@ module _ (left left' held held' : Option (List ℕ)) (passes : ℕ) where
             o.2,
       )
   replayed verdict.Memory answer o ends =
-      told answer status.Memory ends.0 (o.0, untold o.0 o.1 o.2 ends.1)
+      told answer status.Memory ends.0 (o.0, untold o.0 o.1 (near_few audit.AreSound o.0 o.2) ends.1)
 
-  -- nothing was to be written before a read that failed
+  abbrev Told : Status → Type 0
+  Told answer = ToldBefore IsReplayed ClosesReplay left left' held held' answer
+
+  told_as : (answer wanted : Status) → answer ≡ wanted → Told wanted → Told answer
+  told_as answer wanted same t = subst Told (sym same) t
+
+  -- nothing was to be written before a read that failed, or a line that wanted memory
   pub told_before : (v : Verdict) (answer : Status) → audit.Outcome left left' v → EndsWithVerdict v held held' answer
-      → ToldBefore IsReplayed ClosesReplay left left' held held' answer
-  told_before v answer o ends = by_case v o ends
-    where
-      by_case : (v : Verdict) → audit.Outcome left left' v → EndsWithVerdict v held held' answer
-          → ToldBefore IsReplayed ClosesReplay left left' held held' answer
-      by_case (verdict.Sound items) o (inl ends) = subst (λ (a : Status). ToldBefore IsReplayed ClosesReplay left left' held held' a) (sym ends.0) tt
-      by_case (verdict.Sound items) o (inr ends) = subst (λ (a : Status). ToldBefore IsReplayed ClosesReplay left left' held held' a) (sym ends.0) tt
-      by_case (verdict.Broken place rule) o (inl ends) = subst (λ (a : Status). ToldBefore IsReplayed ClosesReplay left left' held held' a) (sym ends.0) tt
-      by_case (verdict.Broken place rule) o (inr ends) = subst (λ (a : Status). ToldBefore IsReplayed ClosesReplay left left' held held' a) (sym ends.0) tt
-      by_case (verdict.Bad bad) o (inl ends) = subst (λ (a : Status). ToldBefore IsReplayed ClosesReplay left left' held held' a) (sym ends.0) tt
-      by_case (verdict.Bad bad) o (inr ends) = subst (λ (a : Status). ToldBefore IsReplayed ClosesReplay left left' held held' a) (sym ends.0) tt
-      by_case verdict.TooLong o ends = subst (λ (a : Status). ToldBefore IsReplayed ClosesReplay left left' held held' a) (sym ends.0) tt
-      by_case verdict.Memory o ends = subst (λ (a : Status). ToldBefore IsReplayed ClosesReplay left left' held held' a) (sym ends.0) tt
-      by_case verdict.ReadFault o ends =
-          subst (λ (a : Status). ToldBefore IsReplayed ClosesReplay left left' held held' a) (sym ends.0) (
-            o.0,
-            o.1,
-            within_as audit.IsSound (λ bytes. ToldAll IsReplayed ClosesReplay held held' bytes) o.0
-                (λ bytes sound. record {
-                  text = [];
-                  wrote = subst (λ (h : Option (List ℕ)). Grew held h []) (sym ends.1) (Grew-nothing held);
-                  closing = verdict_reply (verdict.Sound sound.0);
-                  replied = by_verdict bytes (verdict.Sound sound.0) sound.1;
-                  done = refl;
-                  closes = (sound.0, refl);
-                }) o.2,
-          )
+      → Told answer
+  told_before (verdict.Sound items) answer o (inl ends) = told_as answer status.Done ends.0 tt
+  told_before (verdict.Sound items) answer o (inr ends) = told_as answer status.WriteFault ends.0 tt
+  told_before (verdict.Broken place rule) answer o (inl ends) = told_as answer (status.Broken place rule) ends.0 tt
+  told_before (verdict.Broken place rule) answer o (inr ends) = told_as answer status.WriteFault ends.0 tt
+  told_before (verdict.Bad bad) answer o (inl ends) = told_as answer (status.Refused (refused.Line bad)) ends.0 tt
+  told_before (verdict.Bad bad) answer o (inr ends) = told_as answer status.WriteFault ends.0 tt
+  told_before verdict.TooLong answer o ends = told_as answer status.TooLong ends.0 tt
+  told_before verdict.Memory answer o ends =
+      told_as answer status.Memory ends.0 (
+        o.0,
+        o.1,
+        near_as audit.AreSound (λ lines. ToldMore IsReplayed ClosesReplay held held' lines) o.0
+            (λ lines sound. record {
+              text = [];
+              part = [];
+              wrote = none_written ends.1;
+              closing = verdict_reply (verdict.Sound sound.0);
+              replied = λ bytes same.
+                  by_verdict bytes (verdict.Sound sound.0)
+                  (subst (λ (ls : List (List ℕ)). Audits ls (verdict.Sound sound.0)) (sym same) sound.1);
+              done = refl;
+              closes = (sound.0, refl);
+            }) o.2,
+      )
+  told_before verdict.ReadFault answer o ends =
+      told_as answer status.ReadFault ends.0 (
+        o.0,
+        o.1,
+        within_as audit.IsSound (λ bytes. ToldAll IsReplayed ClosesReplay held held' bytes) o.0
+            (λ bytes sound. record {
+              text = [];
+              wrote = none_written ends.1;
+              closing = verdict_reply (verdict.Sound sound.0);
+              replied = by_verdict bytes (verdict.Sound sound.0) sound.1;
+              done = refl;
+              closes = (sound.0, refl);
+            }) o.2,
+      )
 
 -- what a verdict says of failed reads holds of the answer
 pub unread_by : (v : Verdict) (held held' : Option (List ℕ)) (answer : Status) (old new : ℕ)

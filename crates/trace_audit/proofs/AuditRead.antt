@@ -24,10 +24,10 @@ use Rattle.trace_audit.specs.declared.verdict.Verdict.TheVariants as verdict
 use Rattle.trace_audit.specs.Audit.{Audits, IsBroken, IsFirst, IsRefused, IsSafeTrace, IsTrace, IsUnrefused, NeverFall, entries_of, in_front, line_says, some_entry}
 use Rattle.trace_model.specs.Tallies.{last_tick}
 use Rattle.trace_audit.specs.Judged.{Judges}
-use Rattle.trace_audit.specs.Outcome.{Answered, IsAudited, Outcome}
+use Rattle.trace_audit.specs.Outcome.{Answered, AreSound, IsAudited, Outcome}
 use Rattle.trace_audit.specs.RulesStand.{RulesStandFor}
 use Rattle.trace_audit.specs.inner.AuditTurns.{HeardStandsFor, Hears, HearsLine, Standing, Turn, verdict_of}
-use Rattle.line_input.proofs.LinesSoFar.{StopsAt, bad_stops, ended_lines, ended_whole, found_lines, found_stops, lines_counted, lines_first, over_lines, part_lines, stopped_all, stopped_by, stopped_few, stopped_input, taken_input, taken_took}
+use Rattle.line_input.proofs.LinesSoFar.{StopsAt, bad_stops, ended_lines, ended_whole, found_lines, found_stops, line_near, lines_counted, lines_first, over_lines, part_lines, stopped_all, stopped_by, stopped_input, taken_input, taken_took}
 use Rattle.trace_model.proofs.LegsHeard.{last_one}
 
 -- What a line says.
@@ -157,7 +157,7 @@ ends_at start left feed before number IsThis s v is =
       stopped_by start left feed before number IsThis s Holds is,
     )
 
-is_first : (front : List (List ℕ)) (text : List ℕ) (rest : List (List ℕ)) (number : ℕ)
+pub is_first : (front : List (List ℕ)) (text : List ℕ) (rest : List (List ℕ)) (number : ℕ)
     (Is : List (List ℕ) → List ℕ → Type 0) → number ≡ length front + 1 → IsSafeTrace front → Is front text →
     IsFirst (front ++ text ∷ rest) number Is
 is_first front text rest number Is place safe is =
@@ -237,9 +237,10 @@ module _ (start left : Option (List ℕ)) (new : Reading) (heard : Heard) (k : F
   heard_entry heard' x says (Some (verdict.Broken line broken)) h =
       subst (λ (n : ℕ). Ends start left n (verdict.Broken n broken)) (sym h.0) (line_breaks x broken says h.1 h.2)
   heard_entry heard' x says (Some verdict.Memory) h = (
-    k.stops.front ++ new.feed.pending,
-    k.stops.took,
-    stopped_few start left new.feed k.before new.lines (λ text. text ≡ new.text) k.stops,
+    k.so_far.front ++ new.feed.pending,
+    k.so_far.taken.took,
+    line_near start left new k.before (new.text ∷ []) k.so_far (omega arith) AreSound
+        (heard.items, (k.safe, k.stands.items)),
   )
   heard_entry heard' x says (Some (verdict.Sound items)) h = absurd h
   heard_entry heard' x says (Some verdict.ReadFault) h = absurd h

@@ -22,14 +22,14 @@ use Rattle.trace_model.specs.declared.moved.LegOf.{LegOf}
 use Rattle.trace_audit.specs.declared.verdict.Verdict.{Verdict}
 use Rattle.trace_audit.specs.declared.verdict.Verdict.TheVariants as verdict
 use Rattle.trace_model.specs.declared.voice.Voice.{Voice}
-use Rattle.trace_audit.specs.Audit.{Audits, IsRefused, IsSafeTrace, IsUnrefused, NeverFall, entries_of, in_front, line_says}
+use Rattle.trace_audit.specs.Audit.{Audits, IsBroken, IsRefused, IsSafeTrace, IsUnrefused, NeverFall, entries_of, in_front, line_says}
 use Rattle.trace_model.specs.Tallies.{last_tick}
 use Rattle.trace_audit.specs.Judged.{Judges}
 use Rattle.trace_model.specs.LegsStand.{IsVoiceOf}
 use Rattle.trace_audit.specs.RulesStand.{IsOwed}
 use Rattle.trace_audit.specs.inner.Owed.{is_too_soon, owed_behind}
 use Rattle.trace_audit.proofs.AuditOne.{last_or_none}
-use Rattle.trace_audit.proofs.AuditRead.{entries_append, judged_more, trace_more, unrefused_append}
+use Rattle.trace_audit.proofs.AuditRead.{entries_append, is_first, judged_more, trace_more, unrefused_append}
 use Rattle.trace_audit.proofs.RulesLemmas.{AreVoices, bounded_no, bounded_yes, is_this_leg, leg_within, owed_more, within_leg}
 
 abbrev Decided : Type 0 → Type 0
@@ -284,33 +284,14 @@ verdict_from front (text ∷ rest) h = at (λ more. verdict_from (front ++ text 
         (more (record { trace = trace_more front text x says h le; safe = judged_more front text x None says j }))
     judged more x says le (Some broken) j = (
       verdict.Broken (length front + 1) broken,
-      record {
-        front = front;
-        text = text;
-        rest = rest;
-        split = refl;
-        place = refl;
-        safe = h;
-        is = record {
-          trace = trace_more front text x says h le;
-          broken = judged_more front text x (Some broken)
-              says j;
-        };
-      },
+      is_first front text rest (length front + 1) (λ front text. IsBroken front text broken) refl h
+          (record { trace = trace_more front text x says h le; broken = judged_more front text x (Some broken) says j }),
     )
 
     refused : (why : Reason) → IsRefused front text why → HasVerdict (front ++ text ∷ rest)
     refused why is = (
       verdict.Bad (record { line = length front + 1; reason = why }),
-      record {
-        front = front;
-        text = text;
-        rest = rest;
-        split = refl;
-        place = refl;
-        safe = h;
-        is = is;
-      },
+      is_first front text rest (length front + 1) (λ front text. IsRefused front text why) refl h is,
     )
 
     entry : (IsSafeTrace (front ++ text ∷ []) → HasVerdict ((front ++ text ∷ []) ++ rest)) → (x : Entry) →
