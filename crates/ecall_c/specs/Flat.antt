@@ -192,10 +192,12 @@ IsSection true octets p = LiesInOctets octets p × ((members : List Member) × S
 IsSection false octets p = Unit {0}
 
 abbrev pub IsOctets : List ℕ → EcallPart → Type 0
-IsOctets octets p = LiesInOctets octets p × (length (bits_of octets p).bits % 8 ≡ 0) × (length (bits_of octets p).bits ≤ 1016)
+IsOctets octets p =
+    LiesInOctets octets p × (length (bits_of octets p).bits % 8 ≡ 0) × (length (bits_of octets p).bits ≤ 1016)
 
 abbrev pub IsExtra : Bool → List ℕ → EcallPart → EcallPart → Type 0
-IsExtra true octets oid content = IsOctets octets oid × IsOid (octets_of (bits_of octets oid).bits) × IsOctets octets content
+IsExtra true octets oid content =
+    IsOctets octets oid × IsOid (octets_of (bits_of octets oid).bits) × IsOctets octets content
 IsExtra false octets oid content = Unit {0}
 
 -- the struct is a set with its parts in these octets, of which there are at most 65535

@@ -73,7 +73,16 @@ abbrev pub no_frame : EcallFrame
 no_frame = flat 0 0 0 no_octets
 
 abbrev pub full : ℕ → ℕ → ℕ → ℕ → Bool → Bool → EcallFrame → EcallItem
-full kind call at_point number up down f = record { call = call; kind = kind; at_point = at_point; number = number; up = up; down = down; frame = f }
+full kind call at_point number up down f =
+    record {
+      call = call;
+      kind = kind;
+      at_point = at_point;
+      number = number;
+      up = up;
+      down = down;
+      frame = f;
+    }
 
 abbrev pub bare : ℕ → ℕ → ℕ → ℕ → EcallItem
 bare kind call at_point number = full kind call at_point number false false no_frame

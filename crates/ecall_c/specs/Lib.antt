@@ -5,3 +5,6 @@ pub mod Vehicles
 pub mod Places
 pub mod Seats
 pub mod Ticks
+pub mod Facts
+pub mod Frames
+pub mod Parts

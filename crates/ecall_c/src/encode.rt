@@ -60,7 +60,8 @@ fn octs<'a>(octets: &'a [u8], part: &EcallPart) -> Option<Octs<'a>>
 fn extra<'a>(octets: &'a [u8], oid: &EcallPart, content: &EcallPart) -> Option<Option<Extra<'a>>>
     requires { length octets.now ≤ 65535 }
     ensures some { IsSome result ↔ IsExtra oid.now.present octets.now oid.now content.now }
-    ensures value { IfSome result (λ extra. extra ≡ extra_of_flag oid.now.present (bits_of octets.now oid.now) (bits_of octets.now content.now)) }
+    ensures value { IfSome result (λ extra. extra
+        ≡ extra_of_flag oid.now.present (bits_of octets.now oid.now) (bits_of octets.now content.now)) }
 {
     if !oid.present {
         return Some(None);
@@ -81,7 +82,7 @@ fn kind(number: u8, is_added: bool) -> Option<VehicleKind>
     }
 }
 
-fn way(way: &EcallWay) -> Option<Option<Delta>>
+pub fn way(way: &EcallWay) -> Option<Option<Delta>>
     ensures some { IsSome result ↔ IsWay way.now.present way.now }
     ensures value { IfSome result (λ delta. delta ≡ flat_way way.now) }
 {
@@ -92,7 +93,7 @@ fn way(way: &EcallWay) -> Option<Option<Delta>>
     Some(Some(delta))
 }
 
-fn passengers(has_passengers: bool, passengers: u8) -> Option<u8>
+pub fn passengers(has_passengers: bool, passengers: u8) -> Option<u8>
     ensures { result ≡ count_of_flag has_passengers passengers }
 {
     if has_passengers {
@@ -185,7 +186,7 @@ fn copy(from: &[u8], into: &mut [u8; 140])
 }
 
 // These octets.
-fn encoded(written: &[u8]) -> EcallEncoded
+pub fn encoded(written: &[u8]) -> EcallEncoded
     requires { length written.now ≤ 140 }
     ensures fault { result.fault ≡ 0 }
     ensures octets { take result.len result.octets ≡ written.now }
@@ -201,7 +202,7 @@ fn encoded(written: &[u8]) -> EcallEncoded
     }
 }
 
-fn fault(fault: u8, bits: u32) -> EcallEncoded
+pub fn fault(fault: u8, bits: u32) -> EcallEncoded
     ensures fault { result.fault ≡ fault }
     ensures bits { result.bits ≡ bits }
     ensures len { result.len ≡ 0 }
@@ -217,7 +218,8 @@ fn fault(fault: u8, bits: u32) -> EcallEncoded
 /// The canonical octets of a set, whose parts stand in these octets.
 #[unsafe(no_mangle)]
 pub extern "C" fn ecall_encode(set: &EcallSet, octets: &[u8]) -> EcallEncoded
-    ensures written { result.fault ≡ 0 → AreCanonical (take result.len result.octets) (tree (msd_of octets.now set.now)) }
+    ensures written { result.fault ≡ 0 →
+        AreCanonical (take result.len result.octets) (tree (msd_of octets.now set.now)) }
     ensures long { result.fault ≡ 1 → NeedsMoreBits (tree (msd_of octets.now set.now)) result.bits }
     ensures bad { result.fault ≡ 2 → IsFlat octets.now set.now → ⊥ }
     ensures good { (result.fault ≡ 2 → ⊥) → IsFlat octets.now set.now }

@@ -68,7 +68,7 @@ pub fn lift_frame(frame: &EcallFrame) -> Option<FrameRef<'_>>
     }
 }
 
-fn flat(kind: u8, request: u8, attempt: u8, octets: &[u8; OCTETS]) -> EcallFrame
+pub fn flat(kind: u8, request: u8, attempt: u8, octets: &[u8; OCTETS]) -> EcallFrame
     ensures { result ≡ record { kind = kind; request = request; attempt = attempt; octets = octets.now } }
 {
     EcallFrame {
@@ -79,7 +79,7 @@ fn flat(kind: u8, request: u8, attempt: u8, octets: &[u8; OCTETS]) -> EcallFrame
     }
 }
 
-const NO_OCTETS: [u8; OCTETS] = [0; OCTETS];
+pub const NO_OCTETS: [u8; OCTETS] = [0; OCTETS];
 
 fn flatten_frame(frame: &Frame) -> EcallFrame
     ensures { result ≡ flat_frame frame.now }
@@ -143,7 +143,7 @@ fn timer_number(timer: Timer) -> u8
     }
 }
 
-const NO_FRAME: EcallFrame = EcallFrame {
+pub const NO_FRAME: EcallFrame = EcallFrame {
     kind: 0,
     request: 0,
     attempt: 0,

@@ -110,7 +110,8 @@ pub extern "C" fn ecall_point_size() -> usize {
 fn ticks_left(point: &mut EcallPoint) -> Option<u32>
     requires { IsThere point.old.session }
     ensures kept { point.new ≡ point.old }
-    ensures due { (session : Kept) (s : Point) → point.old.session ≡ Some session → SessionStandsFor session s → result ≡ due_of s }
+    ensures due { (session : Kept) (s : Point) → point.old.session ≡ Some session → SessionStandsFor session s →
+        result ≡ due_of s }
 {
     let session = point.session();
     session.due()
@@ -121,7 +122,8 @@ fn ticks_left(point: &mut EcallPoint) -> Option<u32>
 pub extern "C" fn ecall_point_due(point: &mut EcallPoint) -> u32
     requires { IsThere point.old.session }
     ensures kept { point.new ≡ point.old }
-    ensures due { (session : Kept) (s : Point) → point.old.session ≡ Some session → SessionStandsFor session s → result ≡ or_zero (due_of s) }
+    ensures due { (session : Kept) (s : Point) → point.old.session ≡ Some session → SessionStandsFor session s →
+        result ≡ or_zero (due_of s) }
 {
     ticks_left(point).unwrap_or(0)
 }
@@ -150,8 +152,10 @@ fn pass_session<L: Ledger>(point: &mut EcallPoint, n: u32, items: &mut EcallItem
     requires some { 0 < blank.parts }
     requires there { IsThere point.old.session }
     requires least { 1 ≤ n }
-    requires due { (session : Kept) (s : Point) → point.old.session ≡ Some session → SessionStandsFor session s → IfSome (due_of s) (λ due. n ≤ due) }
-    ensures row { (session : Kept) (s : Point) → point.old.session ≡ Some session → SessionStandsFor session s → Steps point.new items.new (units n s) }
+    requires due { (session : Kept) (s : Point) → point.old.session ≡ Some session → SessionStandsFor session s →
+        IfSome (due_of s) (λ due. n ≤ due) }
+    ensures row { (session : Kept) (s : Point) → point.old.session ≡ Some session → SessionStandsFor session s →
+        Steps point.new items.new (units n s) }
 {
     let mut moments = link_frames::Steps::<L>::start(blank);
     let session = point.session();

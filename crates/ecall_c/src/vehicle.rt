@@ -5,12 +5,14 @@ ghost use Rattle.ivs_machine.specs.IvsStands.{IvsStandsFor};
 ghost use Rattle.ivs_machine.specs.VehicleRows.{vehicle_row, heard, Arrives, due_of, units};
 ghost use Rattle.ivs_machine.specs.declared.vehicle.Ivs.{Ivs as Kept};
 ghost use Rattle.ecall_c.specs.Seats.{IsThere};
-ghost use Rattle.msd_fit.specs.declared.facts.Facts.TheVariants as facts;
+ghost use Rattle.msd_fit.specs.declared.facts.Facts.TheVariants as known;
 ghost use Rattle.ecall_c.specs.Items.{IsFrame, frame_of};
 ghost use Rattle.ecall_c.specs.Flat.{or_zero};
+ghost use Rattle.ecall_c.specs.Facts.{AreFacts, own_of};
 ghost use Rattle.ecall_c.specs.Ticks.{IsPassable};
 ghost use Rattle.ecall_c.specs.Vehicles.{IsVehicleEvent, Stands, Steps, heard_of};
 
+use crate::facts::{EcallFacts, own};
 use crate::frame::{EcallFrame, EcallItems, lift_frame, put_items};
 use crate::seat::EcallVehicle;
 use crate::ticks::is_passable;
@@ -23,9 +25,24 @@ use std::sync::ledger::{Blank, Ledger};
 #[unsafe(no_mangle)]
 pub extern "C" fn ecall_vehicle_new(vehicle: &mut EcallVehicle, set: &[u8; 140])
     requires { vehicle.old.ivs ≡ None }
-    ensures { Stands vehicle.new (first_vehicle (facts.Ready set.now)) }
+    ensures { Stands vehicle.new (first_vehicle (known.Ready set.now)) }
 {
     vehicle.settle(Ivs::new(Facts::Ready(*set)));
+}
+
+/// A vehicle that knows these facts, in the room, before anything happened. Answers whether they are facts.
+#[unsafe(no_mangle)]
+pub extern "C" fn ecall_vehicle_knows(vehicle: &mut EcallVehicle, facts: &EcallFacts) -> bool
+    requires { vehicle.old.ivs ≡ None }
+    ensures known { IsTrue result ↔ AreFacts facts.now }
+    ensures kept { IsTrue (not result) → vehicle.new ≡ vehicle.old }
+    ensures stands { IsTrue result → Stands vehicle.new (first_vehicle (known.Own (own_of facts.now))) }
+{
+    let Some(own) = own(facts) else {
+        return false;
+    };
+    vehicle.settle(Ivs::new(Facts::Own(own)));
+    true
 }
 
 /// An event at the vehicle.
@@ -34,7 +51,8 @@ pub struct EcallVehicleEvent {
     /// The number of the call that the point took, or places.
     pub call: u32,
     /// 0 a frame; 1 to 3 a trigger by a sensor, a person, a test; 4 its cancelling; 5, 6 the network comes, goes; 7 the
-    /// point took the call; 8 the attempt failed; 9 the point calls; 10 sleep; 11 a fault; 12 the point hung up; 13 lost; 14 a restart.
+    /// point took the call; 8 the attempt failed; 9 the point calls; 10 sleep; 11 a fault; 12 the point hung up; 13
+    /// lost; 14 a restart.
     pub kind: u8,
     pub frame: EcallFrame,
 }
@@ -105,7 +123,8 @@ pub extern "C" fn ecall_vehicle_size() -> usize {
 fn ticks_left(vehicle: &mut EcallVehicle) -> Option<u32>
     requires { IsThere vehicle.old.ivs }
     ensures kept { vehicle.new ≡ vehicle.old }
-    ensures due { (ivs : Kept) (s : Vehicle) → vehicle.old.ivs ≡ Some ivs → IvsStandsFor ivs s → result ≡ due_of s }
+    ensures due { (ivs : Kept) (s : Vehicle) → vehicle.old.ivs ≡ Some ivs → IvsStandsFor ivs s →
+        result ≡ due_of s }
 {
     let ivs = vehicle.ivs();
     ivs.due()
@@ -116,7 +135,8 @@ fn ticks_left(vehicle: &mut EcallVehicle) -> Option<u32>
 pub extern "C" fn ecall_vehicle_due(vehicle: &mut EcallVehicle) -> u32
     requires { IsThere vehicle.old.ivs }
     ensures kept { vehicle.new ≡ vehicle.old }
-    ensures due { (ivs : Kept) (s : Vehicle) → vehicle.old.ivs ≡ Some ivs → IvsStandsFor ivs s → result ≡ or_zero (due_of s) }
+    ensures due { (ivs : Kept) (s : Vehicle) → vehicle.old.ivs ≡ Some ivs → IvsStandsFor ivs s →
+        result ≡ or_zero (due_of s) }
 {
     ticks_left(vehicle).unwrap_or(0)
 }
@@ -149,8 +169,10 @@ fn pass_ivs<L: Ledger>(vehicle: &mut EcallVehicle, n: u32, items: &mut EcallItem
     requires some { 0 < blank.parts }
     requires there { IsThere vehicle.old.ivs }
     requires least { 1 ≤ n }
-    requires due { (ivs : Kept) (s : Vehicle) → vehicle.old.ivs ≡ Some ivs → IvsStandsFor ivs s → IfSome (due_of s) (λ due. n ≤ due) }
-    ensures row { (ivs : Kept) (s : Vehicle) → vehicle.old.ivs ≡ Some ivs → IvsStandsFor ivs s → Steps vehicle.new items.new (units n s) }
+    requires due { (ivs : Kept) (s : Vehicle) → vehicle.old.ivs ≡ Some ivs → IvsStandsFor ivs s →
+        IfSome (due_of s) (λ due. n ≤ due) }
+    ensures row { (ivs : Kept) (s : Vehicle) → vehicle.old.ivs ≡ Some ivs → IvsStandsFor ivs s →
+        Steps vehicle.new items.new (units n s) }
 {
     let mut moments = link_frames::Steps::<L>::start(blank);
     let ivs = vehicle.ivs();
