@@ -1,4 +1,4 @@
-.PHONY: demo build examples checks test bench
+.PHONY: demo build examples checks test bench c-library c-examples
 
 PROGRAM = crates/ecall/out/ecall
 
@@ -23,3 +23,11 @@ test:
 bench: build
 	bench/run.py $(PROGRAM)
 	bench/refuse.py $(PROGRAM)
+	bench/c.py c/out/$(shell uname -m)-unknown-linux-gnu
+
+c-library:
+	tools/c-library
+
+c-examples:
+	tools/c-library $(shell uname -m)-unknown-linux-gnu
+	c/check c/out/$(shell uname -m)-unknown-linux-gnu

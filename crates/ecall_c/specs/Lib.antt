@@ -1,0 +1,10 @@
+pub mod Flat
+pub mod Items
+pub mod Sessions
+pub mod Vehicles
+pub mod Places
+pub mod Seats
+pub mod Ticks
+pub mod Facts
+pub mod Frames
+pub mod Parts
