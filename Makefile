@@ -1,6 +1,7 @@
-.PHONY: demo build examples checks test bench c-library c-examples
+.PHONY: demo build install examples checks test bench c-library c-examples
 
 PROGRAM = crates/ecall/out/ecall
+PREFIX = /usr/local
 
 demo:
 	@echo 'ecall run < examples/first-call.script, built in half a minute without any proof (`make build` proves it):'
@@ -9,6 +10,10 @@ demo:
 build:
 	rt all check --jobs 4
 	cd crates/ecall && rt run -- run < /dev/null
+
+install: build
+	install -D $(PROGRAM) $(DESTDIR)$(PREFIX)/bin/ecall
+	install -D -m 644 docs/ecall.1 $(DESTDIR)$(PREFIX)/share/man/man1/ecall.1
 
 examples: build
 	examples/check $(PROGRAM)
