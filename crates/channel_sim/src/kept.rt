@@ -10,7 +10,7 @@ use std::rc::Rc;
 
 /// A frame whose set is shared.
 #[derive(Drop)]
-pub(crate) enum KeptFrame {
+pub enum KeptFrame {
     Init,
     Start(Request),
     Content {
@@ -28,7 +28,7 @@ pub(crate) enum KeptFrame {
 
 impl KeptFrame {
     /// The frame, with its octets lent.
-    pub(crate) fn lend(&self) -> FrameRef<'_>
+    pub fn lend(&self) -> FrameRef<'_>
         ensures { lent result ≡ full self.now }
     {
         match self {

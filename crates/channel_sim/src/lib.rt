@@ -19,5 +19,7 @@ mod world;
 
 pub use calls::Due;
 pub use fault::SimFault;
+pub use kept::KeptFrame;
 pub use laws::{fitting_worlds, traces_are_safe};
+pub use sends::Sends;
 pub use world::World;

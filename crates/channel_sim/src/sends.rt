@@ -20,9 +20,10 @@ pub(crate) struct KeptSent {
     frame: KeptFrame,
 }
 
-/// The frames sent in one direction, in order, each with its tick, and the last set that one of them carried.
+/// The frames sent in one direction of a call, in order, each with its tick. A set is kept once for all frames that
+/// carry it one behind the other.
 #[derive(Drop)]
-pub(crate) struct Sends {
+pub struct Sends {
     frames: Vec<KeptSent>,
     last: Option<Rc<[u8; OCTETS]>>,
 }
@@ -39,7 +40,7 @@ impl Model for Sends {
 
 impl Sends {
     /// Nothing was sent.
-    pub(crate) fn new(alloc: Global) -> Sends
+    pub fn new(alloc: Global) -> Sends
         ensures { result ≡ [] }
     {
         Sends {
@@ -67,7 +68,7 @@ impl Sends {
     }
 
     /// The k-th frame, from 0.
-    pub(crate) fn frame(&self, k: usize) -> Option<&KeptFrame>
+    pub fn frame(&self, k: usize) -> Option<&KeptFrame>
         ensures { option_map (λ f. full f.now) result ≡ option_map (λ s. s.frame) (slice_get self.now k) }
     {
         if k < self.frames.len() {
@@ -78,7 +79,7 @@ impl Sends {
     }
 
     /// A frame was sent at this tick.
-    pub(crate) fn push(&mut self, alloc: Global, tick: u64, frame: &Frame) -> Result<(), AllocError>
+    pub fn push(&mut self, alloc: Global, tick: u64, frame: &Frame) -> Result<(), AllocError>
         ensures { OnOk result (self.new ≡ self.old ++ record { tick = tick; frame = frame.now } ∷ []) }
     {
         let kept = kept_frame(&mut self.last, alloc, frame)?;
