@@ -24,6 +24,12 @@ MOST_OCTETS = 140
 # the crates that encoder.txt stands on, each with those that it stands on in turn
 BELOW = {"call_io": "thiserror", "per_bits": "", "per_types": "per_bits", "msd_values": "per_bits call_io arrayvec hex itoa jiff jiff_core"}
 BELOW |= {"msd_codec": "per_bits per_types msd_values arrayvec", "encoder": "per_bits msd_values msd_codec call_io arrayvec"}
+# those that modem.txt stands on
+MODEM_BELOW = {"per_bits": "", "link_frames": "arrayvec", "tone_link": "per_bits link_frames arrayvec thiserror", "modem": "link_frames tone_link"}
+FRAMES = 20_000
+# the kinds of scripts whose frames the modem carries, each with how many it is measured with, and how many octets go through for one
+TONED = {"calls": (20_000, 3), "one": (20_000, 72.5)}
+FRAME_OCTETS = 143
 ENCODINGS = 50_000
 WRITES = 50_000
 # the kinds of scripts.py, each with how many it is measured with, and then with twice as many
@@ -116,19 +122,29 @@ def generated_codec(folder, module="format2"):
     return built
 
 
-def encoder(folder):
-    """Proves and builds encoder.txt over copies of the crates, in a folder of its own."""
+def proved(folder, name, below):
+    """Proves and builds a program of this folder over copies of the crates, in a folder of its own."""
     need("rt")
-    crate = os.path.join(folder, "crates", "encoder")
+    crate = os.path.join(folder, "crates", name)
     os.makedirs(os.path.join(crate, "src"))
-    shutil.copy(os.path.join(HERE, "encoder.txt"), os.path.join(crate, "src", "main.rt"))
-    for name in BELOW.keys() - {"encoder"}:
-        shutil.copytree(os.path.join(CRATES, name), os.path.join(folder, "crates", name))
+    shutil.copy(os.path.join(HERE, f"{name}.txt"), os.path.join(crate, "src", "main.rt"))
+    for other in below.keys() - {name}:
+        shutil.copytree(os.path.join(CRATES, other), os.path.join(folder, "crates", other))
     with open(os.path.join(folder, "crates.txt"), "w") as crates:
-        crates.writelines(f"{name}: {below}\n" for name, below in BELOW.items())
+        crates.writelines(f"{other}: {under}\n" for other, under in below.items())
     if subprocess.run(["rt", "run", "--", "0"], cwd=crate, stdin=subprocess.DEVNULL, capture_output=True).returncode:
         raise Skipped("it is not proved or doesn't build")
-    return os.path.join(crate, "out", "encoder")
+    return os.path.join(crate, "out", name)
+
+
+def plain_modem(folder):
+    """Builds modem.rs, the modem as a plain loop."""
+    need("rustc")
+    os.mkdir(folder)
+    built = os.path.join(folder, "modem")
+    if subprocess.run(["rustc", "-O", "-o", built, os.path.join(HERE, "modem.rs")], capture_output=True).returncode:
+        raise Skipped("it does not build")
+    return built
 
 
 def attempt(what, build, folder):
@@ -241,6 +257,31 @@ def others(program, plain, folder):
     print(f"  (`make 0` writes the script of kind mixed, which `trial 0` plays; `run` takes {played:.3f} s for it)")
 
 
+def frames_alone(modem, folder):
+    """The processor time for a frame that is written as samples and read back, beside that of the plain loop."""
+    ours = proved(folder, "modem", MODEM_BELOW)
+    none, some = least([[ours, "0"], [ours, str(FRAMES)]], os.devnull)
+    [plain] = least([[modem, str(FRAMES)]], os.devnull)
+    print(f"\nA frame of {FRAME_OCTETS} octets as samples and back, processor time for one")
+    print(f"  {'tone_write and tone_read':<34} {(some - none) / FRAMES * 1e6:8.2f} us")
+    print(f"  {'the plain loop':<34} {plain / FRAMES * 1e6:8.2f} us  {(some - none) / plain:5.2f}")
+
+
+def tones(program, modem, folder):
+    """The processor time of `tones` beside that of `run` and that of the plain loop over as many samples, and that of twice as much."""
+    print("\nScripts over the modem: processor time of `ecall run`, of the plain loop over as many samples, and of `ecall tones 500 1`;")
+    print("what `tones` takes beside the samples, over `run`; and twice as much")
+    print(f"{'kind':>10} {'count':>8} {'run':>8} {'samples':>8} {'tones':>8} {'ratio':>6} {'doubled':>8} {'ratio':>6}")
+    words = [program, "tones", "500", "1"]
+    for kind, (count, octets) in TONED.items():
+        path, double = write_script(folder, kind, count), write_script(folder, kind, 2 * count)
+        same_text([[program, "run"], words], path)
+        [samples] = least([[modem, str(round(count * octets / FRAME_OCTETS)), "500", "1"]], os.devnull)
+        run, toned = least([[program, "run"], words], path)
+        [twice] = least([words], double)
+        print(f"{kind:>10} {count:>8} {run:8.3f} {samples:8.3f} {toned:8.3f} {(toned - samples) / run:6.2f} {twice:8.3f} {twice / toned:6.2f}")
+
+
 def instructions(command, text):
     """How many instructions a command needs for this input."""
     run = ["valgrind", "--tool=cachegrind", "--cache-sim=no", "--cachegrind-out-file=/dev/null", *command]
@@ -288,7 +329,7 @@ def alone(program, generated, path):
 def encoding(generated, path, folder):
     """Encoding alone, of both, over the same sets: instructions, and processor time less that of a run without rounds."""
     need("valgrind")
-    program = encoder(folder)
+    program = proved(folder, "encoder", BELOW)
     sets, text = samples(path)
     octets = [bytes.fromhex(digits) for digits in sets]
     places = b"".join((bytes([len(it)]) + it).ljust(1 + MOST_OCTETS, b"\0") for it in octets)
@@ -348,6 +389,10 @@ def main(program):
         encodes(program, plain, folder)
         plays(program, plain, folder)
         others(program, plain, folder)
+        modem = attempt("the modem as a plain loop", plain_modem, os.path.join(folder, "plain_modem"))
+        if modem:
+            attempt("a frame as samples", lambda here: frames_alone(modem, here), os.path.join(folder, "modem"))
+            tones(program, modem, folder)
         attempt("decoding alone", lambda _: alone(program, generated, known), folder)
         attempt("encoding alone", lambda here: encoding(generated, known, here), os.path.join(folder, "encoder"))
         attempt("calls of write", lambda _: writes(program, known), folder)

@@ -1,0 +1,9 @@
+pub mod Received
+pub mod LostLines
+pub mod TonesLines
+pub mod NoiseWithin
+pub mod LostFrames
+pub mod FaintScripts
+pub mod SentLemmas
+pub mod ReadLines
+pub mod ToldTones

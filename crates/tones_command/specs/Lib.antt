@@ -1,0 +1,3 @@
+pub mod Modem
+pub mod Tones
+pub mod inner
