@@ -17,6 +17,10 @@ use Rattle.ecall_top.specs.Replies.{Replies, usage_line}
 use Rattle.script_commands.specs.Register.{register_reply}
 use Rattle.script_commands.specs.Run.{run_reply}
 use Rattle.script_commands.specs.Trial.{trial_reply}
+use Rattle.tones_command.specs.Tones.{toned_script, tones_reply}
+use Rattle.trace_text.specs.EntryLine.{text_of}
+use Rattle.line_input.specs.declared.reason.BadLine.{BadLine}
+use Rattle.script_stage.specs.ScriptTrace.{ended, script_trace}
 use Rattle.set_commands.proofs.Conformed.{conformed_some, conformed_one}
 use Rattle.set_commands.specs.inner.FrameStreams.{nothing_held}
 use Rattle.set_commands.specs.inner.FrameReplies.{frames_some}
@@ -34,6 +38,7 @@ replies_some (Some command.Frames) input = frames_some 1 (lines_of input) [] [] 
 replies_some (Some command.Replay) input = replayed_some input
 replies_some (Some (command.Make number)) input = (record { text = made_script number; status = status.Done }, refl)
 replies_some (Some (command.Trial number)) input = (trial_reply number, refl)
+replies_some (Some (command.Tones noise)) input = (tones_reply noise input, refl)
 replies_some (Some command.Conform) input =
     let found = conformed_some in
     (record { text = found.0; status = status.Done }, (found.1, refl))
@@ -52,6 +57,7 @@ replies_one (Some command.Frames) input r s a b = frames_one 1 (lines_of input) 
 replies_one (Some command.Replay) input r s a b = replayed_one input r s a b
 replies_one (Some (command.Make number)) input r s a b = a ∙ sym b
 replies_one (Some (command.Trial number)) input r s a b = a ∙ sym b
+replies_one (Some (command.Tones noise)) input r s a b = a ∙ sym b
 replies_one (Some command.Conform) input r s a b = same_reply r s (conformed_one r.text s.text a.0 b.0) (a.1 ∙ sym b.1)
 
 -- a command that reads nothing replies the same whatever the input is
@@ -66,6 +72,7 @@ unread_reply (Some command.Frames) none r replied more = absurd (cc)
 unread_reply (Some command.Replay) none r replied more = absurd (cc)
 unread_reply (Some (command.Make number)) none r replied more = replied
 unread_reply (Some (command.Trial number)) none r replied more = replied
+unread_reply (Some (command.Tones noise)) none r replied more = absurd (cc)
 unread_reply (Some command.Conform) none r replied more = replied
 
 -- no verdict is told as the usage line is
@@ -76,6 +83,11 @@ no_usage_verdict (verdict.Bad bad) h = absurd (cc)
 no_usage_verdict verdict.ReadFault h = absurd (cc)
 no_usage_verdict verdict.TooLong h = absurd (cc)
 no_usage_verdict verdict.Memory h = absurd (cc)
+
+-- a text with or without a refusal behind it isn't told as the usage line is
+no_usage_ended : (text : List ℕ) (o : Option BadLine) → (ended text o).status ≡ status.Usage → ⊥
+no_usage_ended text None h = absurd (cc)
+no_usage_ended text (Some bad) h = absurd (cc)
 
 -- to no input a command replies with the usage line's status, so words that get it name none
 pub usage_reply : (asked : Option Command) (r : Reply) → Replies asked [] r → r.status ≡ status.Usage
@@ -96,4 +108,7 @@ usage_reply (Some command.Replay) r replied same more =
     absurd (no_usage_verdict replied.verdict (ap (λ s. s.status) (sym replied.says) ∙ same))
 usage_reply (Some (command.Make number)) r replied same more = replied
 usage_reply (Some (command.Trial number)) r replied same more = replied
+usage_reply (Some (command.Tones noise)) r replied same more =
+    absurd (no_usage_ended (text_of (script_trace (toned_script noise []))) (toned_script noise []).refused
+    (ap (λ s. s.status) (sym replied) ∙ same))
 usage_reply (Some command.Conform) r replied same more = replied

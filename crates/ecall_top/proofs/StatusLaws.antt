@@ -18,6 +18,7 @@ use Rattle.set_commands.specs.Encode.{encoded_from, facts_behind}
 use Rattle.set_commands.specs.Frames.{AreFrames, IsLineOfFrames}
 use Rattle.script_commands.specs.Register.{registered}
 use Rattle.script_commands.specs.Replay.{verdict_status}
+use Rattle.tones_command.specs.Tones.{toned_script}
 use Rattle.script_stage.specs.ScriptTrace.{ended, script_trace}
 use Rattle.trace_model.specs.declared.entry.Entry.{Entry}
 use Rattle.ecall_top.specs.declared.command.Command.{Command}
@@ -102,4 +103,6 @@ replies_status (Some command.Replay) input r is =
     subst (λ (s : Reply). IsJudged s.status) (sym is.says) (judged_status (lines_of input) is.verdict is.audits)
 replies_status (Some (command.Make number)) input r is = ap (λ s. s.status) is
 replies_status (Some (command.Trial number)) input r is = ap (λ s. s.status) is
+replies_status (Some (command.Tones noise)) input r is =
+    subst Fine (sym is) (ended_status _ (toned_script noise input).refused)
 replies_status (Some command.Conform) input r is = is.1

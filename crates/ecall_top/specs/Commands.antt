@@ -1,8 +1,9 @@
 -- Which command the words name: each form of words is an exact list. This project's profile. Cited by the reply to
 -- words and an input.
-use Rattle.std.specs.Prelude.{ℕ, ◌^◌, Bool, true, false, List, [], ◌∷◌, Option, Some, None, codes, if◌then◌else◌}
+use Rattle.std.specs.Prelude.{ℕ, ◌^◌, ◌&&◌, nat_le, Bool, true, false, List, [], ◌∷◌, Option, Some, None, codes, if◌then◌else◌}
 use Rattle.std.specs.Str.{bytes_eq}
 use Rattle.line_input.specs.Numbers.{natural_below}
+use Rattle.tones_command.specs.Modem.{most_noise}
 use Rattle.ecall_top.specs.declared.command.Command.{Command}
 use Rattle.ecall_top.specs.declared.command.Command.TheVariants as command
 
@@ -25,15 +26,29 @@ command_numbered word number =
     else if bytes_eq word (codes "trial") then Some (command.Trial number)
     else None
 
+-- the command of a word and two numbers: noise moves a sample by the first at most, and is drawn from the second on
+abbrev pub command_noisy : List ℕ → (most number : ℕ) → Option Command
+command_noisy word most number =
+    if bytes_eq word (codes "tones") && nat_le most most_noise
+    then Some (command.Tones (record { most = most; number = number }))
+    else None
+
 -- the same, where the second word is a number
 abbrev pub command_at : List ℕ → Option ℕ → Option Command
 command_at word None = None
 command_at word (Some number) = command_numbered word number
 
+-- the same of two numbers, where the second and the third word are numbers
+abbrev pub command_noisy_at : List ℕ → (most number : Option ℕ) → Option Command
+command_noisy_at word (Some most) (Some number) = command_noisy word most number
+command_noisy_at word _ _ = None
+
 -- the command that the words name; no other words are a form of words
 abbrev pub command_of : List (List ℕ) → Option Command
 command_of (word ∷ []) = command_named word
 command_of (word ∷ number ∷ []) = command_at word (natural_below (2 ^ 32) number)
+command_of (word ∷ most ∷ number ∷ []) =
+    command_noisy_at word (natural_below (2 ^ 32) most) (natural_below (2 ^ 32) number)
 command_of _ = None
 
 -- whether a command plays a script, and so passes the ends of its calls
@@ -41,6 +56,7 @@ abbrev pub plays : Option Command → Bool
 plays (Some command.Run) = true
 plays (Some command.Register) = true
 plays (Some (command.Trial number)) = true
+plays (Some (command.Tones noise)) = true
 plays _ = false
 
 -- whether a command takes memory
@@ -49,6 +65,7 @@ takes_memory (Some command.Run) = true
 takes_memory (Some command.Replay) = true
 takes_memory (Some command.Register) = true
 takes_memory (Some (command.Trial number)) = true
+takes_memory (Some (command.Tones noise)) = true
 takes_memory _ = false
 
 -- whether a command writes nothing before its end, but the refusal of a line

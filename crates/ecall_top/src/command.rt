@@ -2,9 +2,10 @@
 
 ghost use Rattle.std.specs.Prelude.{◌≡◌, map};
 ghost use Rattle.std.specs.String.{string_bytes};
-ghost use Rattle.ecall_top.specs.Commands.{command_named, command_numbered, command_of};
+ghost use Rattle.ecall_top.specs.Commands.{command_named, command_noisy, command_numbered, command_of};
 
 use line_input::read_u32;
+use tones_command::Noise;
 
 /// What the words ask for.
 #[derive(Clone, Copy, Debug, PartialEq, Eq)]
@@ -27,6 +28,8 @@ pub enum Command {
     Trial(u32),
     /// Write the sets of the vectors, or why they are none.
     Conform,
+    /// Play the script that the input has, with a modem on a noisy line behind its `deliver` lines, and write its trace.
+    Tones(Noise),
 }
 
 /// The command that the words name, if they name one.
@@ -36,6 +39,13 @@ pub(crate) fn read_command(words: &[String]) -> Option<Command>
     match words {
         [word] => read_word(word.as_str()),
         [word, number] => read_numbered(word.as_str(), read_u32(number.as_bytes())?),
+        [word, most, number] => {
+            read_noisy(
+                word.as_str(),
+                read_u32(most.as_bytes())?,
+                read_u32(number.as_bytes())?,
+            )
+        }
         _ => None,
     }
 }
@@ -58,6 +68,20 @@ fn read_word(word: &str) -> Option<Command>
         Some(Command::Replay)
     } else if word == "conform" {
         Some(Command::Conform)
+    } else {
+        None
+    }
+}
+
+/// The command of a word and two numbers: the most by which noise moves a sample, and that from which it is drawn.
+fn read_noisy(word: &str, most: u32, number: u32) -> Option<Command>
+    ensures { result ≡ command_noisy word.now most number }
+{
+    if word == "tones" {
+        match Noise::new(most, number) {
+            Some(noise) => Some(Command::Tones(noise)),
+            None => None,
+        }
     } else {
         None
     }

@@ -6,7 +6,7 @@ ghost use Rattle.std.specs.String.{string_bytes};
 ghost use Rattle.call_io.specs.Blocks.{held, pending, sink, sink_name, way};
 ghost use Rattle.call_io.specs.Ways.{Onward};
 ghost use Rattle.line_input.specs.Lines.{most_bytes};
-ghost use Rattle.trace_model.specs.Safety.{Agreed, Bounded, Finished, Opened};
+ghost use Rattle.trace_model.specs.Safety.{Agreed, Bounded, Finished, Opened, Safe};
 ghost use Rattle.trace_text.specs.Script.{script_of};
 ghost use Rattle.ecall_top.specs.Commands.{command_of, plays, reads, takes_memory, writes_once};
 ghost use Rattle.script_commands.specs.CutTraces.{IsSafelyCut};
@@ -15,6 +15,9 @@ ghost use Rattle.command_base.specs.Outcome.{IsCutSilently, ReadCause, ToldBefor
 ghost use Rattle.ecall_top.specs.Completeness.{Closes, EndsUnread, IsComplete, NothingFailed};
 ghost use Rattle.ecall_top.specs.Replies.{CommandOutcome, Replies, usage_line};
 ghost use Rattle.script_stage.specs.ScriptTrace.{script_tick, script_trace};
+ghost use Rattle.script_commands.specs.Run.{run_reply};
+ghost use Rattle.tones_command.specs.Modem.{NoiseFrom};
+ghost use Rattle.tones_command.specs.Tones.{toned_script, tones_reply};
 ghost use Rattle.ecall_top.specs.inner.Ends.{CommandEnds, HandsOver};
 
 #[cfg(test)]
@@ -34,10 +37,11 @@ use script_commands::{keep_register, make_script, replay_trace, run_script, try_
 use set_commands::{decode_sets, encode_sets, read_frames, write_vectors};
 use std::alloc::Global;
 use std::sync::ledger::Ledger;
+use tones_command::play_tones;
 
 /// What the program says to words that are no form of words.
 const USAGE: &[u8] =
-    b"usage: ecall run|register|decode|encode|frames|replay|trial N|make N|conform\n";
+    b"usage: ecall run|register|decode|encode|frames|replay|trial N|make N|conform|tones L N\n";
 
 /// Carries out the command that the words name, the program's own name not among them: reads `input`, writes `output`,
 /// and answers how that ended.
@@ -56,10 +60,12 @@ const USAGE: &[u8] =
 /// acknowledged, and the tick of the last entry. It takes memory as `run` does. `conform` decodes nineteen known vectors
 /// and writes for each its canonical octets, or why it is no set. Other words write the usage line. These four read
 /// nothing.
+/// `tones L N` plays a script as `run` does, where each `deliver` line hands its frame over through a modem on a line
+/// with noise of at most L in each sample, 0 to 1499, drawn from the number N on; a line whose frame is lost says nothing.
 ///
 /// What is written is handed to `output` in blocks: where one is full, before each read of `input`, and at the end.
-/// After a failed read or write nothing more is read or written. `moments` counts how often `run`, `register` and
-/// `trial` pass an end of a call.
+/// After a failed read or write nothing more is read or written. `moments` counts how often the commands that
+/// play a script pass an end of a call.
 pub fn ecall<I: Source, O: Sink, L: Ledger>(
     alloc: Global,
     words: &[String],
@@ -95,6 +101,11 @@ pub fn ecall<I: Source, O: Sink, L: Ledger>(
     ensures finished { (script : List ℕ) → Finished (script_trace (script_of script)) }
     // No end's voice is muted for longer than its limit, up to the tick at which the script ends.
     ensures bounded { (script : List ℕ) → Bounded (script_trace (script_of script)) (script_tick (script_of script)) }
+    // `tones` writes a safe trace, too; and with noise of at most 500 in each sample it replies as `run` does.
+    ensures toned { (noise : NoiseFrom) (script : List ℕ) →
+        Safe (script_trace (toned_script noise script)) (script_tick (toned_script noise script)) }
+    ensures faint { (noise : NoiseFrom) (script : List ℕ) → noise.most ≤ 500 →
+        tones_reply noise script ≡ run_reply script }
     // However `run` ended, the whole lines that it wrote are those of a safe trace, or of one and of the line that
     // refuses a line of the script.
     ensures cut { command_of (map string_bytes words.now) ≡ Some Command.Run → (before written : List ℕ) →
@@ -164,16 +175,18 @@ fn reply<I: Source, O: Sink, L: Ledger>(
     ensures writes_counted { O.faults (sink output.old) ≤ O.faults (sink output.new) }
     ensures onward { Onward (way O.held output.old) (way O.held output.new) }
 {
-    match read_command(words) {
+    let command = read_command(words);
+    match &command {
         Some(Command::Run) => run_script(alloc, input, output, moments),
         Some(Command::Register) => keep_register(alloc, input, output, moments),
         Some(Command::Decode) => decode_sets(input, output),
         Some(Command::Encode) => encode_sets(input, output),
         Some(Command::Frames) => read_frames(input, output),
         Some(Command::Replay) => replay_trace(alloc, input, output),
-        Some(Command::Make(number)) => make_script(number, output),
-        Some(Command::Trial(number)) => try_script(alloc, number, output, moments),
+        Some(Command::Make(number)) => make_script(*number, output),
+        Some(Command::Trial(number)) => try_script(alloc, *number, output, moments),
         Some(Command::Conform) => write_vectors(output),
+        Some(Command::Tones(noise)) => play_tones(alloc, noise, input, output, moments),
         None => usage(output),
     }
 }

@@ -91,20 +91,24 @@ fn expect(
 }
 
 /// Words that name no command.
-const OTHER_WORDS: [&str; 8] = [
+const OTHER_WORDS: [&str; 11] = [
     "run fast",
     "decode all",
     "conform 1",
     "make",
     "make 01",
     "trial 4294967296",
+    "tones 500",
+    "tones 1500 1",
+    "tones 01 1",
     "--help",
     "",
 ];
 
 #[test]
 fn refuses_other_words(rt: HostRuntime) -> Result<(), Fail> {
-    let usage = "usage: ecall run|register|decode|encode|frames|replay|trial N|make N|conform\n";
+    let usage =
+        "usage: ecall run|register|decode|encode|frames|replay|trial N|make N|conform|tones L N\n";
     for words in &OTHER_WORDS {
         expect(&rt, rt.alloc(), words, "", Status::Usage, usage)?;
     }
@@ -112,13 +116,14 @@ fn refuses_other_words(rt: HostRuntime) -> Result<(), Fail> {
 }
 
 /// Words that name commands, an input, and what is written.
-const COMMANDS: [(&str, &str, &str); 6] = [
+const COMMANDS: [(&str, &str, &str); 7] = [
     ("run", "set 02\ntrigger auto\n", "0 dial 1\n"),
     ("register", "set 02\ntrigger auto\n", "[]\n"),
     ("decode", "\n", ""),
     ("encode", "# none\n", ""),
     ("frames", "01\n", "init\nrest 0\n"),
     ("replay", "0 dial 1\n", "sound 1\n"),
+    ("tones 500 1", "set 02\ntrigger auto\n", "0 dial 1\n"),
 ];
 
 #[test]

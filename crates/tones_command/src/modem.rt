@@ -19,10 +19,10 @@ pub(crate) struct Modem {
 
 impl Modem {
     /// Before any draw.
-    pub(crate) fn new(noise: Noise) -> Modem
-        ensures most { result.most ≡ noise.most }
+    pub(crate) fn new(noise: &Noise) -> Modem
+        ensures most { result.most ≡ noise.now.most }
         ensures bound { result.most ≤ most_noise }
-        ensures x { result.x ≡ noise.number }
+        ensures x { result.x ≡ noise.now.number }
     {
         Modem {
             most: noise.most(),

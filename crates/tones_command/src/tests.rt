@@ -105,7 +105,7 @@ fn carry_out<L: Ledger>(
 {
     let mut moments = Steps::<L>::start(blank);
     let mut block = Block::over(output);
-    let status = play_tones(alloc, noise, input, &mut block, &mut moments);
+    let status = play_tones(alloc, &noise, input, &mut block, &mut moments);
     match status {
         Status::ReadFault | Status::WriteFault => status,
         _ => match block.empty() {

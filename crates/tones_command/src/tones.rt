@@ -31,7 +31,6 @@ use link_frames::Steps;
 use script_stage::{Halt, Stage};
 use std::alloc::Global;
 use std::sync::ledger::Ledger;
-use tone_link::own;
 use trace_text::{ScriptLine, read_script};
 
 /// Plays the script whose lines it takes, but for the lines whose frames are lost.
@@ -84,15 +83,15 @@ impl<'a, L: Ledger> LineCommand for Toning<'a, L> {
 /// that frame over a line with this noise; where the frame is lost, the line does nothing.
 pub fn play_tones<I: Source, O: Sink, L: Ledger>(
     alloc: Global,
-    noise: Noise,
+    noise: &Noise,
     input: &mut I,
     output: &mut Block<'_, O>,
     moments: &mut Steps<L>,
 ) -> Status
-    ensures outcome { Outcome (λ bytes r. r ≡ tones_reply noise bytes) (λ bytes. tones_passes noise bytes) true
+    ensures outcome { Outcome (λ bytes r. r ≡ tones_reply noise.now bytes) (λ bytes. tones_passes noise.now bytes) true
         (streams_of I.left (held O.held) input.old output.old moments.old)
         (streams_of I.left (held O.held) input.new output.new moments.new) result }
-    ensures told { ToldBefore (λ bytes r. r ≡ tones_reply noise bytes) ClosesSilently (I.left input.old)
+    ensures told { ToldBefore (λ bytes r. r ≡ tones_reply noise.now bytes) ClosesSilently (I.left input.old)
         (I.left input.new) (held O.held output.old) (held O.held output.new) result }
     ensures handed { result ≡ Status.ReadFault → pending output.new ≡ [] }
     ensures unread { ReadCause result (I.faults input.old) (I.faults input.new) }
@@ -199,7 +198,7 @@ fn is_lost(modem: &mut Modem, frames: &SentFrames, says: &ScriptLine) -> bool
         return false;
     };
     match frames.carried_for(event) {
-        Some(frame) => modem.loses(&own(frame.lend())),
+        Some(frame) => modem.loses(&frame.lend().own()),
         None => false,
     }
 }

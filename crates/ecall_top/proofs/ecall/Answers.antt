@@ -11,6 +11,8 @@ use Rattle.ecall_top.specs.inner.Ends.{CommandEnds}
 use Rattle.ecall_top.specs.declared.command.Command.TheVariants as command
 use Rattle.ecall_top.proofs.WholeAnswers.{complete_answer}
 use Rattle.script_commands.proofs.SafelyCut.{run_cut}
+use Rattle.tones_command.specs.Tones.{toned_script}
+use Rattle.tones_command.proofs.FaintScripts.{faint_reply}
 use Rattle.ecall_top.proofs.ecall.Goals as goal
 
 pub returns-clause-agreed : goal.returns-clause-agreed
@@ -24,6 +26,12 @@ returns-clause-finished g c = λ script. script_finished (script_of script)
 
 pub returns-clause-bounded : goal.returns-clause-bounded
 returns-clause-bounded g c = λ script. (script_safe (script_of script)).bounded
+
+pub returns-clause-toned : goal.returns-clause-toned
+returns-clause-toned g c = λ noise script. script_safe (toned_script noise script)
+
+pub returns-clause-faint : goal.returns-clause-faint
+returns-clause-faint g c = faint_reply
 
 pub returns-clause-outcome : goal.returns-clause-outcome
 returns-clause-outcome g c =

@@ -6,7 +6,7 @@ use Rattle.call_io.specs.Blocks.{held, pending}
 use Rattle.command_base.specs.declared.status.Status.{Status}
 use Rattle.command_base.specs.declared.status.Status.TheVariants as status
 use Rattle.command_base.specs.Outcome.{IsCutSilently}
-use Rattle.std.proofs.Common.{subst}
+use Rattle.std.proofs.Common.{rules, subst}
 use Rattle.ecall_top.specs.Commands.{command_of}
 use Rattle.ecall_top.specs.declared.command.Command.TheVariants as command
 use Rattle.script_commands.specs.Make.{made_script}
@@ -16,7 +16,7 @@ use Rattle.ecall_top.proofs.reply.Goals as goal
 pub returns-in-Some-Run-clause-ends : goal.returns-in-Some-Run-clause-ends
 returns-in-Some-Run-clause-ends g c =
     named (command_of (map string_bytes c.args.words.now)) (Some command.Run) _ _ c.run_script.result
-    (sym c.read_command.ensures ∙ (c.in-Some-Run.is ∙ ap Some c.in-Some-Run.field-0-is))
+    (search rules)
     (record {
       outcome = c.run_script.ensures.outcome;
       told = c.run_script.ensures.told;
@@ -27,7 +27,7 @@ returns-in-Some-Run-clause-ends g c =
 pub returns-in-Some-Register-clause-ends : goal.returns-in-Some-Register-clause-ends
 returns-in-Some-Register-clause-ends g c =
     named (command_of (map string_bytes c.args.words.now)) (Some command.Register) _ _ c.keep_register.result
-    (sym c.read_command.ensures ∙ (c.in-Some-Register.is ∙ ap Some c.in-Some-Register.field-0-is))
+    (search rules)
     (record {
       outcome = c.keep_register.ensures.outcome;
       told = c.keep_register.ensures.told;
@@ -35,10 +35,21 @@ returns-in-Some-Register-clause-ends g c =
       unread = tt;
     })
 
+pub returns-in-Some-Tones-clause-ends : goal.returns-in-Some-Tones-clause-ends
+returns-in-Some-Tones-clause-ends g c =
+    named (command_of (map string_bytes c.args.words.now)) (Some (command.Tones c.in-Some-Tones.noise)) _ _ c.play_tones.result
+    (search rules)
+    (record {
+      outcome = c.play_tones.ensures.outcome;
+      told = c.play_tones.ensures.told;
+      silent = λ once cut. absurd (false≢true once);
+      unread = tt;
+    })
+
 pub returns-in-Some-Decode-clause-ends : goal.returns-in-Some-Decode-clause-ends
 returns-in-Some-Decode-clause-ends g c =
     named (command_of (map string_bytes c.args.words.now)) (Some command.Decode) _ _ c.decode_sets.result
-    (sym c.read_command.ensures ∙ (c.in-Some-Decode.is ∙ ap Some c.in-Some-Decode.field-0-is))
+    (search rules)
     (record {
       outcome = c.decode_sets.ensures.outcome c.args.moments.now;
       told = c.decode_sets.ensures.told;
@@ -49,7 +60,7 @@ returns-in-Some-Decode-clause-ends g c =
 pub returns-in-Some-Encode-clause-ends : goal.returns-in-Some-Encode-clause-ends
 returns-in-Some-Encode-clause-ends g c =
     named (command_of (map string_bytes c.args.words.now)) (Some command.Encode) _ _ c.encode_sets.result
-    (sym c.read_command.ensures ∙ (c.in-Some-Encode.is ∙ ap Some c.in-Some-Encode.field-0-is))
+    (search rules)
     (record {
       outcome = c.encode_sets.ensures.outcome c.args.moments.now;
       told = c.encode_sets.ensures.told;
@@ -60,7 +71,7 @@ returns-in-Some-Encode-clause-ends g c =
 pub returns-in-Some-Frames-clause-ends : goal.returns-in-Some-Frames-clause-ends
 returns-in-Some-Frames-clause-ends g c =
     named (command_of (map string_bytes c.args.words.now)) (Some command.Frames) _ _ c.read_frames.result
-    (sym c.read_command.ensures ∙ (c.in-Some-Frames.is ∙ ap Some c.in-Some-Frames.field-0-is))
+    (search rules)
     (record {
       outcome = c.read_frames.ensures.outcome c.args.moments.now;
       told = c.read_frames.ensures.told;
@@ -71,7 +82,7 @@ returns-in-Some-Frames-clause-ends g c =
 pub returns-in-Some-Replay-clause-ends : goal.returns-in-Some-Replay-clause-ends
 returns-in-Some-Replay-clause-ends g c =
     named (command_of (map string_bytes c.args.words.now)) (Some command.Replay) _ _ c.replay_trace.result
-    (sym c.read_command.ensures ∙ (c.in-Some-Replay.is ∙ ap Some c.in-Some-Replay.field-0-is))
+    (search rules)
     (record {
       outcome = c.replay_trace.ensures.outcome c.args.moments.now;
       told = c.replay_trace.ensures.told;
@@ -82,7 +93,7 @@ returns-in-Some-Replay-clause-ends g c =
 pub returns-in-Some-Make-clause-ends : goal.returns-in-Some-Make-clause-ends
 returns-in-Some-Make-clause-ends g c =
     named (command_of (map string_bytes c.args.words.now)) (Some (command.Make c.in-Some-Make.number)) _ _ c.make_script.result
-    (sym c.read_command.ensures ∙ (c.in-Some-Make.is ∙ ap Some c.in-Some-Make.field-0-is))
+    (search rules)
     (written (Some (command.Make c.in-Some-Make.number)) (g.I.Source.left c.args.input.now)
     (held g.O.Sink.held c.args.output.now) (held g.O.Sink.held c.make_script.new.output) c.args.moments.now
     (made_script c.in-Some-Make.number) c.make_script.result (λ input. refl) refl refl (λ ends. ends)
@@ -91,7 +102,7 @@ returns-in-Some-Make-clause-ends g c =
 pub returns-in-Some-Trial-clause-ends : goal.returns-in-Some-Trial-clause-ends
 returns-in-Some-Trial-clause-ends g c =
     named (command_of (map string_bytes c.args.words.now)) (Some (command.Trial c.in-Some-Trial.number)) _ _ c.try_script.result
-    (sym c.read_command.ensures ∙ (c.in-Some-Trial.is ∙ ap Some c.in-Some-Trial.field-0-is))
+    (search rules)
     (tried c.in-Some-Trial.number (g.I.Source.left c.args.input.now) (held g.O.Sink.held c.args.output.now)
     (held g.O.Sink.held c.try_script.new.output) c.args.moments.now c.try_script.new.moments c.try_script.result
     c.try_script.ensures.passes c.try_script.ensures.ends)
@@ -99,7 +110,7 @@ returns-in-Some-Trial-clause-ends g c =
 pub returns-in-Some-Conform-clause-ends : goal.returns-in-Some-Conform-clause-ends
 returns-in-Some-Conform-clause-ends g c =
     named (command_of (map string_bytes c.args.words.now)) (Some command.Conform) _ _ c.write_vectors.result
-    (sym c.read_command.ensures ∙ (c.in-Some-Conform.is ∙ ap Some c.in-Some-Conform.field-0-is))
+    (search rules)
     (let ends = c.write_vectors.ensures.ends in
     written (Some command.Conform) (g.I.Source.left c.args.input.now) (held g.O.Sink.held c.args.output.now)
     (held g.O.Sink.held c.write_vectors.new.output) c.args.moments.now ends.0 c.write_vectors.result
@@ -107,7 +118,7 @@ returns-in-Some-Conform-clause-ends g c =
 
 pub returns-in-None-clause-ends : goal.returns-in-None-clause-ends
 returns-in-None-clause-ends g c =
-    named (command_of (map string_bytes c.args.words.now)) None _ _ c.usage.result (sym c.in-None.ensures)
+    named (command_of (map string_bytes c.args.words.now)) None _ _ c.usage.result (sym c.read_command-command.ensures ∙ c.in-None.is)
     (used (g.I.Source.left c.args.input.now) (held g.O.Sink.held c.args.output.now)
     (held g.O.Sink.held c.usage.new.output) c.args.moments.now c.usage.result c.usage.ensures.ends)
 
