@@ -66,6 +66,8 @@ def main(folder):
     with tempfile.TemporaryDirectory() as to:
         try:
             need("gcc", "size")
+            if not os.path.exists(os.path.join(folder, "libecall.a")):
+                raise Skipped(f"{folder} has no libecall.a (`make c-library`)")
             measure = build(folder, os.path.join(HERE, "measure.c"), os.path.join(to, "measure"))
             print("\nThe C library")
             sizes(folder, to)
