@@ -1,0 +1,10 @@
+pub mod JointSafe
+pub mod LiveRuns
+pub mod Moved
+pub mod Owed
+pub mod OwedRuns
+pub mod PointRuns
+pub mod Sent
+pub mod Ticks
+pub mod TurnKept
+pub mod VehicleRuns
