@@ -1,0 +1,13 @@
+pub mod EndSteps
+pub mod GatherLemmas
+pub mod JointSafe
+pub mod LiveRuns
+pub mod Moved
+pub mod Owed
+pub mod OwedRuns
+pub mod PointRuns
+pub mod PointSteps
+pub mod Sent
+pub mod Ticks
+pub mod TurnKept
+pub mod VehicleRuns

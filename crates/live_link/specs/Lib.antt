@@ -1,0 +1,10 @@
+pub mod EndFault
+pub mod Joint
+pub mod LiveCodes
+pub mod LiveWords
+pub mod PointLive
+pub mod Runs
+pub mod Scripts
+pub mod Turns
+pub mod VehicleLive
+pub mod inner

@@ -1,0 +1,2 @@
+pub mod PointEnd
+pub mod VehicleEnd

@@ -1,0 +1,15 @@
+//! Both ends of a call as two processes over a link, and the law that joins their traces.
+#![tactic(auto)]
+
+mod answer;
+mod fault;
+mod gathering;
+mod laws;
+mod own_lines;
+mod point_end;
+mod vehicle_end;
+mod words;
+
+pub use answer::{Link, Live, LiveStatus};
+pub use laws::joint_is_safe;
+pub use words::live_words;
