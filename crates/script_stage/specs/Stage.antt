@@ -9,6 +9,7 @@ use Rattle.trace_text.specs.Drafts.{DraftOf}
 use Rattle.trace_text.specs.Facts.{facts_in, is_one_too_many}
 use Rattle.trace_text.specs.declared.draft.Draft.{Draft}
 use Rattle.trace_text.specs.declared.fact_line.FactLine.{FactLine}
+use Rattle.line_input.specs.declared.reason.Reason.{Reason}
 use Rattle.line_input.specs.declared.reason.Reason.TheVariants as reason
 use Rattle.trace_text.specs.Script.{Said, placed, said_after}
 use Rattle.channel_sim.specs.declared.world.World.{World}
@@ -70,6 +71,19 @@ Obeys Grew Partly Counted old new said events says (Err (halt.Refused why)) =
     (placed said says ≡ Err why) × Grew [] × Counted 0
 Obeys Grew Partly Counted old new said events says (Err (halt.Sim fault)) =
     (placed said says ≡ Ok (Some says)) × Partly (entries_of said events says) × Counted (passes_by said events says)
+
+-- The stage has a world, and stands for the same events as before, behind an event line.
+pub record HasWorld (old new : Stage) (said : Said) (events : List Event) : Type 0 where
+  pub known : Facts
+  pub facts : facts_in said.facts ≡ Some known
+  pub stands : StageStandsFor new (record said { eventful = true }) events
+  pub calls : calls_in new ≡ calls_in old
+  pub ticks : ticks_in new ≡ ticks_in old
+
+-- what the answer to an event line says that has nothing happen in the world
+abbrev pub SetsOut : (old new : Stage) → Said → List Event → Result (Unit {0}) Reason → Type 0
+SetsOut old new said events (Ok done) = HasWorld old new said events
+SetsOut old new said events (Err why) = (why ≡ reason.Missing) × (facts_in said.facts ≡ None)
 
 -- what the answer to a fact line says, in front of the first event line
 abbrev pub Learns : {A : Type 0} → (old new : Draft) → FactLine → Result A Halt → Type 0

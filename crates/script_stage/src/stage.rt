@@ -7,7 +7,7 @@ ghost use Rattle.channel_sim.specs.Lines as lines;
 ghost use Rattle.channel_sim.specs.World as model;
 ghost use Rattle.channel_sim.specs.WorldStands.{WorldStandsFor, calls_drawn, ticks_reached};
 ghost use Rattle.trace_text.specs.declared.script.ScriptLine.TheVariants as line;
-ghost use Rattle.script_stage.specs.Stage.{HaltWriteCause, Learns, Obeys, PlaysEvent};
+ghost use Rattle.script_stage.specs.Stage.{HaltWriteCause, Learns, Obeys, PlaysEvent, SetsOut};
 ghost use Rattle.script_stage.specs.Stage.{StageStandsFor, calls_in, ticks_in};
 
 use channel_sim::{SimFault, World};
@@ -65,6 +65,41 @@ impl Stage {
             draft: Draft::new(),
             world: None,
         }
+    }
+
+    /// The tick that its world has reached, in ticks of 100 ms; 0 where there is no world yet.
+    pub fn tick(&self) -> u64
+        ensures { result ≡ ticks_in self.now }
+    {
+        match &self.world {
+            Some(world) => world.tick(),
+            None => 0,
+        }
+    }
+
+    /// Has the first world, which knows the facts so far, where there is no world yet. Nothing happens in it. It is
+    /// refused exactly where the facts are not those that a vehicle needs.
+    pub fn set_out(&mut self, alloc: Global) -> Result<(), Reason>
+        ensures { (said : Said) (events : List Event) → StageStandsFor self.old said events →
+            SetsOut self.old self.new said events result }
+    {
+        match self.world {
+            Some(_) => Ok(()),
+            None => self.set_out_first(alloc),
+        }
+    }
+
+    /// The same where there is no world yet.
+    fn set_out_first(&mut self, alloc: Global) -> Result<(), Reason>
+        requires first { self.old.world ≡ None }
+        ensures { (said : Said) (events : List Event) → StageStandsFor self.old said events →
+            SetsOut self.old self.new said events result }
+    {
+        let Some(facts) = self.draft.facts() else {
+            return Err(Reason::Missing);
+        };
+        self.world = Some(World::new(alloc, facts));
+        Ok(())
     }
 
     /// Plays one line: a fact in front of the first event, or an event. Where a fault of the simulation is answered,

@@ -1,0 +1,2 @@
+pub mod ItemLine
+pub mod RelayLines
