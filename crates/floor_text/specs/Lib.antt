@@ -1,0 +1,5 @@
+pub mod VehicleFacts
+pub mod VehicleLines
+pub mod VehicleNumbers
+pub mod VehicleText
+pub mod inner
