@@ -1,0 +1,13 @@
+mod Alone
+mod Apart
+mod DeedLemmas
+mod EventApart
+mod FloorRuns
+mod FloorSteps
+mod Places
+mod PlayedFloor
+mod PointRenumbered
+mod StillLemmas
+mod UnitApart
+mod VehicleRenumbered
+mod WorldRenumbered

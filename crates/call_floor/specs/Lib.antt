@@ -1,0 +1,10 @@
+pub mod Floor
+pub mod FloorEvents
+pub mod FloorFault
+pub mod FloorKept
+pub mod FloorLines
+pub mod inner
+pub mod Numbers
+pub mod Parts
+pub mod Tagged
+pub mod VehicleNumbers
