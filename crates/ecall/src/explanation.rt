@@ -20,14 +20,17 @@ impl fmt::Display for Explanation<'_> {
         match self.status {
             Status::Done => write!(f, "all is done"),
             Status::Usage => write_usage(f, self.word),
-            Status::Refused(Refused::Line(bad)) => write_line(f, bad),
+            Status::Refused(Refused::Line(bad)) => write_line(f, bad, self.word == Some("replay")),
             Status::Refused(Refused::Set { line, refusal }) => write_set(f, line, refusal),
             Status::Refused(Refused::Frame { line, fault }) => write_frame(f, line, fault),
             Status::Broken { line, rule } => write_broken(f, line, rule),
             Status::ReadFault => write!(f, "reading failed; {BEGINNING}"),
             Status::WriteFault => write!(f, "writing failed; {BEGINNING}"),
             Status::Memory => write!(f, "no memory was left; {BEGINNING}"),
-            Status::TooLong => write!(f, "the input has more than 16,777,216 bytes; {BEGINNING}"),
+            Status::TooLong => write!(
+                f,
+                "the input has more than 16,777,216 bytes; {BEGINNING}; `split -l 50000` cuts it into parts"
+            ),
         }
     }
 }
@@ -35,29 +38,40 @@ impl fmt::Display for Explanation<'_> {
 /// What holds of all that was written where the answer was cut short.
 const BEGINNING: &str = "what was written is the beginning of an answer";
 
-/// What the commands do.
-const COMMANDS: &str =
-    "`ecall run` plays a script, `ecall register` writes the register of its calls, `ecall decode` describes sets of \
-    data, `ecall encode` makes them, `ecall frames` reads a stream of frames and `ecall replay` audits a trace, from \
-    standard input; `ecall make N` writes the script of a number, `ecall trial N` counts what it comes to, and \
-    `ecall conform` reads known vectors";
-
-/// Whether a command of this name wants a number.
-fn wants_number(word: &str) -> bool {
-    matches!(word, "trial" | "make")
-}
+/// What the commands do, one a line.
+const COMMANDS: &str = "\
+  ecall run < SCRIPT         plays a script, and writes its trace\n  \
+  ecall register < SCRIPT    plays a script, and writes the register of its calls\n  \
+  ecall replay < TRACE       says whether a trace is safe, and which line breaks which rule\n  \
+  ecall decode < SETS        describes sets of data, one a line in hexadecimal\n  \
+  ecall encode < FACTS       makes the sets that `write` lines ask for\n  \
+  ecall frames < PIECES      writes the frames of a stream, in pieces of hexadecimal\n  \
+  ecall tones L N < SCRIPT   plays a script over a noisy modem\n  \
+  ecall make N               writes the script of a number\n  \
+  ecall trial N              counts what that script comes to\n  \
+  ecall conform              writes the answers to known vectors";
 
 /// Why the words are no form of words.
 fn write_usage<W: fmt::Write>(f: &mut fmt::Formatter<W>, word: Option<&str>) -> fmt::Result {
     match word {
-        None => write!(f, "no command was given: {COMMANDS}"),
-        Some(word) if wants_number(word) => {
-            write!(
+        None => write!(f, "no command was given:\n  {COMMANDS}"),
+        Some(word) => match word {
+            "make" | "trial" => write!(
                 f,
                 "`{word}` wants one number, 0 to 4294967295 without leading zeros, as in `ecall {word} 0`"
-            )
-        }
-        Some(_) => write!(f, "these words are no command: {COMMANDS}"),
+            ),
+            "tones" => write!(
+                f,
+                "`tones` wants two numbers, 0 to 1499 and 0 to 4294967295 without leading zeros, as in \
+                `ecall tones 500 1 < SCRIPT`"
+            ),
+            "run" | "register" | "replay" | "decode" | "encode" | "frames" => write!(
+                f,
+                "`{word}` takes no further words: it reads standard input, as in `ecall {word} < FILE`"
+            ),
+            "conform" => write!(f, "`conform` takes no further words"),
+            _ => write!(f, "`{word}` is no command:\n  {COMMANDS}"),
+        },
     }
 }
 
@@ -79,11 +93,27 @@ fn line_fault(reason: LineReason) -> &'static str {
     }
 }
 
+/// What a line of a trace has, where that says more than of any line.
+fn entry_fault(reason: LineReason) -> &'static str {
+    match reason {
+        LineReason::Word => {
+            "a word that is none of those that may stand there, or a summary that isn't that of its octets"
+        }
+        LineReason::Number => {
+            "a number that isn't decimal, begins with 0, or is out of its range, or a tick below that of the line before"
+        }
+        LineReason::Hex => "octets that aren't 280 hexadecimal digits, in lower case",
+        _ => line_fault(reason),
+    }
+}
+
 /// What helps against that, behind the reason's number.
 fn line_help(reason: LineReason) -> &'static str {
     match reason {
         LineReason::Count => "; one space stands between two words",
-        LineReason::Text => "; a tab, a carriage return and a byte order mark are such bytes",
+        LineReason::Text => {
+            "; a tab, a carriage return (`tr -d '\\r'` takes it out) and a byte order mark are such bytes"
+        }
         LineReason::Missing =>
             "; put `vin`, `kind` and `time`, or in a script a `set` line, in front",
         LineReason::Late => "; put it in front of the first event",
@@ -95,9 +125,18 @@ fn line_help(reason: LineReason) -> &'static str {
     }
 }
 
-fn write_line<W: fmt::Write>(f: &mut fmt::Formatter<W>, bad: BadLine) -> fmt::Result {
+/// Why a line is refused, of a trace or of another input.
+fn write_line<W: fmt::Write>(
+    f: &mut fmt::Formatter<W>,
+    bad: BadLine,
+    of_trace: bool,
+) -> fmt::Result {
     let line = bad.line;
-    let fault = line_fault(bad.reason);
+    let fault = if of_trace {
+        entry_fault(bad.reason)
+    } else {
+        line_fault(bad.reason)
+    };
     let code = bad.reason.code();
     let help = line_help(bad.reason);
     write!(f, "line {line}: {fault} (reason {code}){help}")
@@ -106,7 +145,8 @@ fn write_line<W: fmt::Write>(f: &mut fmt::Formatter<W>, bad: BadLine) -> fmt::Re
 /// What a trace has where it breaks this rule.
 fn rule_break(rule: Rule) -> &'static str {
     match rule {
-        Rule::Agreed => "a set is acknowledged that was not shown",
+        Rule::Agreed =>
+            "a set is acknowledged that was not shown before, octet for octet, for this call and request",
         Rule::Opened => {
             "a muted voice isn't opened, right behind the end of a wait for data or a fault"
         }

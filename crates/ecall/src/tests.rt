@@ -33,7 +33,7 @@ fn explains_a_line_by_itself(rt: HostRuntime) -> Result<(), Fail> {
     let text = "more than 512 bytes (reason 4)";
     expect_line(alloc, &rt, LineReason::LineLong, text)?;
     let text = "a byte that is neither a printable character nor a space (reason 5); \
-        a tab, a carriage return and a byte order mark are such bytes";
+        a tab, a carriage return (`tr -d '\\r'` takes it out) and a byte order mark are such bytes";
     expect_line(alloc, &rt, LineReason::Text, text)?;
     let text = "no even number of hexadecimal digits, too many octets, or no object identifier \
         (reason 6)";
@@ -193,7 +193,8 @@ fn explains_a_broken_rule(rt: HostRuntime) -> Result<(), Fail> {
     let table = [
         (
             Rule::Agreed,
-            "line 13: a set is acknowledged that was not shown (rule 1)",
+            "line 13: a set is acknowledged that was not shown before, octet for octet, for this call and \
+            request (rule 1)",
         ),
         (
             Rule::Opened,
@@ -222,7 +223,11 @@ fn explains_a_broken_rule(rt: HostRuntime) -> Result<(), Fail> {
 #[test]
 fn explains_words_and_faults(rt: HostRuntime) -> Result<(), Fail> {
     let table = [
-        (Status::Usage, None, "no command was given: "),
+        (
+            Status::Usage,
+            None,
+            "no command was given:\n  ecall run < SCRIPT ",
+        ),
         (
             Status::Usage,
             Some("make"),
@@ -231,7 +236,25 @@ fn explains_words_and_faults(rt: HostRuntime) -> Result<(), Fail> {
         (
             Status::Usage,
             Some("--help"),
-            "these words are no command: ",
+            "`--help` is no command:\n  ecall run < SCRIPT ",
+        ),
+        (
+            Status::Usage,
+            Some("decode"),
+            "`decode` takes no further words: it reads standard input, as in `ecall decode < FILE`",
+        ),
+        (
+            Status::Usage,
+            Some("tones"),
+            "`tones` wants two numbers, 0 to 1499 and 0 to 4294967295 without leading zeros",
+        ),
+        (
+            Status::Refused(Refused::Line(BadLine {
+                line: 2,
+                reason: LineReason::Number,
+            })),
+            Some("replay"),
+            "line 2: a number that isn't decimal, begins with 0, or is out of its range, or a tick below",
         ),
         (
             Status::ReadFault,
