@@ -1,7 +1,7 @@
 // The colours of the picture, and its style sheet. Colours stand in it as they are, for programs that know no variables.
 
 export const LIGHT = {
-  paper: '#ffffff', panel: '#f8f9fb', edge: '#e1e5ea', rule: '#e3e7ec', ink: '#1d242c', soft: '#5c6873', faint: '#6f7a85',
+  paper: '#ffffff', panel: '#f8f9fb', edge: '#e1e5ea', rule: '#e3e7ec', ink: '#1d242c', soft: '#5c6873', faint: '#626d78',
   vehicle: '#1d6fb8', vehicleText: '#134a7c', point: '#7a4fb5', pointText: '#553384', open: '#2f9e63', openText: '#1f7a49',
   muted: '#b84545', mutedPaper: '#f3d4d4', mutedText: '#a03838', timer: '#b26a00', timerText: '#8a5200', bad: '#c22222',
   badText: '#b01e1e', badPaper: '#fbdede', mark: '#ffffff', chosen: '#fff2c4',

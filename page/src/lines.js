@@ -3,7 +3,8 @@
 import { byId, make } from './dom.js';
 import { readVerdict } from './verdict.js';
 
-const MOST = 25_000;
+/** How many lines are shown, and how many of them the browser lays out at once. */
+const MOST = 25_000, PART = 250, ROW = 18;
 const OCTETS = /([0-9a-f]{24})[0-9a-f]{232}([0-9a-f]{24})/;
 const KEYS = { ArrowDown: 1, ArrowUp: -1, PageDown: 20, PageUp: -20 };
 
@@ -12,8 +13,21 @@ function row(text, number, shortened) {
   const made = make('div', { id: `line-${number}`, textContent: shortened ? text.replace(OCTETS, '$1…$2') : text, title: shortened ? text : '' });
   made.setAttribute('role', 'option');
   made.setAttribute('aria-selected', 'false');
-  if (['broken', 'refused'].includes(readVerdict(text)?.kind)) made.className = 'bad';
+  if (/^(broken|refused) /.test(text) && readVerdict(text)) made.className = 'bad';
   return made;
+}
+
+/** The rows in parts; those that are out of sight aren't laid out. */
+function partsOf(rows) {
+  const parts = [];
+  for (let at = 0; at < rows.length; at += PART) {
+    const few = rows.slice(at, at + PART);
+    const part = make('div', { className: 'part' }, ...few);
+    part.setAttribute('role', 'presentation');
+    part.style.containIntrinsicHeight = `${few.length * ROW}px`;
+    parts.push(part);
+  }
+  return parts;
 }
 
 export class Lines {
@@ -33,7 +47,7 @@ export class Lines {
     this.current = null;
     this.count = Math.min(lines.length, MOST);
     this.list.removeAttribute('aria-activedescendant');
-    this.list.replaceChildren(...lines.slice(0, MOST).map((line, at) => row(line, at + 1, shortened)));
+    this.list.replaceChildren(...partsOf(lines.slice(0, MOST).map((line, at) => row(line, at + 1, shortened))));
     if (lines.length > MOST) this.list.append(`${lines.length - MOST} lines more: save the text to see them`);
     if (bad !== null) byId(`line-${bad}`)?.classList.add('bad');
   }

@@ -83,7 +83,7 @@ async function checkLinks(browser) {
 /** Each control has a name that a screen reader says. */
 async function checkNames(browser) {
   const { nodes } = await browser.send('Accessibility.getFullAXTree');
-  const roles = new Set(['button', 'combobox', 'textbox', 'spinbutton', 'listbox', 'link', 'image', 'group']);
+  const roles = new Set(['button', 'combobox', 'textbox', 'spinbutton', 'listbox', 'link', 'image', 'application']);
   const nameless = nodes.filter(node => !node.ignored && roles.has(node.role?.value) && !node.name?.value).map(node => node.role.value);
   expect('controls without a name', nameless.join(' '), '');
 }

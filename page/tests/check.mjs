@@ -2,7 +2,8 @@
 // entries in the trace; a window of a long trace is what the whole picture has there; the sentences are the native ones.
 
 import { spawnSync } from 'node:child_process';
-import { existsSync, readFileSync, readdirSync } from 'node:fs';
+import { existsSync, mkdtempSync, readFileSync, readdirSync, rmSync, symlinkSync } from 'node:fs';
+import { tmpdir } from 'node:os';
 import { fileURLToPath } from 'node:url';
 import { chartOf, drawWhole, drawWindow } from '../src/chart.js';
 import { layOut } from '../src/layout.js';
@@ -82,6 +83,20 @@ function checkProgram() {
   expect('chart.mjs: no verdict', draw(['fine'], trace).status, 1);
 }
 
+/** The lines of README that draw at the command line run as they stand, and write pictures. */
+function checkReadme() {
+  const folder = mkdtempSync(`${tmpdir()}/ecall-chart-`);
+  ['page', 'examples'].forEach(name => symlinkSync(ROOT + name, `${folder}/${name}`));
+  const lines = readFileSync(`${ROOT}README.md`, 'utf8').match(/(?<=^ {4}\$ )node page\/chart\.mjs .*$/gm) ?? [];
+  expect('README: lines that draw', lines.length, 2);
+  for (const line of lines) {
+    expect(`README: ${line}`, spawnSync('sh', ['-c', line], { cwd: folder }).status, 0);
+    const picture = readFileSync(`${folder}/${line.split('> ').at(-1)}`, 'utf8');
+    expect(`README: picture of ${line}`, count(picture, 'data-item=') > 10, true);
+  }
+  rmSync(folder, { recursive: true });
+}
+
 /** What stands in a trace is text in the picture, and never an element of it. */
 function checkEscapes() {
   const picture = chartOf('0 up vehicle 1\n1 down vehicle 1 <script>&"\n');
@@ -98,6 +113,7 @@ for (const file of readdirSync(EXAMPLES).sort()) {
 }
 checkWindows();
 checkProgram();
+checkReadme();
 checkEscapes();
 faults.forEach(fault => process.stdout.write(`check: ${fault.slice(0, 300)}\n`));
 process.stdout.write(`check: ${tried} tried in Node, ${faults.length} failed\n`);
