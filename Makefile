@@ -1,4 +1,4 @@
-.PHONY: demo build install examples checks test bench c-library c-examples
+.PHONY: demo build install examples checks test bench c-library c-examples page page-check
 
 PROGRAM = crates/ecall/out/ecall
 PREFIX = /usr/local
@@ -36,3 +36,9 @@ c-library:
 c-examples:
 	tools/c-library $(shell uname -m)-unknown-linux-gnu
 	c/check c/out/$(shell uname -m)-unknown-linux-gnu
+
+page:
+	tools/page
+
+page-check: build
+	tools/page --check $(PROGRAM)

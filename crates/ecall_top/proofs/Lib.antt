@@ -1,5 +1,5 @@
 mod ReplyLaws
 mod StatusLaws
-mod Unread
-mod Handed
+pub mod Unread
+pub mod Handed
 mod WholeAnswers
