@@ -12,7 +12,7 @@ const LINE_REASONS = {
   9: 'a fifth candidate of additional data',
 };
 const RULES = {
-  1: 'a set is acknowledged that was not shown',
+  1: 'a set is acknowledged that was not shown before, octet for octet, for this call and request',
   2: "a muted voice isn't opened, right behind the end of a wait for data or a fault",
   3: 'a voice is muted for more than 320 ticks at the vehicle or 275 at the point, or within 20 ticks of its opening',
 };
