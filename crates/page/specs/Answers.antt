@@ -1,5 +1,5 @@
--- What a page is told: the text and the status of a command whose input and answer lie in memory. This project's profile.
--- Cited by the exports.
+-- What a page is told: the text and the status of a command whose input and answer lie in memory. This project's
+-- profile. Cited by the exports.
 use Rattle.std.specs.Prelude.{◌≡◌, ℕ, List, [], Option, Some}
 use Rattle.command_base.specs.Status.{status_code}
 use Rattle.command_base.specs.declared.status.Status.{Status}
