@@ -70,9 +70,11 @@ fn reply_in_place<I: Source, O: Sink>(
         Command::Frames => read_frames(input, output),
         Command::Make(number) => make_script(number, output),
         Command::Conform => write_vectors(output),
-        Command::Run | Command::Register | Command::Replay | Command::Trial(_) | Command::Tones(_) => {
-            unreachable!()
-        }
+        Command::Run
+        | Command::Register
+        | Command::Replay
+        | Command::Trial(_)
+        | Command::Tones(_) => { unreachable!() }
     }
 }
 
