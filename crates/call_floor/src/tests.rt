@@ -29,8 +29,14 @@ fn vehicles_are_numbered_up_to_64(rt: HostRuntime) {
 #[test]
 fn a_number_stands_before_lines_of_a_vehicle(rt: HostRuntime) {
     assert_eq!(rt; line(2, Event::Cancel), by(&rt, 2, VehicleLine::Cancel));
-    assert_eq!(rt; line(64, Event::Net(true)), by(&rt, 64, VehicleLine::Net(true)));
-    assert_eq!(rt; line(1, Event::Reset(End::Vehicle)), by(&rt, 1, VehicleLine::Reset));
+    assert_eq!(rt;
+        line(64, Event::Net(true)),
+        by(&rt, 64, VehicleLine::Net(true))
+    );
+    assert_eq!(rt;
+        line(1, Event::Reset(End::Vehicle)),
+        by(&rt, 1, VehicleLine::Reset)
+    );
     assert_eq!(rt; line(0, Event::Cancel), None);
     assert_eq!(rt; line(0, Event::Reset(End::Vehicle)), None);
 }
@@ -38,8 +44,14 @@ fn a_number_stands_before_lines_of_a_vehicle(rt: HostRuntime) {
 #[test]
 fn no_number_stands_before_other_lines(rt: HostRuntime) {
     let call = Positive::new(7).expect(&rt, "at least 1");
-    assert_eq!(rt; line(0, Event::Hangup(call)), in_call(call, CallLine::Hangup));
-    assert_eq!(rt; line(0, Event::DropBoth(call)), in_call(call, CallLine::DropBoth));
+    assert_eq!(rt;
+        line(0, Event::Hangup(call)),
+        in_call(call, CallLine::Hangup)
+    );
+    assert_eq!(rt;
+        line(0, Event::DropBoth(call)),
+        in_call(call, CallLine::DropBoth)
+    );
     assert_eq!(rt; line(0, Event::Tick(call)), Some(FloorEvent::Tick(call)));
     assert_eq!(rt; line(1, Event::Hangup(call)), None);
     assert_eq!(rt; line(1, Event::Tick(call)), None);

@@ -24,7 +24,7 @@ Tagged-twice grew h a b c s t x y = (
   y.1 ∙ x.1,
   subst (grew (heard a) (heard c)) (map_more a.vehicle s t)
       (h (heard a) (heard b) (heard c) (map (entry_of a.vehicle) s) (map (entry_of a.vehicle) t) x.2
-        (subst (λ v. grew (heard b) (heard c) (map (entry_of v) t)) x.1 y.2)),
+      (subst (λ v. grew (heard b) (heard c) (map (entry_of v) t)) x.1 y.2)),
 )
 
 pub Tagged-whole : {H : Type 0} (grew partly : H → H → List FloorEntry → Type 0)
@@ -41,12 +41,15 @@ Tagged-then_partly grew partly h a b c s t x y = (
   y.1 ∙ x.1,
   subst (partly (heard a) (heard c)) (map_more a.vehicle s t)
       (h (heard a) (heard b) (heard c) (map (entry_of a.vehicle) s) (map (entry_of a.vehicle) t) x.2
-        (subst (λ v. partly (heard b) (heard c) (map (entry_of v) t)) x.1 y.2)),
+      (subst (λ v. partly (heard b) (heard c) (map (entry_of v) t)) x.1 y.2)),
 )
 
 pub Tagged-longer : {H : Type 0} (partly : H → H → List FloorEntry → Type 0)
     → ((a b : H) (s t : List FloorEntry) → partly a b s → partly a b (s ++ t))
     → (a b : Tagged H) (s t : List Entry) → TaggedGrew partly a b s → TaggedGrew partly a b (s ++ t)
-Tagged-longer partly h a b s t x =
-    (x.0, x.1, subst (partly (heard a) (heard b)) (map_more a.vehicle s t)
-        (h (heard a) (heard b) (map (entry_of a.vehicle) s) (map (entry_of a.vehicle) t) x.2))
+Tagged-longer partly h a b s t x = (
+  x.0,
+  x.1,
+  subst (partly (heard a) (heard b)) (map_more a.vehicle s t)
+      (h (heard a) (heard b) (map (entry_of a.vehicle) s) (map (entry_of a.vehicle) t) x.2),
+)
