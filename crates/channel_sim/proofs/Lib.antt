@@ -4,7 +4,8 @@ pub mod Acts
 mod ArrivalLemmas
 mod AsleepLemmas
 mod AsleepTicks
-mod BoundLemmas
+-- what bounds the work of one line: at most so many passes and calls
+pub mod BoundLemmas
 -- the calls of a world, found by number, through all that changes them
 pub mod CallsKept
 mod CallsLemmas
@@ -39,7 +40,7 @@ mod SeatLemmas
 mod SendsLemmas
 mod SessionLemmas
 -- between lines: what is kept stands for the world
-mod Standing
+pub mod Standing
 mod StepLemmas
 mod TickLemmas
 -- a unit tick of the world keeps a world that fits

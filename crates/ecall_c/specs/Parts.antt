@@ -1,4 +1,5 @@
--- A part of a live message as the flat struct that C fills. This project's profile. Cited by the export that writes one.
+-- A part of a live message as the flat struct that C fills. This project's profile. Cited by the export that writes
+-- one.
 use Rattle.std.specs.Prelude.{◌≡◌, ◌≤◌, ◌<◌, ◌==◌, ◌⊎◌, if◌then◌else◌, ℕ}
 use Rattle.link_parts.specs.declared.part.Part.{Part}
 use Rattle.link_parts.specs.declared.part.Part.TheVariants.{Dials, Answers, Leaves, Rings, Takes, Carries}

@@ -1,6 +1,6 @@
 -- The lines of a script with a relay desk: those of a script, and three event lines more, `pass <call>`,
--- `hand forth <k>` and `hand back <k>`; and what is refused, line by line. This project's profile. Cited by the reply of
--- `relay`.
+-- `hand forth <k>` and `hand back <k>`; and what is refused, line by line. This project's profile. Cited by the reply
+-- of `relay`.
 use Rattle.std.specs.Prelude.{ℕ, true, List, [], ◌∷◌, codes, Option, Some, None, Result, Ok, Err, if◌then◌else◌}
 use Rattle.std.specs.Str.{bytes_eq}
 use Rattle.msd_fit.specs.declared.facts.Facts.{Facts}

@@ -33,7 +33,8 @@ pub record PointStandsFor (e : PointEnd) (s : LivePoint) : Type 0 where
   pub gathered : flat_map part_octets s.gathered ≡ e.gathered.items
 
 -- The listener grew by the entries of the step, and the end stands for what the step leaves.
-pub record PointActs (grew : List Entry → Type 0) (old new : PointEnd) (step : LivePoint → Steps LivePoint) : Type 0 where
+pub record PointActs (grew : List Entry → Type 0) (old new : PointEnd) (step : LivePoint → Steps LivePoint)
+    : Type 0 where
   pub told : (s : LivePoint) → PointStandsFor old s → grew (entries_of (step s).turns)
   pub stands : (s : LivePoint) → PointStandsFor old s → PointStandsFor new (step s).new
 

@@ -18,7 +18,8 @@ pub record EndStandsFor (e : VehicleEnd) (s : LiveVehicle) : Type 0 where
   pub gathered : flat_map part_octets s.gathered ≡ e.gathered.items
 
 -- The listener grew by the entries of the step, and the end stands for what the step leaves.
-pub record Acts (grew : List Entry → Type 0) (old new : VehicleEnd) (step : LiveVehicle → Steps LiveVehicle) : Type 0 where
+pub record Acts (grew : List Entry → Type 0) (old new : VehicleEnd) (step : LiveVehicle → Steps LiveVehicle)
+    : Type 0 where
   pub told : (s : LiveVehicle) → EndStandsFor old s → grew (entries_of (step s).turns)
   pub stands : (s : LiveVehicle) → EndStandsFor old s → EndStandsFor new (step s).new
 

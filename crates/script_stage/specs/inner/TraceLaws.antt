@@ -92,7 +92,8 @@ pub played-nothing : (o : Option Facts) → played o [] ≡ []
 played-nothing None = refl
 played-nothing (Some known) = refl
 
-pub played-append : (o : Option Facts) (es fs : List Event) → Begins (text_of (played o es)) (text_of (played o (es ++ fs)))
+pub played-append : (o : Option Facts) (es fs : List Event)
+    → Begins (text_of (played o es)) (text_of (played o (es ++ fs)))
 played-append None es fs = record { rest = []; whole = refl }
 played-append (Some known) es fs =
     let w : World = first_world known in

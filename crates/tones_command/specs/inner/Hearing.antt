@@ -96,7 +96,8 @@ module _ {O : Type 0} (held : O → Option (List ℕ)) (way : O → Way) where
   ToneGrew-append a b c s t first second = (
     second.0 ∙ first.0,
     subst (Grew (held (tone_sink a)) (held (tone_sink c))) (sym (text_of-append s t))
-        (Grew-append (held (tone_sink a)) (held (tone_sink b)) (held (tone_sink c)) (text_of s) (text_of t) first.1 second.1),
+        (Grew-append (held (tone_sink a)) (held (tone_sink b)) (held (tone_sink c)) (text_of s) (text_of t)
+            first.1 second.1),
     Onward-append (way (tone_sink a)) (way (tone_sink b)) (way (tone_sink c)) first.2 second.2,
     second.3 ∙ first.3,
     FramesGrew-append a.frames.now b.frames.now c.frames.now s t first.4 second.4,
@@ -115,7 +116,8 @@ module _ {O : Type 0} (held : O → Option (List ℕ)) (way : O → Way) where
   ToneGrewPartly-after a b c s t first second = (
     second.0 ∙ first.0,
     subst (GrewPartly (held (tone_sink a)) (held (tone_sink c))) (sym (text_of-append s t))
-        (GrewPartly-after (held (tone_sink a)) (held (tone_sink b)) (held (tone_sink c)) (text_of s) (text_of t) first.1 second.1),
+        (GrewPartly-after (held (tone_sink a)) (held (tone_sink b)) (held (tone_sink c)) (text_of s) (text_of t)
+            first.1 second.1),
     Onward-append (way (tone_sink a)) (way (tone_sink b)) (way (tone_sink c)) first.2 second.2,
     second.3 ∙ first.3,
   )

@@ -126,7 +126,8 @@ tones_pass seen (inr none) texts number =
     omega (arith, nothing)
 
 -- a line that is passed over says nothing
-pub toned_passed : (seen : ToneSeen) (number : ℕ) (text : List ℕ) (texts : List (List ℕ)) → judged seen.said text ≡ Ok None
+pub toned_passed : (seen : ToneSeen) (number : ℕ) (text : List ℕ) (texts : List (List ℕ))
+    → judged seen.said text ≡ Ok None
     → toned_behind seen number (text ∷ texts) ≡ toned_behind seen (number + 1) texts
 toned_passed seen number text texts h =
     ap (left_of seen.most seen.toning) (script_from-comment seen.said text number texts h)
