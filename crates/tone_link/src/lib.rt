@@ -13,4 +13,4 @@ pub use fault::ToneFault;
 pub use laws::frame_laws;
 pub use reading::tone_read;
 pub use sums::bit_sum;
-pub use writing::{MOST_SAMPLES, tone_write};
+pub use writing::{MOST_SAMPLES, rewrite_tones, tone_write};

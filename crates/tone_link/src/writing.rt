@@ -21,13 +21,21 @@ const ZERO: [i16; 8] = [-1000, -1000, 1000, -1000, 1000, 1000, -1000, 1000];
 pub fn tone_write(frame: &Frame) -> ArrayVec<i16, 9152>
     ensures { result.items ≡ frame_samples frame.now }
 {
+    let mut samples = ArrayVec::new();
+    rewrite_tones(&mut samples, frame);
+    samples
+}
+
+/// Puts the samples of a frame, as [`tone_write`] gives them, in the place of all that stands there.
+pub fn rewrite_tones(samples: &mut ArrayVec<i16, 9152>, frame: &Frame)
+    ensures { samples.new.items ≡ frame_samples frame.now }
+{
     frame_laws(frame);
     let octets = write(frame);
-    let mut samples = ArrayVec::new();
+    samples.clear();
     for octet in octets.as_slice() {
-        push_octet(&mut samples, *octet);
+        push_octet(samples, *octet);
     }
-    samples
 }
 
 /// Appends the samples of an octet.

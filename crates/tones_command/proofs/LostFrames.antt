@@ -1,14 +1,12 @@
 -- Which frames are lost: those that the modem refuses; and none where the noise is faint.
-use Rattle.std.proofs.Common.{◌≡◌, ℕ, ◌+◌, ◌*◌, ◌<◌, ◌≤◌, ◌⊎◌, zero, suc, ℤ, pos, negsuc, ◌≤ℤ◌, ◌<ℤ◌, Bool, true, false, ◌||◌, List, [], ◌∷◌, length, Result, Ok, Err, is_err, inl, inr, refl, ap, sym, subst, ◌∙◌, arith}
+use Rattle.std.proofs.Common.{◌≡◌, ℕ, ◌+◌, ◌*◌, ◌<◌, ◌≤◌, ◌⊎◌, zero, suc, ℤ, Bool, true, false, ◌||◌, List, [], ◌∷◌, length, Result, Ok, Err, is_err, inl, inr, refl, ap, subst, ◌∙◌, arith}
 use Rattle.std.proofs.lemmas.Int.{ints}
 use Rattle.link_frames.specs.FrameOctets.{frame_octets, IsFrame}
 use Rattle.link_frames.specs.declared.frame.Frame.{Frame}
 use Rattle.per_bits.specs.Bits.{octet_bits}
 use Rattle.per_bits.specs.Parts.{AreOctets}
-use Rattle.per_bits.proofs.Places.{length_octet_bits}
-use Rattle.tone_link.specs.Noise.{EachNoise}
 use Rattle.tone_link.specs.ToneReading.{AreSaid, IsUnsure, ReadsAs, Says, SaysNeither}
-use Rattle.tone_link.specs.Tones.{frame_samples, samples_of, sum_of_bit}
+use Rattle.tone_link.specs.Tones.{frame_samples, sum_of_bit}
 use Rattle.tone_link.specs.declared.fault.ToneFault.{ToneFault}
 use Rattle.tone_link.specs.declared.fault.ToneFault.TheVariants as fault
 use Rattle.tone_link.proofs.NoisyBits.{faint_bits}

@@ -1,17 +1,16 @@
 -- What one more line makes of what was seen: where it is lost, and where it isn't.
-use Rattle.std.specs.Prelude.{◌≡◌, ℕ, ◌-◌, zero, suc, Bool, true, false, cond, List, [], ◌∷◌, ◌++◌, Option, Some, None, Result, Ok, Err}
-use Rattle.std.proofs.Common.{sym, ◌∙◌, ap, refl, subst, inl, inr}
+use Rattle.std.specs.Prelude.{◌≡◌, ℕ, Bool, true, false, cond, List, [], ◌∷◌, ◌++◌, Option, Some, None, Result, Ok, Err}
+use Rattle.std.proofs.Common.{sym, ◌∙◌, ap, refl, subst}
 use Rattle.std.proofs.lemmas.Bool.{false≢true}
 use Rattle.std.proofs.lemmas.List.{append-nil}
 use Rattle.link_frames.specs.declared.frame.Frame.{Frame}
 use Rattle.msd_fit.specs.declared.facts.Facts.{Facts}
-use Rattle.trace_model.specs.declared.entry.Entry.{Entry}
 use Rattle.trace_model.specs.declared.event.Event.{Event}
 use Rattle.trace_model.specs.declared.event.Event.TheVariants as event
 use Rattle.line_input.specs.declared.reason.Reason.{Reason}
 use Rattle.line_input.specs.declared.reason.Reason.TheVariants as reason
 use Rattle.trace_text.specs.Facts.{facts_in, is_one_too_many}
-use Rattle.trace_text.specs.Script.{Said, placed, placed_event, placed_fact, placed_line, said_after}
+use Rattle.trace_text.specs.Script.{Said, placed, placed_event, placed_line, said_after}
 use Rattle.trace_text.specs.declared.draft.Draft.{Draft}
 use Rattle.trace_text.specs.declared.script.ScriptLine.{ScriptLine}
 use Rattle.trace_text.specs.declared.script.ScriptLine.TheVariants as line
@@ -24,7 +23,7 @@ use Rattle.script_stage.specs.declared.stage.Stage.{Stage}
 use Rattle.tones_command.specs.Modem.{behind_frame, is_lost}
 use Rattle.tones_command.specs.declared.modem.Modem.{Modem}
 use Rattle.tones_command.specs.declared.sent.SentFrames.{SentFrames}
-use Rattle.tones_command.specs.Tones.{Toning, behind_carried, carried_for}
+use Rattle.tones_command.specs.Tones.{behind_carried, carried_for}
 use Rattle.tones_command.specs.inner.ToneSeen.{IsReady, ToneSeen, line_carries, seen_behind, toning_behind, trace_so_far}
 use Rattle.tones_command.specs.inner.ToneTurns.{draws_behind, line_draws, line_lost, loses}
 

@@ -1,5 +1,5 @@
 -- What a line comes to, by what is read in it.
-use Rattle.std.specs.Prelude.{◌≡◌, ℕ, true, false, List, Option, Some, None, Result, Ok, Err}
+use Rattle.std.specs.Prelude.{◌≡◌, ℕ, false, List, Option, Some, Result, Ok, Err}
 use Rattle.std.proofs.Common.{sym, ap, subst, ◌∙◌, inl, inr}
 use Rattle.call_io.specs.Bytes.{Grew, GrewPartly}
 use Rattle.line_input.specs.Lines.{Numbered, line_answer}

@@ -1,16 +1,16 @@
 -- What a line of `tones` comes to, as for every command over lines.
-use Rattle.std.specs.Prelude.{◌≡◌, ℕ, ◌+◌, ◌-◌, ◌<◌, ◌≤◌, true, false, List, [], ◌∷◌, ◌++◌, Option, Some, None, Result, Ok}
+use Rattle.std.specs.Prelude.{◌≡◌, ℕ, ◌+◌, ◌<◌, ◌≤◌, true, false, List, [], ◌∷◌, ◌++◌, Option, Some, None, Result, Ok}
 use Rattle.std.proofs.Common.{◌∙◌, ap, sym, refl, subst, append_assoc, inl, inr, arith}
 use Rattle.std.proofs.lemmas.List.{append-nil}
 use Rattle.call_io.proofs.BytesLemmas.{Grew-nothing}
-use Rattle.call_io.specs.Bytes.{Grew, GrewPartly}
+use Rattle.call_io.specs.Bytes.{Grew}
 use Rattle.trace_model.specs.declared.event.Event.{Event}
 use Rattle.trace_model.specs.declared.entry.Entry.{Entry}
 use Rattle.trace_text.specs.EntryLine.{text_of}
 use Rattle.trace_text.specs.inner.TextListenerLaws.{text_of-append}
 use Rattle.trace_text.specs.Facts.{facts_in}
 use Rattle.line_input.specs.Lines.{IsLine, Numbered, lines_of}
-use Rattle.trace_text.specs.Script.{judged, nothing_said, placed_line, said_after, script_line, script_of}
+use Rattle.trace_text.specs.Script.{judged, nothing_said, placed_line, said_after, script_line}
 use Rattle.line_input.specs.declared.reason.Reason.{Reason}
 use Rattle.trace_text.specs.declared.script.ScriptLine.{ScriptLine}
 use Rattle.command_base.specs.LineCommands.{Ends, GoesOn, TakesLine}
@@ -23,7 +23,7 @@ use Rattle.script_stage.specs.Progress.{entries_of, event_of, passes_by}
 use Rattle.script_stage.specs.ScriptSeen.{IsTidy}
 use Rattle.script_stage.specs.ScriptTrace.{most_passes, played, script_passes}
 use Rattle.script_stage.specs.ScriptTurns.{RefusedLine}
-use Rattle.script_stage.specs.Stage.{IsEarly, IsNext, StageStandsFor}
+use Rattle.script_stage.specs.Stage.{IsEarly, StageStandsFor}
 use Rattle.script_stage.specs.declared.stage.Stage.{Stage}
 use Rattle.script_stage.specs.inner.ScriptLaws.{judged-line}
 use Rattle.script_stage.proofs.PlayedLines.{early_next}
@@ -33,9 +33,9 @@ use Rattle.tones_command.specs.Modem.{NoiseFrom, most_noise}
 use Rattle.tones_command.specs.Tones.{nothing_carried, tones_passes, tones_reply}
 use Rattle.tones_command.specs.declared.modem.Modem.{Modem}
 use Rattle.tones_command.specs.declared.sent.SentFrames.{SentFrames}
-use Rattle.tones_command.specs.inner.Hearing.{FramesGrew, FramesStandFor}
+use Rattle.tones_command.specs.inner.Hearing.{FramesStandFor}
 use Rattle.tones_command.specs.inner.ToneLaws.{toned_said, tones_lined, tones_pass, tones_refused}
-use Rattle.tones_command.specs.inner.ToneSeen.{IsReady, ToneSeen, TonesFrom, TonesStand, passes_so_far, script_reply, seen_behind, toned_behind, toning_behind, tones_passes_from, trace_so_far}
+use Rattle.tones_command.specs.inner.ToneSeen.{ToneSeen, TonesFrom, TonesStand, passes_so_far, script_reply, seen_behind, toned_behind, toning_behind, tones_passes_from, trace_so_far}
 use Rattle.tones_command.specs.inner.ToneTurns.{IsLineLost, IsStill, LineTurn, PlaysTones, line_draws, line_lost}
 use Rattle.tones_command.proofs.LostLines.{draws_are, line_is_lost, line_left, placed_read, stage_behind_lost}
 

@@ -8,13 +8,16 @@ ghost use Rattle.tones_command.specs.inner.Loud.{AreSamplesSent};
 use crate::noise::Noise;
 use arrayvec::ArrayVec;
 use link_frames::Frame;
-use tone_link::{MOST_SAMPLES, frame_laws, tone_read, tone_write};
+use tone_link::{MOST_SAMPLES, frame_laws, rewrite_tones, tone_read};
 
-/// A modem behind which the line moves each sample: by how much at most, and where its draws stand.
+/// A modem behind which the line moves each sample: by how much at most, and where its draws stand. Its two blocks of
+/// samples serve from frame to frame.
 #[derive(Drop)]
 pub(crate) struct Modem {
     pub(crate) most: u32,
     pub(crate) x: u32,
+    sent: ArrayVec<i16, MOST_SAMPLES>,
+    heard: ArrayVec<i16, MOST_SAMPLES>,
 }
 
 impl Modem {
@@ -27,6 +30,8 @@ impl Modem {
         Modem {
             most: noise.most(),
             x: noise.number(),
+            sent: ArrayVec::new(),
+            heard: ArrayVec::new(),
         }
     }
 
@@ -38,39 +43,41 @@ impl Modem {
         ensures most { self.new.most ≡ self.old.most }
     {
         frame_laws(frame);
-        let sent = tone_write(frame);
-        let heard = self.receive(sent.as_slice());
-        tone_read(heard.as_slice()).is_err()
+        rewrite_tones(&mut self.sent, frame);
+        receive(
+            self.most,
+            &mut self.x,
+            self.sent.as_slice(),
+            &mut self.heard,
+        );
+        tone_read(self.heard.as_slice()).is_err()
     }
+}
 
-    /// The samples as they are received.
-    fn receive(&mut self, sent: &[i16]) -> ArrayVec<i16, MOST_SAMPLES>
-        requires few { length sent.now ≤ MOST_SAMPLES }
-        requires bound { self.old.most ≤ most_noise }
-        requires sent { AreSamplesSent sent.now }
-        ensures items { result.items ≡ received self.old.most self.old.x sent.now }
-        ensures x { self.new.x ≡ behind_samples self.old.x sent.now }
-        ensures most { self.new.most ≡ self.old.most }
-    {
-        let mut heard = ArrayVec::new();
-        for sample in sent {
-            heard.push(*sample + self.draw());
-        }
-        heard
+/// Receives the samples that were sent, in the place of those received before.
+fn receive(most: u32, x: &mut u32, sent: &[i16], heard: &mut ArrayVec<i16, MOST_SAMPLES>)
+    requires few { length sent.now ≤ MOST_SAMPLES }
+    requires bound { most ≤ most_noise }
+    requires sent { AreSamplesSent sent.now }
+    ensures items { heard.new.items ≡ received most x.old sent.now }
+    ensures x { x.new ≡ behind_samples x.old sent.now }
+{
+    heard.clear();
+    for sample in sent {
+        heard.push(*sample + draw(most, x));
     }
+}
 
-    /// By how much one more draw moves its sample.
-    #[tactic(auto, unfolding(crate::specs::Modem::drawn, crate::specs::Modem::gives))]
-    fn draw(&mut self) -> i16
-        requires { self.old.most ≤ most_noise }
-        ensures moved { result ≡ moved_by self.old.most (drawn self.old.x) }
-        ensures low { negsuc 1498 ≤ℤ result }
-        ensures high { result ≤ℤ pos 1499 }
-        ensures x { self.new.x ≡ drawn self.old.x }
-        ensures most { self.new.most ≡ self.old.most }
-    {
-        self.x = self.x.wrapping_mul(1_664_525).wrapping_add(1_013_904_223);
-        let within = (self.x / 65_536) % (2 * self.most + 1);
-        within as i16 - self.most as i16
-    }
+/// By how much one more draw moves its sample.
+#[tactic(auto, unfolding(crate::specs::Modem::drawn, crate::specs::Modem::gives))]
+fn draw(most: u32, x: &mut u32) -> i16
+    requires { most ≤ most_noise }
+    ensures moved { result ≡ moved_by most (drawn x.old) }
+    ensures low { negsuc 1498 ≤ℤ result }
+    ensures high { result ≤ℤ pos 1499 }
+    ensures x { x.new ≡ drawn x.old }
+{
+    *x = x.wrapping_mul(1_664_525).wrapping_add(1_013_904_223);
+    let within = (*x / 65_536) % (2 * most + 1);
+    within as i16 - most as i16
 }

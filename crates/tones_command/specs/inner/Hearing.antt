@@ -97,7 +97,7 @@ module _ {O : Type 0} (held : O → Option (List ℕ)) (way : O → Way) where
     second.0 ∙ first.0,
     subst (Grew (held (tone_sink a)) (held (tone_sink c))) (sym (text_of-append s t))
         (Grew-append (held (tone_sink a)) (held (tone_sink b)) (held (tone_sink c)) (text_of s) (text_of t)
-            first.1 second.1),
+        first.1 second.1),
     Onward-append (way (tone_sink a)) (way (tone_sink b)) (way (tone_sink c)) first.2 second.2,
     second.3 ∙ first.3,
     FramesGrew-append a.frames.now b.frames.now c.frames.now s t first.4 second.4,
@@ -117,7 +117,7 @@ module _ {O : Type 0} (held : O → Option (List ℕ)) (way : O → Way) where
     second.0 ∙ first.0,
     subst (GrewPartly (held (tone_sink a)) (held (tone_sink c))) (sym (text_of-append s t))
         (GrewPartly-after (held (tone_sink a)) (held (tone_sink b)) (held (tone_sink c)) (text_of s) (text_of t)
-            first.1 second.1),
+        first.1 second.1),
     Onward-append (way (tone_sink a)) (way (tone_sink b)) (way (tone_sink c)) first.2 second.2,
     second.3 ∙ first.3,
   )

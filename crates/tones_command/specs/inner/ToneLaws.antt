@@ -1,6 +1,6 @@
 -- The law of `tones` as a command over lines, proved. Cited by that command.
-use Rattle.std.specs.Prelude.{◌≡◌, ℕ, ◌+◌, ◌-◌, ◌≤◌, Bool, true, false, cond, List, [], ◌∷◌, ◌++◌, Option, Some, None, Ok, Err}
-use Rattle.std.proofs.Common.{sym, ◌∙◌, ap, refl, arith, subst, append_assoc, inl, inr, add-zero}
+use Rattle.std.specs.Prelude.{◌≡◌, ℕ, ◌+◌, ◌≤◌, Bool, true, false, cond, List, [], ◌∷◌, ◌++◌, Option, Some, None, Ok, Err}
+use Rattle.std.proofs.Common.{sym, ◌∙◌, ap, refl, arith, subst, append_assoc, inl, inr}
 use Rattle.std.proofs.lemmas.List.{append-nil}
 use Rattle.link_frames.specs.declared.frame.Frame.{Frame}
 use Rattle.msd_fit.specs.declared.facts.Facts.{Facts}
@@ -14,7 +14,7 @@ use Rattle.trace_text.specs.declared.script.ScriptLine.{ScriptLine}
 use Rattle.trace_text.specs.declared.script.ScriptLine.TheVariants as line
 use Rattle.trace_text.specs.Facts.{facts_in}
 use Rattle.trace_text.specs.Script.{Script, judged, said_after, script_from}
-use Rattle.channel_sim.specs.Lines.{bound_from, trace_from, world_after}
+use Rattle.channel_sim.specs.Lines.{trace_from, world_after}
 use Rattle.channel_sim.specs.World.{first_world}
 use Rattle.command_base.specs.LineCommands.{IsLined}
 use Rattle.command_base.specs.Outcome.{ClosesSilently}
@@ -22,7 +22,7 @@ use Rattle.command_base.specs.Refusals.{in_front_of, refusal_line, refusal_reply
 use Rattle.command_base.specs.declared.refusal.Refused.TheVariants as refused
 use Rattle.command_base.specs.declared.status.Status.TheVariants as status
 use Rattle.script_stage.specs.ScriptSeen.{IsTidy}
-use Rattle.script_stage.specs.ScriptTrace.{ended, most_passes, played, script_passes, script_trace}
+use Rattle.script_stage.specs.ScriptTrace.{ended, most_passes, played, script_passes}
 use Rattle.script_stage.specs.inner.ScriptLaws.{judged-fault, judged-passed, script_from-bad, script_from-comment, script_from-line, script_from-none}
 use Rattle.script_stage.specs.inner.TraceLaws.{facts_kept, played-nothing, trace_from-append}
 use Rattle.script_stage.proofs.ScriptSoFar.{bound_from-append, most_passes-nothing}

@@ -1,5 +1,5 @@
 -- What `tones` has come to behind some lines of its script, and what it replies to the others. Cited by that command.
-use Rattle.std.specs.Prelude.{◌≡◌, ℕ, ◌-◌, ◌≤◌, List, [], ◌++◌, Option, Some, None}
+use Rattle.std.specs.Prelude.{◌≡◌, ℕ, ◌-◌, ◌≤◌, List, Option, None}
 use Rattle.link_frames.specs.declared.frame.Frame.{Frame}
 use Rattle.trace_model.specs.declared.entry.Entry.{Entry}
 use Rattle.trace_text.specs.EntryLine.{text_of}

@@ -4,7 +4,6 @@ use Rattle.std.specs.Prelude.{◌≡◌, ℕ, ◌⊎◌, Bool, true, false, List
 use Rattle.call_io.specs.Bytes.{Grew, GrewPartly}
 use Rattle.link_frames.specs.declared.frame.Frame.{Frame}
 use Rattle.line_input.specs.declared.reason.Reason.{Reason}
-use Rattle.trace_model.specs.declared.entry.Entry.{Entry}
 use Rattle.trace_text.specs.EntryLine.{text_of}
 use Rattle.trace_text.specs.Script.{placed, placed_line, script_line}
 use Rattle.trace_text.specs.declared.script.ScriptLine.{ScriptLine}

@@ -1,4 +1,4 @@
-use Rattle.std.proofs.Common.{rules, arith, true, ◌≡◌, []}
+use Rattle.std.proofs.Common.{rules, arith, true, ◌≡◌}
 use Rattle.call_io.specs.Blocks.{held}
 use Rattle.command_base.specs.Outcome.{Outcome, streams_of}
 use Rattle.tones_command.specs.Tones.{tones_passes, tones_reply}

@@ -1,7 +1,7 @@
 use Rattle.std.proofs.Common.{◌≡◌, take}
 use Rattle.per_bits.specs.Bits.{octet_bits}
 use Rattle.tone_link.specs.Tones.{samples_of}
-use Rattle.tone_link.proofs.writing.tone_write.Given as goal
+use Rattle.tone_link.proofs.writing.rewrite_tones.Given as goal
 
 -- the samples of the octets so far
 abbrev pub invariant-loop-octet : goal.invariant-loop-octet

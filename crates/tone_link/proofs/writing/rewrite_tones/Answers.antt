@@ -1,7 +1,7 @@
 use Rattle.std.proofs.Common.{arith, length, ap, ◌≤◌}
 use Rattle.tone_link.proofs.ToneLaws.{frame_sizes}
 use Rattle.tone_link.proofs.Written.{octet_room}
-use Rattle.tone_link.proofs.writing.tone_write.Goals as goal
+use Rattle.tone_link.proofs.writing.rewrite_tones.Goals as goal
 
 pub push_octet-requires : goal.push_octet-requires
 push_octet-requires c =
