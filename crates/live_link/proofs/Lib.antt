@@ -1,5 +1,7 @@
+pub mod ClosingLemmas
 pub mod EndSteps
 pub mod GatherLemmas
+pub mod GoingLemmas
 pub mod JointSafe
 pub mod LiveRuns
 pub mod Moved
@@ -8,6 +10,8 @@ pub mod OwedRuns
 pub mod PointRuns
 pub mod PointSteps
 pub mod Sent
+pub mod SideLemmas
 pub mod Ticks
+pub mod ToldTrace
 pub mod TurnKept
 pub mod VehicleRuns

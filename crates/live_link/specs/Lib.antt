@@ -1,5 +1,7 @@
 pub mod EndFault
 pub mod Joint
+pub mod LastLine
+pub mod LiveCauses
 pub mod LiveCodes
 pub mod LiveWords
 pub mod PointLive

@@ -1,2 +1,6 @@
+pub mod Closing
+pub mod Going
 pub mod PointEnd
+pub mod PointRun
 pub mod VehicleEnd
+pub mod VehicleRun

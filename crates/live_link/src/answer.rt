@@ -59,6 +59,7 @@ impl LiveStatus {
 }
 
 /// What goes between the two ends: the octets from the other, and the octets to it.
+#[derive(Drop)]
 pub struct Link<I, P> {
     pub from: I,
     pub to: P,

@@ -2,12 +2,19 @@
 #![tactic(auto)]
 
 mod answer;
+mod closing;
 mod fault;
 mod gathering;
 mod laws;
 mod own_lines;
 mod point_end;
+mod point_run;
+mod receiver;
+mod running;
+mod script_lines;
+mod sending;
 mod vehicle_end;
+mod vehicle_run;
 mod words;
 
 pub use answer::{Link, Live, LiveStatus};

@@ -1,0 +1,15 @@
+use Rattle.std.proofs.Common.{◌≡◌}
+use Rattle.call_io.specs.Blocks.{sink, way}
+use Rattle.call_io.specs.Ways.{Onward}
+use Rattle.live_link.specs.inner.PointRun.{IsReady}
+use Rattle.live_link.proofs.point_run.PointSide.go_on.Given as goal
+
+-- another round may follow, and no count of faults rose
+abbrev pub invariant-loop : goal.invariant-loop
+invariant-loop g l = record {
+  ready : IsReady l.self;
+  link : g.I.Source.faults l.from ≡ g.I.Source.faults l.initial.from;
+  traced : g.O.Sink.faults (sink l.trace) ≡ g.O.Sink.faults (sink l.initial.trace);
+  wrote : g.P.Sink.faults l.to ≡ g.P.Sink.faults l.initial.to;
+  onward : Onward (way g.O.Sink.held l.initial.trace) (way g.O.Sink.held l.trace);
+}

@@ -1,0 +1,458 @@
+//! The run of the vehicle's end: its script, line by line, and its rounds.
+
+ghost use Rattle.std.specs.Prelude.{◌≡◌, ◌≤◌, ◌+◌, false, OnOk, OnErr, IfOk};
+ghost use Rattle.call_io.specs.Blocks.{held, sink, way};
+ghost use Rattle.call_io.specs.Bytes.{Grew, GrewPartly};
+ghost use Rattle.call_io.specs.Ways.{Onward};
+ghost use Rattle.link_frames.specs.declared.frame.End.TheVariants as «end»;
+ghost use Rattle.line_input.specs.Lines.{most_bytes};
+ghost use Rattle.live_link.specs.LiveCauses.{IsAnswerOf, LiveReadCause, LiveWriteCause};
+ghost use Rattle.live_link.specs.VehicleLive.{hears_line, round};
+ghost use Rattle.live_link.specs.inner.Going.{Answers, EndUnwritten, FindsSome, HasRead, IsOfLine, IsOfRound, IsOfScript, Unread, UnreadBoth, Unwritten, UnwrittenBoth, WriteCause};
+ghost use Rattle.live_link.specs.inner.VehicleEnd.{Acts, ActsPartly, EndStandsFor};
+ghost use Rattle.live_link.specs.inner.VehicleRun.{EndsScript, FindsFirst, IsInFront, IsReady, MayRun, Stands};
+ghost use Rattle.trace_text.specs.EntryLine.{text_of};
+
+use crate::answer::LiveStatus;
+use crate::fault::EndFault;
+use crate::own_lines::read_own;
+use crate::receiver::Receiver;
+use crate::script_lines::{empty, next_line};
+use crate::sending::{failed, send};
+use crate::vehicle_end::VehicleEnd;
+use call_io::{Block, Sink, Source, write_all};
+use line_input::{BadLine, Lines, Reason};
+use link_frames::{End, Steps};
+use link_parts::{Part, SCRIPT_END};
+use msd_fit::Facts;
+use std::alloc::Global;
+use std::sync::ledger::Ledger;
+use trace_model::Event;
+use trace_text::{Draft, FactLine, ScriptLine, TextOut};
+
+/// What the facts of a script are followed by.
+pub(crate) enum Front {
+    /// The first event, and the facts in front of it.
+    First(Facts, Event),
+    /// The end of the script.
+    End,
+}
+
+/// The vehicle's end with what it has of its link: what it reads, the parts of the last message, and room for the next.
+#[derive(Drop)]
+pub(crate) struct VehicleSide {
+    end: VehicleEnd,
+    receiver: Receiver,
+    parts: Vec<Part>,
+    room: Vec<u8>,
+}
+
+/// Does what a line says, and writes its entries.
+fn tell_line<O: Sink>(
+    alloc: Global,
+    end: &mut VehicleEnd,
+    event: &Event,
+    trace: &mut O,
+) -> Result<(), EndFault>
+    requires { Stands end.old }
+    ensures ok { OnOk result (Acts (λ es. Grew (O.held trace.old) (O.held trace.new) (text_of es)) end.old end.new
+        (λ s. hears_line s event.now)) }
+    ensures err { OnErr result (ActsPartly (λ es. GrewPartly (O.held trace.old) (O.held trace.new) (text_of es)) end.old
+        (λ s. hears_line s event.now)) }
+    ensures cause { EndUnwritten result (O.faults trace.old) (O.faults trace.new) }
+    ensures counted { O.faults trace.old ≤ O.faults trace.new }
+    ensures onward { Onward (O.way trace.old) (O.way trace.new) }
+{
+    let mut to = TextOut::over(trace);
+    end.line(alloc, event, &mut to)
+}
+
+/// Does a round whose message has these parts, and writes its entries.
+fn tell_round<O: Sink, L: Ledger>(
+    alloc: Global,
+    end: &mut VehicleEnd,
+    parts: &[Part],
+    trace: &mut O,
+    moments: &mut Steps<L>,
+) -> Result<(), EndFault>
+    requires { Stands end.old }
+    ensures ok { OnOk result (Acts (λ es. Grew (O.held trace.old) (O.held trace.new) (text_of es)) end.old end.new
+        (λ s. round s parts.now)) }
+    ensures err { OnErr result (ActsPartly (λ es. GrewPartly (O.held trace.old) (O.held trace.new) (text_of es)) end.old
+        (λ s. round s parts.now)) }
+    ensures moments { moments.new ≤ moments.old + 1 }
+    ensures cause { EndUnwritten result (O.faults trace.old) (O.faults trace.new) }
+    ensures counted { O.faults trace.old ≤ O.faults trace.new }
+    ensures onward { Onward (O.way trace.old) (O.way trace.new) }
+{
+    let mut to = TextOut::over(trace);
+    end.round(alloc, parts, moments, &mut to)
+}
+
+impl VehicleSide {
+    /// Before the first round, with these facts.
+    fn new(alloc: Global, facts: Facts) -> VehicleSide
+        ensures { IsReady result }
+    {
+        VehicleSide {
+            end: VehicleEnd::new(alloc, facts),
+            receiver: Receiver::new(),
+            parts: Vec::new(alloc),
+            room: Vec::new(alloc),
+        }
+    }
+
+    /// Writes a message, and then reads one.
+    #[tactic(auto, using(crate::proofs::GoingLemmas::vehicle_reads_on, crate::proofs::GoingLemmas::link_unwritten, crate::proofs::GoingLemmas::sending_unread, crate::proofs::GoingLemmas::first_unwritten, crate::proofs::GoingLemmas::second_unwritten))]
+    fn exchange<O: Sink, I: Source, P: Sink>(
+        &mut self,
+        trace: &mut Block<'_, O>,
+        from: &mut I,
+        to: &mut P,
+    ) -> Result<(), LiveStatus>
+        requires { IsReady self.old }
+        ensures ready { OnOk result (IsReady self.new) }
+        ensures answers { Answers IsOfRound result }
+        ensures unread { Unread result (I.faults from.old) (I.faults from.new) }
+        ensures unwritten { UnwrittenBoth result (O.faults (sink trace.old)) (O.faults (sink trace.new)) (P.faults to.old) (P.faults to.new) }
+        ensures from_counted { I.faults from.old ≤ I.faults from.new }
+        ensures trace_counted { O.faults (sink trace.old) ≤ O.faults (sink trace.new) }
+        ensures onward { Onward (way O.held trace.old) (way O.held trace.new) }
+        ensures to_counted { P.faults to.old ≤ P.faults to.new }
+    {
+        empty(trace)?;
+        send(self.end.gathered(), &mut self.room, to)?;
+        self.receiver.receive(End::Vehicle, from, &mut self.parts)?;
+        Ok(())
+    }
+
+    /// One round.
+    fn round<O: Sink, I: Source, P: Sink, L: Ledger>(
+        &mut self,
+        alloc: Global,
+        trace: &mut Block<'_, O>,
+        from: &mut I,
+        to: &mut P,
+        moments: &mut Steps<L>,
+    ) -> Result<(), LiveStatus>
+        requires { IsReady self.old }
+        ensures ready { OnOk result (IsReady self.new) }
+        ensures moments { moments.new ≤ moments.old + 1 }
+        ensures answers { Answers IsOfRound result }
+        ensures unread { Unread result (I.faults from.old) (I.faults from.new) }
+        ensures unwritten { UnwrittenBoth result (O.faults (sink trace.old)) (O.faults (sink trace.new)) (P.faults to.old) (P.faults to.new) }
+        ensures from_counted { I.faults from.old ≤ I.faults from.new }
+        ensures trace_counted { O.faults (sink trace.old) ≤ O.faults (sink trace.new) }
+        ensures onward { Onward (way O.held trace.old) (way O.held trace.new) }
+        ensures to_counted { P.faults to.old ≤ P.faults to.new }
+    {
+        self.exchange(trace, from, to)?;
+        match tell_round(alloc, &mut self.end, self.parts.as_slice(), trace, moments) {
+            Ok(()) => Ok(()),
+            Err(fault) => Err(failed(fault)),
+        }
+    }
+
+    /// So many rounds.
+    fn rounds<O: Sink, I: Source, P: Sink, L: Ledger>(
+        &mut self,
+        alloc: Global,
+        count: u32,
+        trace: &mut Block<'_, O>,
+        from: &mut I,
+        to: &mut P,
+        moments: &mut Steps<L>,
+    ) -> Result<(), LiveStatus>
+        requires { IsReady self.old }
+        ensures ready { OnOk result (IsReady self.new) }
+        ensures moments { moments.new ≤ moments.old + count }
+        ensures answers { Answers IsOfRound result }
+        ensures unread { Unread result (I.faults from.old) (I.faults from.new) }
+        ensures unwritten { UnwrittenBoth result (O.faults (sink trace.old)) (O.faults (sink trace.new)) (P.faults to.old) (P.faults to.new) }
+        ensures from_counted { I.faults from.old ≤ I.faults from.new }
+        ensures trace_counted { O.faults (sink trace.old) ≤ O.faults (sink trace.new) }
+        ensures onward { Onward (way O.held trace.old) (way O.held trace.new) }
+        ensures to_counted { P.faults to.old ≤ P.faults to.new }
+    {
+        for _ in 0..count {
+            self.round(alloc, trace, from, to, moments)?;
+        }
+        Ok(())
+    }
+
+    /// Does what an event line says.
+    fn obey<O: Sink, I: Source, P: Sink, L: Ledger>(
+        &mut self,
+        alloc: Global,
+        event: &Event,
+        trace: &mut Block<'_, O>,
+        from: &mut I,
+        to: &mut P,
+        moments: &mut Steps<L>,
+    ) -> Result<(), LiveStatus>
+        requires { IsReady self.old }
+        ensures ready { OnOk result (IsReady self.new) }
+        ensures answers { Answers IsOfRound result }
+        ensures unread { Unread result (I.faults from.old) (I.faults from.new) }
+        ensures unwritten { UnwrittenBoth result (O.faults (sink trace.old)) (O.faults (sink trace.new)) (P.faults to.old) (P.faults to.new) }
+        ensures from_counted { I.faults from.old ≤ I.faults from.new }
+        ensures trace_counted { O.faults (sink trace.old) ≤ O.faults (sink trace.new) }
+        ensures onward { Onward (way O.held trace.old) (way O.held trace.new) }
+        ensures to_counted { P.faults to.old ≤ P.faults to.new }
+    {
+        if let Event::Tick(ticks) = event {
+            return self.rounds(alloc, ticks.number(), trace, from, to, moments);
+        }
+        match tell_line(alloc, &mut self.end, event, trace) {
+            Ok(()) => Ok(()),
+            Err(fault) => Err(failed(fault)),
+        }
+    }
+
+    /// Does what an event line says, and reads the next; an error is how the run ends.
+    fn turn<S: Source, O: Sink, I: Source, P: Sink, L: Ledger>(
+        &mut self,
+        alloc: Global,
+        lines: &mut Lines,
+        event: &Event,
+        script: &mut S,
+        trace: &mut Block<'_, O>,
+        from: &mut I,
+        to: &mut P,
+        moments: &mut Steps<L>,
+    ) -> Result<Event, LiveStatus>
+        requires ready { IsReady self.old }
+        requires alive { lines.old.failed ≡ false }
+        ensures ready { OnOk result (IsReady self.new) }
+        ensures read { OnOk result (HasRead lines.old lines.new) }
+        ensures answers { Answers (IsAnswerOf «end».Vehicle) result }
+        ensures unread { UnreadBoth result (S.faults script.old) (S.faults script.new) (I.faults from.old) (I.faults from.new) }
+        ensures unwritten { UnwrittenBoth result (O.faults (sink trace.old)) (O.faults (sink trace.new)) (P.faults to.old) (P.faults to.new) }
+        ensures script_counted { S.faults script.old ≤ S.faults script.new }
+        ensures from_counted { I.faults from.old ≤ I.faults from.new }
+        ensures trace_counted { O.faults (sink trace.old) ≤ O.faults (sink trace.new) }
+        ensures onward { Onward (way O.held trace.old) (way O.held trace.new) }
+        ensures to_counted { P.faults to.old ≤ P.faults to.new }
+    {
+        self.obey(alloc, event, trace, from, to, moments)?;
+        match read_event(lines, script, trace)? {
+            Some(next) => Ok(next),
+            None => Err(end_script(to)),
+        }
+    }
+
+    /// Runs the vehicle's end from this event on.
+    fn run<S: Source, O: Sink, I: Source, P: Sink, L: Ledger>(
+        &mut self,
+        alloc: Global,
+        lines: &mut Lines,
+        first: Event,
+        script: &mut S,
+        trace: &mut Block<'_, O>,
+        from: &mut I,
+        to: &mut P,
+        moments: &mut Steps<L>,
+    ) -> LiveStatus
+        requires ready { IsReady self.old }
+        requires alive { lines.old.failed ≡ false }
+        requires few { lines.old.lines ≤ most_bytes }
+        ensures answers { IsAnswerOf «end».Vehicle result }
+        ensures unread { LiveReadCause result (S.faults script.old) (S.faults script.new) (I.faults from.old) (I.faults from.new) }
+        ensures unwritten { LiveWriteCause result (O.faults (sink trace.old)) (O.faults (sink trace.new)) (P.faults to.old) (P.faults to.new) }
+        ensures script_counted { S.faults script.old ≤ S.faults script.new }
+        ensures from_counted { I.faults from.old ≤ I.faults from.new }
+        ensures trace_counted { O.faults (sink trace.old) ≤ O.faults (sink trace.new) }
+        ensures onward { Onward (way O.held trace.old) (way O.held trace.new) }
+        ensures to_counted { P.faults to.old ≤ P.faults to.new }
+    {
+        let mut event = first;
+        loop {
+            match self.turn(alloc, lines, &event, script, trace, from, to, moments) {
+                Ok(next) => event = next,
+                Err(status) => return status,
+            }
+        }
+    }
+}
+
+/// Runs the vehicle's end up to how it ends.
+pub(crate) fn run_vehicle<S: Source, O: Sink, I: Source, P: Sink, L: Ledger>(
+    alloc: Global,
+    script: &mut S,
+    trace: &mut Block<'_, O>,
+    from: &mut I,
+    to: &mut P,
+    moments: &mut Steps<L>,
+) -> LiveStatus
+    ensures answers { IsAnswerOf «end».Vehicle result }
+    ensures unread { LiveReadCause result (S.faults script.old) (S.faults script.new) (I.faults from.old) (I.faults from.new) }
+    ensures unwritten { LiveWriteCause result (O.faults (sink trace.old)) (O.faults (sink trace.new)) (P.faults to.old) (P.faults to.new) }
+    ensures script_counted { S.faults script.old ≤ S.faults script.new }
+    ensures from_counted { I.faults from.old ≤ I.faults from.new }
+    ensures trace_counted { O.faults (sink trace.old) ≤ O.faults (sink trace.new) }
+    ensures onward { Onward (way O.held trace.old) (way O.held trace.new) }
+    ensures to_counted { P.faults to.old ≤ P.faults to.new }
+{
+    let mut lines = Lines::new();
+    match read_front(&mut lines, script, trace) {
+        Ok(front) => run_behind(alloc, &mut lines, front, script, trace, from, to, moments),
+        Err(status) => status,
+    }
+}
+
+/// Runs the vehicle's end behind the facts of its script.
+fn run_behind<S: Source, O: Sink, I: Source, P: Sink, L: Ledger>(
+    alloc: Global,
+    lines: &mut Lines,
+    front: Front,
+    script: &mut S,
+    trace: &mut Block<'_, O>,
+    from: &mut I,
+    to: &mut P,
+    moments: &mut Steps<L>,
+) -> LiveStatus
+    requires { MayRun front lines.old }
+    ensures answers { IsAnswerOf «end».Vehicle result }
+    ensures unread { LiveReadCause result (S.faults script.old) (S.faults script.new) (I.faults from.old) (I.faults from.new) }
+    ensures unwritten { LiveWriteCause result (O.faults (sink trace.old)) (O.faults (sink trace.new)) (P.faults to.old) (P.faults to.new) }
+    ensures script_counted { S.faults script.old ≤ S.faults script.new }
+    ensures from_counted { I.faults from.old ≤ I.faults from.new }
+    ensures trace_counted { O.faults (sink trace.old) ≤ O.faults (sink trace.new) }
+    ensures onward { Onward (way O.held trace.old) (way O.held trace.new) }
+    ensures to_counted { P.faults to.old ≤ P.faults to.new }
+{
+    match front {
+        Front::End => end_script(to),
+        Front::First(facts, event) => {
+            let mut side = VehicleSide::new(alloc, facts);
+            side.run(alloc, lines, event, script, trace, from, to, moments)
+        }
+    }
+}
+
+/// Reads the facts of a script, up to its first event.
+fn read_front<S: Source, O: Sink>(
+    lines: &mut Lines,
+    script: &mut S,
+    trace: &mut Block<'_, O>,
+) -> Result<Front, LiveStatus>
+    requires alive { lines.old.failed ≡ false }
+    requires few { lines.old.lines ≤ most_bytes }
+    ensures runs { IfOk result (λ front. MayRun front lines.new) }
+    ensures answers { Answers IsOfScript result }
+    ensures unread { Unread result (S.faults script.old) (S.faults script.new) }
+    ensures unwritten { Unwritten result (O.faults (sink trace.old)) (O.faults (sink trace.new)) }
+    ensures script_counted { S.faults script.old ≤ S.faults script.new }
+    ensures trace_counted { O.faults (sink trace.old) ≤ O.faults (sink trace.new) }
+    ensures onward { Onward (way O.held trace.old) (way O.held trace.new) }
+{
+    let mut draft = Draft::new();
+    loop {
+        match read_fact(lines, script, trace, &mut draft)? {
+            None => {}
+            Some(front) => return Ok(front),
+        }
+    }
+}
+
+/// Reads a line in front of the first event; none is a fact.
+fn read_fact<S: Source, O: Sink>(
+    lines: &mut Lines,
+    script: &mut S,
+    trace: &mut Block<'_, O>,
+    draft: &mut Draft,
+) -> Result<Option<Front>, LiveStatus>
+    requires { lines.old.failed ≡ false }
+    ensures finds { FindsFirst lines.old lines.new result }
+    ensures answers { Answers IsOfScript result }
+    ensures unread { Unread result (S.faults script.old) (S.faults script.new) }
+    ensures unwritten { Unwritten result (O.faults (sink trace.old)) (O.faults (sink trace.new)) }
+    ensures script_counted { S.faults script.old ≤ S.faults script.new }
+    ensures trace_counted { O.faults (sink trace.old) ≤ O.faults (sink trace.new) }
+    ensures onward { Onward (way O.held trace.old) (way O.held trace.new) }
+{
+    let found = next_line(lines, script, trace)?;
+    if !found {
+        return Ok(Some(Front::End));
+    }
+    let line = lines.line();
+    match read_own(End::Vehicle, line.text()) {
+        Err(reason) => Err(refused(line.number(), reason)),
+        Ok(says) => take_in_front(draft, says, line.number()),
+    }
+}
+
+/// Takes a line in front of the first event.
+fn take_in_front(
+    draft: &mut Draft,
+    says: ScriptLine,
+    number: u32,
+) -> Result<Option<Front>, LiveStatus>
+    ensures answers { Answers IsOfLine result }
+    ensures going { IfOk result IsInFront }
+{
+    match says {
+        ScriptLine::Fact(fact) => add(draft, fact, number),
+        ScriptLine::Event(event) => match draft.facts() {
+            None => Err(refused(number, Reason::Missing)),
+            Some(facts) => Ok(Some(Front::First(facts, event))),
+        },
+    }
+}
+
+fn add(draft: &mut Draft, fact: FactLine, number: u32) -> Result<Option<Front>, LiveStatus>
+    ensures answers { Answers IsOfLine result }
+    ensures going { IfOk result IsInFront }
+{
+    if draft.add(fact) {
+        Ok(None)
+    } else {
+        Err(refused(number, Reason::Many))
+    }
+}
+
+/// A line of the script is refused.
+pub(crate) fn refused(line: u32, reason: Reason) -> LiveStatus
+    ensures { result ≡ LiveStatus.Refused (record { line = line; reason = reason }) }
+{
+    LiveStatus::Refused(BadLine { line, reason })
+}
+
+/// The script is at its end.
+fn end_script<P: Sink>(to: &mut P) -> LiveStatus
+    ensures ends { EndsScript (P.held to.old) (P.held to.new) result }
+    ensures unwritten { WriteCause result (P.faults to.old) (P.faults to.new) }
+    ensures counted { P.faults to.old ≤ P.faults to.new }
+{
+    match write_all(to, &[SCRIPT_END]) {
+        Ok(()) => LiveStatus::Done,
+        Err(_) => LiveStatus::WriteFault,
+    }
+}
+
+/// Reads a line behind the first event; none is the end of the script.
+fn read_event<S: Source, O: Sink>(
+    lines: &mut Lines,
+    script: &mut S,
+    trace: &mut Block<'_, O>,
+) -> Result<Option<Event>, LiveStatus>
+    requires { lines.old.failed ≡ false }
+    ensures finds { FindsSome lines.old lines.new result }
+    ensures answers { Answers IsOfScript result }
+    ensures unread { Unread result (S.faults script.old) (S.faults script.new) }
+    ensures unwritten { Unwritten result (O.faults (sink trace.old)) (O.faults (sink trace.new)) }
+    ensures script_counted { S.faults script.old ≤ S.faults script.new }
+    ensures trace_counted { O.faults (sink trace.old) ≤ O.faults (sink trace.new) }
+    ensures onward { Onward (way O.held trace.old) (way O.held trace.new) }
+{
+    let found = next_line(lines, script, trace)?;
+    if !found {
+        return Ok(None);
+    }
+    let line = lines.line();
+    match read_own(End::Vehicle, line.text()) {
+        Err(reason) => Err(refused(line.number(), reason)),
+        Ok(ScriptLine::Fact(_)) => Err(refused(line.number(), Reason::Late)),
+        Ok(ScriptLine::Event(event)) => Ok(Some(event)),
+    }
+}
