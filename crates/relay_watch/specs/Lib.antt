@@ -1,0 +1,4 @@
+pub mod Clocks
+pub mod Hears
+pub mod Watching
+pub mod inner
