@@ -1,0 +1,5 @@
+pub mod Carried
+pub mod OfRun
+pub mod Relay
+pub mod Scenes
+pub mod inner
