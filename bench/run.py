@@ -34,6 +34,8 @@ ENCODINGS = 50_000
 WRITES = 50_000
 # the kinds of scripts.py, each with how many it is measured with, and then with twice as many
 SCRIPTS = {"mixed": 2_000, "calls": 20_000, "flows": 1_000, "one": 200_000, "legs": 5_000, "apart": 1_000, "callbacks": 150_000}
+# the kinds of those with a relay desk, each with how many it is measured with, and then with twice as many
+DESKS = {"desk": 100_000, "shown": 100_000}
 # the other commands, each with what makes its input (none: the trace of a script, or nothing), a kind of it, and how much of it is
 # measured, and then twice as much, which has to stay below the greatest input
 OTHERS = [
@@ -282,6 +284,15 @@ def tones(program, modem, folder):
         print(f"{kind:>10} {count:>8} {run:8.3f} {samples:8.3f} {toned:8.3f} {(toned - samples) / run:6.2f} {twice:8.3f} {twice / toned:6.2f}")
 
 
+def relays(program, folder):
+    """The processor time of `relay` with many desk requests pending, and that of twice as many."""
+    print("\nScripts with a relay desk: processor time of `ecall relay`, and of twice as much")
+    print(f"{'kind':>10} {'count':>8} {'relay':>8} {'doubled':>8} {'ratio':>6}")
+    for kind, count in DESKS.items():
+        [once], [twice] = (least([[program, "relay"]], write_script(folder, kind, n)) for n in (count, 2 * count))
+        print(f"{kind:>10} {count:>8} {once:8.3f} {twice:8.3f} {twice / once:6.2f}")
+
+
 def instructions(command, text):
     """How many instructions a command needs for this input."""
     run = ["valgrind", "--tool=cachegrind", "--cache-sim=no", "--cachegrind-out-file=/dev/null", *command]
@@ -389,6 +400,7 @@ def main(program):
         encodes(program, plain, folder)
         plays(program, plain, folder)
         others(program, plain, folder)
+        relays(program, folder)
         modem = attempt("the modem as a plain loop", plain_modem, os.path.join(folder, "plain_modem"))
         if modem:
             attempt("a frame as samples", lambda here: frames_alone(modem, here), os.path.join(folder, "modem"))

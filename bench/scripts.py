@@ -7,7 +7,9 @@
     one       one call in which COUNT frames are handed over
     legs      COUNT calls whose point legs stay up, then long ticks
     apart     the same, with six seconds between the calls
-    callbacks COUNT calls placed by the point, hung up at once, with almost a whole standby between them"""
+    callbacks COUNT calls placed by the point, hung up at once, with almost a whole standby between them
+    desk      for `relay`: a set that is passed on COUNT times, of which nothing comes back: a hundred single ticks, then long ones
+    shown     for `relay`: the same, but each arrives, twice, and is done"""
 import sys
 
 FACTS = """vin WM9VDSVDSYA123456
@@ -71,7 +73,30 @@ def callbacks(count):
         yield f"callback\nhangup {k}\ntick 431999\n"
 
 
-KINDS = {kind.__name__: kind for kind in (mixed, calls, flows, one, legs, apart, callbacks)}
+def passed(count):
+    yield "trigger auto\nanswer\ndeliver up 1 1\ndeliver down 1 1\ndeliver up 1 2\n"
+    for _ in range(count):
+        yield "pass 1\n"
+
+
+def desk(count):
+    yield from passed(count)
+    for _ in range(100):
+        yield "tick 1\n"
+    for _ in range(100):
+        yield "tick 4000000\n"
+
+
+def shown(count):
+    yield from passed(count)
+    for k in range(count, 0, -1):
+        yield f"hand forth {k}\nhand forth {k}\n"
+    for k in range(2 * count, 0, -1):
+        yield f"hand back {k}\n"
+    yield "tick 4000000\n"
+
+
+KINDS = {kind.__name__: kind for kind in (mixed, calls, flows, one, legs, apart, callbacks, desk, shown)}
 
 
 def main(kind, count):

@@ -23,12 +23,12 @@ function expect(what, got, wanted) {
   if (got !== wanted) faults.push(`${what}: ${got}, and not ${wanted}`);
 }
 
-/** How often each item stands in a trace, counted from its lines alone. */
+/** How often each item stands in a trace, counted from its lines alone. Items of a relay desk have no mark. */
 function itemsOf(trace) {
   const counts = {};
   for (const line of trace.split('\n')) {
     const found = /^\d+ ([a-z]+)/.exec(line);
-    if (found) counts[found[1]] = (counts[found[1]] ?? 0) + 1;
+    if (found && found[1] !== 'relay') counts[found[1]] = (counts[found[1]] ?? 0) + 1;
   }
   return counts;
 }
@@ -97,6 +97,17 @@ function checkReadme() {
   rmSync(folder, { recursive: true });
 }
 
+/** Lines of a relay desk are no entries: the picture passes them over, and the program says how many. */
+function checkDesk() {
+  const trace = stored('second-point.trace'), lines = trace.split('\n');
+  const { entries, others } = readTrace(trace);
+  const ofDesk = lines.flatMap((line, index) => (line.split(' ')[1] === 'relay' ? [index + 1] : []));
+  expect('relay desk: entries', entries.length, lines.length - 1 - ofDesk.length);
+  expect('relay desk: lines passed over', others.join(), ofDesk.join());
+  const said = spawnSync('node', [`${ROOT}page/chart.mjs`], { input: trace, encoding: 'utf8' }).stderr;
+  expect('relay desk: what is said', said, `chart: ${ofDesk.length} lines are no entries, the first is line ${ofDesk[0]}\n`);
+}
+
 /** What stands in a trace is text in the picture, and never an element of it. */
 function checkEscapes() {
   const picture = chartOf('0 up vehicle 1\n1 down vehicle 1 <script>&"\n');
@@ -114,6 +125,7 @@ for (const file of readdirSync(EXAMPLES).sort()) {
 checkWindows();
 checkProgram();
 checkReadme();
+checkDesk();
 checkEscapes();
 faults.forEach(fault => process.stdout.write(`check: ${fault.slice(0, 300)}\n`));
 process.stdout.write(`check: ${tried} tried in Node, ${faults.length} failed\n`);

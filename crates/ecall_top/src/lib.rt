@@ -18,6 +18,9 @@ ghost use Rattle.script_stage.specs.ScriptTrace.{script_tick, script_trace};
 ghost use Rattle.script_commands.specs.Run.{run_reply};
 ghost use Rattle.tones_command.specs.Modem.{NoiseFrom};
 ghost use Rattle.tones_command.specs.Tones.{toned_script, tones_reply};
+ghost use Rattle.relay_command.specs.Carried.{IsCarried};
+ghost use Rattle.relay_command.specs.OfRun.{of_world, script_without_orders};
+ghost use Rattle.relay_command.specs.Relay.{relay_trace};
 ghost use Rattle.ecall_top.specs.inner.Ends.{CommandEnds, HandsOver};
 
 #[cfg(test)]
@@ -33,6 +36,7 @@ pub use command::Command;
 pub use command_base::{Refused, Status};
 pub use laws::reply_laws;
 use link_frames::Steps;
+use relay_command::play_relay;
 use script_commands::{keep_register, make_script, replay_trace, run_script, try_script};
 use set_commands::{decode_sets, encode_sets, read_frames, write_vectors};
 use std::alloc::Global;
@@ -41,7 +45,7 @@ use tones_command::play_tones;
 
 /// What the program says to words that are no form of words.
 const USAGE: &[u8] =
-    b"usage: ecall run|register|decode|encode|frames|replay|trial N|make N|conform|tones L N\n";
+    b"usage: ecall run|register|decode|encode|frames|replay|trial N|make N|conform|tones L N|relay\n";
 
 /// Carries out the command that the words name, the program's own name not among them: reads `input`, writes `output`,
 /// and answers how that ended.
@@ -62,6 +66,8 @@ const USAGE: &[u8] =
 /// nothing.
 /// `tones L N` plays a script as `run` does, where each `deliver` line hands its frame over through a modem on a line
 /// with noise of at most L in each sample, 0 to 1499, drawn from the number N on; a line whose frame is lost says nothing.
+/// `relay` plays a script as `run` does, with a relay desk behind the point: its script has the lines `pass`, `hand forth`
+/// and `hand back` besides, and its trace the items of the desk and of the second point. It takes memory for the desk, too.
 ///
 /// What is written is handed to `output` in blocks: where one is full, before each read of `input`, and at the end.
 /// After a failed read or write nothing more is read or written. `moments` counts how often the commands that
@@ -106,6 +112,14 @@ pub fn ecall<I: Source, O: Sink, L: Ledger>(
         Safe (script_trace (toned_script noise script)) (script_tick (toned_script noise script)) }
     ensures faint { (noise : NoiseFrom) (script : List ℕ) → noise.most ≤ 500 →
         tones_reply noise script ≡ run_reply script }
+    // The entries that `relay` writes are those of `run` for the lines in front of the first that is refused, without the
+    // orders to the desk, of which `run` refuses none.
+    ensures relayed { (script : List ℕ) →
+        of_world (relay_trace script) ≡ script_trace (script_without_orders script) }
+    ensures accepted { (script : List ℕ) → (script_without_orders script).refused ≡ None }
+    // What the second point shows was sent by the vehicle and shown by the point before, octet for octet, and each desk
+    // request's set is shown there once; and a desk request that is done was shown there.
+    ensures carried { (script : List ℕ) → IsCarried (relay_trace script) }
     // However `run` ended, the whole lines that it wrote are those of a safe trace, or of one and of the line that
     // refuses a line of the script.
     ensures cut { command_of (map string_bytes words.now) ≡ Some Command.Run → (before written : List ℕ) →
@@ -187,6 +201,7 @@ fn reply<I: Source, O: Sink, L: Ledger>(
         Some(Command::Trial(number)) => try_script(alloc, *number, output, moments),
         Some(Command::Conform) => write_vectors(output),
         Some(Command::Tones(noise)) => play_tones(alloc, noise, input, output, moments),
+        Some(Command::Relay) => play_relay(alloc, input, output, moments),
         None => usage(output),
     }
 }

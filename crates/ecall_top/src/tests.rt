@@ -91,7 +91,7 @@ fn expect(
 }
 
 /// Words that name no command.
-const OTHER_WORDS: [&str; 11] = [
+const OTHER_WORDS: [&str; 12] = [
     "run fast",
     "decode all",
     "conform 1",
@@ -101,6 +101,7 @@ const OTHER_WORDS: [&str; 11] = [
     "tones 500",
     "tones 1500 1",
     "tones 01 1",
+    "relay 1",
     "--help",
     "",
 ];
@@ -108,7 +109,7 @@ const OTHER_WORDS: [&str; 11] = [
 #[test]
 fn refuses_other_words(rt: HostRuntime) -> Result<(), Fail> {
     let usage =
-        "usage: ecall run|register|decode|encode|frames|replay|trial N|make N|conform|tones L N\n";
+        "usage: ecall run|register|decode|encode|frames|replay|trial N|make N|conform|tones L N|relay\n";
     for words in &OTHER_WORDS {
         expect(&rt, rt.alloc(), words, "", Status::Usage, usage)?;
     }
@@ -116,7 +117,7 @@ fn refuses_other_words(rt: HostRuntime) -> Result<(), Fail> {
 }
 
 /// Words that name commands, an input, and what is written.
-const COMMANDS: [(&str, &str, &str); 7] = [
+const COMMANDS: [(&str, &str, &str); 8] = [
     ("run", "set 02\ntrigger auto\n", "0 dial 1\n"),
     ("register", "set 02\ntrigger auto\n", "[]\n"),
     ("decode", "\n", ""),
@@ -124,6 +125,11 @@ const COMMANDS: [(&str, &str, &str); 7] = [
     ("frames", "01\n", "init\nrest 0\n"),
     ("replay", "0 dial 1\n", "sound 1\n"),
     ("tones 500 1", "set 02\ntrigger auto\n", "0 dial 1\n"),
+    (
+        "relay",
+        "set 02\ntrigger auto\npass 1\n",
+        "0 dial 1\n0 relay unshown 1\n",
+    ),
 ];
 
 #[test]

@@ -74,7 +74,8 @@ fn reply_in_place<I: Source, O: Sink>(
         | Command::Register
         | Command::Replay
         | Command::Trial(_)
-        | Command::Tones(_) => { unreachable!() }
+        | Command::Tones(_)
+        | Command::Relay => { unreachable!() }
     }
 }
 

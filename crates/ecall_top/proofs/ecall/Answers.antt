@@ -13,6 +13,8 @@ use Rattle.ecall_top.proofs.WholeAnswers.{complete_answer}
 use Rattle.script_commands.proofs.SafelyCut.{run_cut}
 use Rattle.tones_command.specs.Tones.{toned_script}
 use Rattle.tones_command.proofs.FaintScripts.{faint_reply}
+use Rattle.relay_command.proofs.AsRun.{relay_accepted, relay_as_run}
+use Rattle.relay_command.proofs.CarriedTraces.{relay_carried}
 use Rattle.ecall_top.proofs.ecall.Goals as goal
 
 pub returns-clause-agreed : goal.returns-clause-agreed
@@ -32,6 +34,15 @@ returns-clause-toned g c = λ noise script. script_safe (toned_script noise scri
 
 pub returns-clause-faint : goal.returns-clause-faint
 returns-clause-faint g c = faint_reply
+
+pub returns-clause-relayed : goal.returns-clause-relayed
+returns-clause-relayed g c = relay_as_run
+
+pub returns-clause-accepted : goal.returns-clause-accepted
+returns-clause-accepted g c = relay_accepted
+
+pub returns-clause-carried : goal.returns-clause-carried
+returns-clause-carried g c = relay_carried
 
 pub returns-clause-outcome : goal.returns-clause-outcome
 returns-clause-outcome g c =
