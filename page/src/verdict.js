@@ -26,7 +26,7 @@ const SET_REASONS = {
   2: value => `the number ${value}, which is above its range`,
   3: value => `a length whose eight bits begin with 1 and read ${value}`,
   4: value => `a small number whose seven bits begin with 1 and read ${value}`,
-  5: value => `a section of ${value} additions, none of them present`,
+  5: value => value === '1' ? "a section of one addition, which isn't present" : `a section of ${value} additions, none of them present`,
   6: () => 'an addition without octets',
   7: value => (value === '0' ? 'an object identifier without octets' : `an octet ${value} that no object identifier has there`),
   8: value => `the format ${value}, where 1 and 2 are the only ones`,
@@ -42,7 +42,7 @@ function whyRefused([kind, ...numbers]) {
   }
   if (kind === 'frame') {
     const [place, fault, octet] = numbers;
-    return `no frame goes on with the octet ${octet}, ${FRAME_FAULTS[fault] ?? 'refused'}; ${place} octets of the stream stand before it (fault ${fault})`;
+    return `no frame goes on with the octet ${octet} at place ${place} of the stream from 0, ${FRAME_FAULTS[fault] ?? 'refused'} (fault ${fault})`;
   }
   return `${LINE_REASONS[kind] ?? 'refused'} (reason ${kind})`;
 }

@@ -187,8 +187,7 @@ fn write_frame<W: fmt::Write>(
     let code = fault.fault.code();
     write!(
         f,
-        "line {line}: no frame goes on with the octet {octet}, {wrong}; {place} octets of the stream stand before it \
-        (fault {code})"
+        "line {line}: no frame goes on with the octet {octet} at place {place} of the stream from 0, {wrong} (fault {code})"
     )
 }
 
@@ -219,6 +218,9 @@ fn write_set_fault<W: fmt::Write>(
                 f,
                 "a small number whose seven bits begin with 1 and read {value}"
             )
+        }
+        SetReason::NoAddition if value == 1 => {
+            write!(f, "a section of one addition, which isn't present")
         }
         SetReason::NoAddition => write!(f, "a section of {value} additions, none of them present"),
         SetReason::EmptyOpen => write!(f, "an addition without octets"),

@@ -103,6 +103,11 @@ fn explains_elements(rt: HostRuntime) -> Result<(), Fail> {
             "a section of 5 additions, none of them present, at bit 237 from 0 (reason 5)",
         ),
         (
+            SetReason::NoAddition,
+            1,
+            "a section of one addition, which isn't present, at bit 237 from 0 (reason 5)",
+        ),
+        (
             SetReason::EmptyOpen,
             0,
             "an addition without octets, at bit 237 from 0 (reason 6)",
@@ -180,11 +185,11 @@ fn expect_frame(
 #[test]
 fn explains_frames(rt: HostRuntime) -> Result<(), Fail> {
     let alloc = rt.alloc();
-    let text = "7, which is no kind from 1 to 6; 4 octets of the stream stand before it (fault 1)";
+    let text = "7 at place 4 of the stream from 0, which is no kind from 1 to 6 (fault 1)";
     expect_frame(alloc, &rt, Fault::Kind, 7, text)?;
-    let text = "0, where a request is 1 or more; 4 octets of the stream stand before it (fault 2)";
+    let text = "0 at place 4 of the stream from 0, where a request is 1 or more (fault 2)";
     expect_frame(alloc, &rt, Fault::Number, 0, text)?;
-    let text = "9, where an answer is 1 or 2; 4 octets of the stream stand before it (fault 3)";
+    let text = "9 at place 4 of the stream from 0, where an answer is 1 or 2 (fault 3)";
     expect_frame(alloc, &rt, Fault::Answer, 9, text)
 }
 
@@ -220,34 +225,52 @@ fn explains_a_broken_rule(rt: HostRuntime) -> Result<(), Fail> {
     Ok(())
 }
 
+/// Checks with what the sentence of a status begins, after a command with this word.
+fn expect_start(
+    alloc: Global,
+    rt: &impl Abort,
+    status: Status,
+    word: Option<&str>,
+    text: &str,
+) -> Result<(), Fail> {
+    let why = Explanation { status, word };
+    assert!(rt;
+        format!(in alloc; "{why}")?.as_str().starts_with(text),
+        "{text}"
+    );
+    Ok(())
+}
+
 #[test]
-fn explains_words_and_faults(rt: HostRuntime) -> Result<(), Fail> {
+fn explains_words(rt: HostRuntime) -> Result<(), Fail> {
     let table = [
+        (None, "no command was given:\n  ecall run < SCRIPT "),
         (
-            Status::Usage,
-            None,
-            "no command was given:\n  ecall run < SCRIPT ",
-        ),
-        (
-            Status::Usage,
             Some("make"),
             "`make` wants one number, 0 to 4294967295 without leading zeros, as in `ecall make 0`",
         ),
         (
-            Status::Usage,
             Some("--help"),
             "`--help` is no command:\n  ecall run < SCRIPT ",
         ),
         (
-            Status::Usage,
             Some("decode"),
             "`decode` takes no further words: it reads standard input, as in `ecall decode < FILE`",
         ),
         (
-            Status::Usage,
             Some("tones"),
             "`tones` wants two numbers, 0 to 1499 and 0 to 4294967295 without leading zeros",
         ),
+    ];
+    for (word, text) in &table {
+        expect_start(rt.alloc(), &rt, Status::Usage, *word, text)?;
+    }
+    Ok(())
+}
+
+#[test]
+fn explains_lines_and_faults(rt: HostRuntime) -> Result<(), Fail> {
+    let table = [
         (
             Status::Refused(Refused::Line(BadLine {
                 line: 2,
@@ -278,14 +301,7 @@ fn explains_words_and_faults(rt: HostRuntime) -> Result<(), Fail> {
         ),
     ];
     for (status, word, text) in &table {
-        let why = Explanation {
-            status: *status,
-            word: *word,
-        };
-        assert!(rt;
-            format!(in rt.alloc(); "{why}")?.as_str().starts_with(text),
-            "{text}"
-        );
+        expect_start(rt.alloc(), &rt, *status, *word, text)?;
     }
     Ok(())
 }
