@@ -1,7 +1,7 @@
 -- A floor of vehicles at one point: its state, what a turn of one vehicle does in it, and the unit tick. A vehicle,
 -- with the calls that were drawn for it, is a world, and does there what a vehicle alone does; what they share is the
 -- tick, the flows, and the call numbers, which are drawn for the whole floor. This project's profile. Cited by the
--- laws of this crate, and by the listener `Tagged`.
+-- contracts of `Floor`, by the laws of this crate, and by the listener `Tagged`.
 use Rattle.std.specs.Prelude.{ℕ, zero, suc, List, [], ◌∷◌, ◌++◌, ◌+◌, ◌==◌, Option, Some, None, option_map, length, map, nat_lt, if◌then◌else◌}
 use Rattle.msd_fit.specs.declared.facts.Facts.{Facts}
 use Rattle.ivs_machine.specs.Vehicle.{Vehicle, first_vehicle}

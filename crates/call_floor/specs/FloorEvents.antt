@@ -1,5 +1,6 @@
 -- The event lines of a floor's script: those of a vehicle, those that name a call, and those of all. Each is a line
--- that a vehicle has alone. This project's profile. Cited by `FloorEvent::of`, and by the laws of this crate.
+-- that a vehicle has alone. This project's profile. Cited by the contracts of `FloorEvent` and of `Floor`, and by the
+-- laws of this crate.
 use Rattle.std.specs.Prelude.{ℕ, Option, Some, None, option_map}
 use Rattle.link_frames.specs.declared.frame.End.TheVariants as «end»
 use Rattle.trace_model.specs.declared.event.Event.{Event}

@@ -1,6 +1,6 @@
 -- What every floor of the definitions keeps: the vehicles stand by number, and each one's calls, as far as the floor
 -- still knows of them, were drawn for it. It holds at first, and each step keeps it. This project's profile. Cited by
--- the laws of this crate.
+-- the laws of this crate, and by the relation of a `Floor` to the floor.
 use Rattle.std.specs.Prelude.{◌≡◌, ◌≤◌, ℕ, List, IfSome, length, map}
 use Rattle.trace_model.specs.declared.entry.Entry.{Entry}
 use Rattle.channel_sim.specs.Fit.{Fit}

@@ -3,6 +3,7 @@ pub mod FloorEvents
 pub mod FloorFault
 pub mod FloorKept
 pub mod FloorLines
+pub mod FloorStands
 pub mod inner
 pub mod Numbers
 pub mod Parts

@@ -1,5 +1,6 @@
 -- One vehicle's part of a floor: its lines, its entries, and its world, with each of its calls numbered by its place
--- among the calls that were drawn for it. This project's profile. Cited by the laws of this crate.
+-- among the calls that were drawn for it. This project's profile. Cited by the contracts of `Floor`, and by the laws of
+-- this crate.
 use Rattle.std.specs.Prelude.{◌≡◌, ℕ, zero, suc, Bool, List, [], ◌∷◌, ◌++◌, ◌==◌, Option, Some, None, map, option_map, if◌then◌else◌}
 use Rattle.trace_model.specs.declared.entry.Entry.{Entry}
 use Rattle.trace_model.specs.declared.event.Event.{Event}

@@ -21,3 +21,8 @@ TaggedGrew grew old new entries =
     (heard_name new ≡ heard_name old)
     × (new.vehicle ≡ old.vehicle)
     × grew (heard old) (heard new) (map (entry_of old.vehicle) entries)
+
+-- Still the same listener is borrowed, as of whatever vehicle, and it grew by these entries.
+abbrev pub FloorGrew :
+    {H : Type 0} → (H → H → List FloorEntry → Type 0) → (old new : Tagged H) → List FloorEntry → Type 0
+FloorGrew grew old new entries = (heard_name new ≡ heard_name old) × grew (heard old) (heard new) entries

@@ -1,4 +1,6 @@
--- What is cited by the proofs of the laws, and by the laws of a listener, alone.
+-- What is cited by private functions and by laws alone.
+pub mod Changes
+pub mod FloorAt
 pub mod Order
 pub mod Placed
 pub mod Subjects

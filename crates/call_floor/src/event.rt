@@ -123,7 +123,45 @@ pub enum FloorEvent {
 }
 
 ghost use Rattle.std.specs.Prelude.{◌≡◌, Some};
-ghost use Rattle.call_floor.specs.FloorEvents.{floor_event, as_vehicle, as_other};
+ghost use Rattle.call_floor.specs.FloorEvents.{vehicle_event, call_event, floor_event, as_vehicle, as_other};
+
+/// The line of a vehicle as one that vehicle has alone.
+pub(crate) fn alone_event(line: &VehicleLine) -> Event
+    ensures { result ≡ vehicle_event line.now }
+{
+    match line {
+        VehicleLine::Trigger(cause) => Event::Trigger(*cause),
+        VehicleLine::Cancel => Event::Cancel,
+        VehicleLine::Net(up) => Event::Net(*up),
+        VehicleLine::Answer => Event::Answer,
+        VehicleLine::Fail => Event::Fail,
+        VehicleLine::Callback => Event::Callback,
+        VehicleLine::Sleep => Event::Sleep,
+        VehicleLine::Fault => Event::FaultVehicle,
+        VehicleLine::Drop => Event::DropVehicle,
+        VehicleLine::Reset => Event::Reset(End::Vehicle),
+    }
+}
+
+/// The line that names a call as the line of a script of one vehicle.
+pub(crate) fn named_event(call: Positive, line: &CallLine) -> Event
+    ensures { result ≡ call_event call line.now }
+{
+    match line {
+        CallLine::Fault => Event::FaultPoint(call),
+        CallLine::Damaged => Event::Damaged(call),
+        CallLine::Request => Event::Request(call),
+        CallLine::Clear => Event::Clear(call),
+        CallLine::Hangup => Event::Hangup(call),
+        CallLine::DropPoint => Event::DropPoint(call),
+        CallLine::DropBoth => Event::DropBoth(call),
+        CallLine::Deliver { up, k } => Event::Deliver {
+            up: *up,
+            call,
+            k: *k,
+        },
+    }
+}
 
 /// The line of a vehicle that says this, if it is one of a vehicle.
 fn vehicle_line(event: &Event) -> Option<VehicleLine>

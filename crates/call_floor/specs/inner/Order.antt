@@ -1,4 +1,4 @@
--- Calls in order. Cited by the proofs of the laws alone.
+-- Calls in order. Cited by the private functions of `Floor` alone.
 use Rattle.std.specs.Prelude.{ℕ, List, map}
 use Rattle.channel_sim.specs.Tidy.{AreAbove}
 use Rattle.channel_sim.specs.World.{Call}

@@ -1,5 +1,5 @@
--- What a line that a vehicle has alone speaks of, and the line with other numbers for its calls. Cited by the proofs of
--- the laws alone.
+-- What a line that a vehicle has alone speaks of, and the line with other numbers for its calls. Cited by the private
+-- functions of `Floor` alone.
 use Rattle.std.specs.Prelude.{ℕ}
 use Rattle.link_frames.specs.declared.frame.End.TheVariants as «end»
 use Rattle.trace_model.specs.declared.event.Event.{Event}
