@@ -4,6 +4,8 @@ use link_frames::End;
 use std::process::Abort;
 use trace_model::{Event, Positive};
 
+mod plays;
+
 /// The line behind this number of a vehicle, or behind none where it is 0.
 fn line(vehicle: u8, event: Event) -> Option<FloorEvent> {
     FloorEvent::of(VehicleNumber::new(vehicle), &event)
