@@ -1,5 +1,5 @@
 -- A turn in the midst of a tick, of a vehicle that acts, or of one that sleeps.
-use Rattle.std.proofs.Common.{◌≡◌, ℕ, zero, suc, Bool, true, false, List, [], ◌∷◌, ◌==◌, ◌+◌, ◌<◌, ◌≤◌, ◌⊎◌, inl, inr, Option, Some, None, IfSome, length, get_or, set, slice_get, if◌then◌else◌, refl, ap, sym, ◌∙◌, subst, arith, ne_eqb}
+use Rattle.std.proofs.Common.{◌≡◌, ℕ, zero, suc, Bool, true, false, List, [], ◌∷◌, ◌+◌, ◌<◌, ◌≤◌, ◌⊎◌, inl, inr, Some, None, IfSome, length, get_or, set, slice_get, if◌then◌else◌, refl, ap, sym, ◌∙◌, subst, arith, ne_eqb}
 use Rattle.std.proofs.lemmas.List.{length-map}
 use Rattle.std.proofs.lemmas.Option.{slice_get_read}
 use Rattle.channel_sim.specs.Lag.{AreSameBut, StandsAt}
@@ -12,9 +12,9 @@ use Rattle.call_floor.specs.declared.seat.Seat as kept_seat
 use Rattle.call_floor.specs.declared.listener.Tagged.{Tagged}
 use Rattle.call_floor.specs.Floor.{Floor, FloorStep, Stand, own, stand_of, turn, turn_in, quiet_floor, entry_of}
 use Rattle.call_floor.specs.Tagged.{FloorGrew, TaggedGrew}
-use Rattle.call_floor.specs.inner.FloorAt.{Relation, SeatIs, SeatsAre, FloorIs, IsSeat, IsAmid, Amid, Sleeps, AreSameBelow, turn_if, passes_of, numbers_of}
+use Rattle.call_floor.specs.inner.FloorAt.{SeatIs, SeatsAre, FloorIs, IsSeat, IsAmid, Amid, Sleeps, AreSameBelow, turn_if, passes_of, numbers_of}
 use Rattle.call_floor.proofs.Apart.{Still}
-use Rattle.call_floor.proofs.SeatTurn.{SeatHere, SeatFound, seat_found, seat_here, turn_told_at, turn_kept, OthersStay, still_line, own_behind, turn_says, turn_hands}
+use Rattle.call_floor.proofs.SeatTurn.{SeatHere, seat_here, turn_told_at, turn_kept, OthersStay, still_line, own_behind, turn_says, turn_hands}
 use Rattle.call_floor.proofs.TurnWorlds.{any}
 
 -- the vehicle at a place acts, or it sleeps

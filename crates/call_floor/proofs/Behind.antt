@@ -1,14 +1,14 @@
 -- One part of a step, and then another: what was told by both, and what stands behind them.
-use Rattle.std.proofs.Common.{◌≡◌, ℕ, Bool, List, [], ◌++◌, ◌+◌, Result, Ok, Err, refl, ◌∙◌}
+use Rattle.std.proofs.Common.{◌≡◌, ℕ, Bool, List, [], ◌++◌, Result, Ok, Err, refl, ◌∙◌}
 use Rattle.call_floor.specs.declared.entry.FloorEntry.{FloorEntry}
 use Rattle.call_floor.specs.declared.listener.Tagged.{Tagged}
 use Rattle.call_floor.specs.declared.live.Live as kept_live
 use Rattle.call_floor.specs.declared.seat.Seat as kept_seat
 use Rattle.call_floor.specs.Floor.{Floor, FloorStep, and_then, calls_of, session_turns, vehicle_turns}
 use Rattle.call_floor.specs.Tagged.{heard, FloorGrew}
-use Rattle.call_floor.specs.inner.FloorAt.{Came, Relation, ends_if, flow_turns, flows_if, sessions_if, vehicles_if}
+use Rattle.call_floor.specs.inner.FloorAt.{Came, Relation, ends_if, flow_turns, flows_if, vehicles_if}
 use Rattle.call_floor.specs.inner.Placed.{IsReady}
-use Rattle.call_floor.proofs.LiveCalls.{ready_flows, ready_sessions, ready_vehicles}
+use Rattle.call_floor.proofs.LiveCalls.{ready_sessions, ready_vehicles}
 use Rattle.call_floor.proofs.LoopFronts.{tick_if}
 
 module _ {H : Type 0} (grew partly : H → H → List FloorEntry → Type 0) where

@@ -1,5 +1,5 @@
 -- The vehicles that rest are passed up to now, one behind the other.
-use Rattle.std.proofs.Common.{◌≡◌, ℕ, zero, suc, List, [], ◌∷◌, ◌+◌, ◌<◌, ◌≤◌, Some, length, get_or, take, refl, ap, sym, ◌∙◌, subst, arith}
+use Rattle.std.proofs.Common.{◌≡◌, ℕ, zero, suc, List, [], ◌∷◌, ◌+◌, ◌<◌, Some, length, get_or, take, refl, ap, sym, ◌∙◌, subst, arith}
 use Rattle.channel_sim.specs.World.{World}
 use Rattle.channel_sim.specs.World as world
 use Rattle.channel_sim.specs.WorldStands.{WorldStandsFor}

@@ -2,14 +2,14 @@
 use Rattle.std.proofs.Common.{◌≡◌, ℕ, zero, suc, Bool, true, false, List, [], ◌∷◌, ◌++◌, ◌+◌, ◌<◌, ◌≤◌, inl, inr, Option, Some, None, length, map, get_or, take, drop, replicate, if◌then◌else◌, refl, ap, sym, ◌∙◌, subst, arith, append_assoc}
 use Rattle.channel_sim.specs.declared.calls.due.Due as kept_due
 use Rattle.channel_sim.specs.Handing.{alone, due_in_call, due_of, flow_way, hands_way, sent_way}
-use Rattle.channel_sim.specs.World.{Call, World, Step, Due, call_of, due_in}
+use Rattle.channel_sim.specs.World.{Call, World, call_of, due_in}
 use Rattle.call_floor.specs.declared.live.Live as kept_live
-use Rattle.call_floor.specs.Floor.{Floor, FloorStep, Stand, Turn, Placed, stand_of, own, own_of, calls_at, placed, calls_from, calls_of, hand_turns, due_turns}
-use Rattle.call_floor.specs.FloorStands.{IsDown, IsOf, AreLive}
+use Rattle.call_floor.specs.Floor.{Floor, Stand, Turn, stand_of, own, own_of, calls_at, placed, calls_from, hand_turns, due_turns}
+use Rattle.call_floor.specs.FloorStands.{IsOf, AreLive}
 use Rattle.call_floor.specs.inner.FloorAt.{call_turns, call_turns_in, flow_of, flow_turns, listed_turns, numbers_of, plays_if}
 use Rattle.call_floor.proofs.Gone.{Named}
 use Rattle.call_floor.proofs.LiveCalls.{live_named, got}
-use Rattle.call_floor.proofs.Sleeping.{calls_in, calls_own, kept_turns, kept_append, kept_hands, append_none, due_more, same_kept}
+use Rattle.call_floor.proofs.Sleeping.{kept_turns, kept_append, kept_hands, append_none, due_more, same_kept}
 use Rattle.call_floor.proofs.UnitApart.{due_none}
 
 -- those of these calls, one behind the other

@@ -1,6 +1,6 @@
 -- The loop over elapsed time: from the ticks so far to those behind the next moment, or to the end of the line; and what
 -- stands behind it.
-use Rattle.std.proofs.Common.{◌≡◌, ℕ, zero, suc, Bool, true, false, max, nat_le, List, [], ◌∷◌, ◌++◌, ◌+◌, ◌<◌, ◌≤◌, ◌⊎◌, inl, inr, Option, Some, None, option_map, refl, ap, sym, ◌∙◌, subst, arith}
+use Rattle.std.proofs.Common.{◌≡◌, ℕ, zero, suc, Bool, true, false, max, nat_le, List, [], ◌∷◌, ◌++◌, ◌+◌, ◌<◌, ◌≤◌, ◌⊎◌, inl, inr, Some, refl, ap, sym, ◌∙◌, subst, arith}
 use Rattle.std.proofs.lemmas.Bool.{leb-true, leb-false}
 use Rattle.std.specs.List.{AllByRecursion}
 use Rattle.channel_sim.specs.Tidy.{AreAbove}
@@ -17,9 +17,9 @@ use Rattle.call_floor.specs.FloorLines.{ends}
 use Rattle.call_floor.specs.FloorStands.{AreLive}
 use Rattle.call_floor.specs.Tagged.{heard, FloorGrew}
 use Rattle.call_floor.specs.inner.FloorAt.{FloorIs, Resting, numbers_of, passes_of}
-use Rattle.call_floor.specs.inner.Placed.{InPlace, IsReady}
+use Rattle.call_floor.specs.inner.Placed.{InPlace}
 use Rattle.call_floor.proofs.Apart.{AllStill}
-use Rattle.call_floor.proofs.Elapsing.{kept_ready, kept_units, ready_units, units_sum, units_tick}
+use Rattle.call_floor.proofs.Elapsing.{kept_ready, ready_units, units_sum, units_tick}
 use Rattle.call_floor.proofs.Loops.{passes_front, passes_more}
 use Rattle.call_floor.proofs.Moment.{Jumped, quiet_jump, there, some_world}
 use Rattle.call_floor.proofs.Paired.{FoundIn, found_all}

@@ -1,7 +1,6 @@
 -- From one tick at which something happens to the next, on the definitions' floor and on the one that is kept.
-use Rattle.std.proofs.Common.{◌≡◌, ℕ, zero, suc, Bool, true, false, List, [], ◌∷◌, ◌++◌, ◌+◌, ◌<◌, ◌≤◌, ◌⊎◌, inl, inr, Option, Some, None, IfSome, length, nat_le, option_map, refl, ap, sym, ◌∙◌, subst, arith}
+use Rattle.std.proofs.Common.{◌≡◌, ℕ, zero, suc, false, List, [], ◌∷◌, ◌++◌, ◌+◌, ◌<◌, ◌≤◌, ◌⊎◌, Option, Some, None, IfSome, length, nat_le, option_map, refl, ap, sym, ◌∙◌, subst, arith}
 use Rattle.std.specs.List.{AllByRecursion}
-use Rattle.channel_sim.specs.Tidy.{AreAbove}
 use Rattle.channel_sim.specs.World.{World, Step, hands_up, hands_down}
 use Rattle.channel_sim.specs.World as world
 use Rattle.channel_sim.proofs.Jump.{units_one}
@@ -12,15 +11,15 @@ use Rattle.call_floor.specs.Floor.{Floor, FloorStep, Stand, Turn, stand_of, own,
 use Rattle.call_floor.specs.FloorKept.{IsPlaced, IsKept}
 use Rattle.call_floor.specs.FloorStands.{AreLive}
 use Rattle.call_floor.specs.inner.Changes.{ArePaired, IsWoken}
-use Rattle.call_floor.specs.inner.FloorAt.{Amid, FloorIs, Resting, Rests, SeatIs, SeatsAre, numbers_of, passes_of, unit_if}
+use Rattle.call_floor.specs.inner.FloorAt.{Amid, FloorIs, Resting, passes_of, unit_if}
 use Rattle.call_floor.specs.inner.Placed.{InPlace, IsReady}
 use Rattle.call_floor.proofs.FloorSteps.{in_place, kept_step}
-use Rattle.call_floor.proofs.LiveCalls.{ready_plays, flow_still, live_as}
+use Rattle.call_floor.proofs.LiveCalls.{ready_plays}
 use Rattle.call_floor.proofs.Loops.{passes_then}
-use Rattle.call_floor.proofs.Moment.{Done, Jumped, acts_at, done_all, quiet_jump, quiet_past, rests_silent, there, some_world, tick_of, woken_all, seat_own, marked, IsMarked}
+use Rattle.call_floor.proofs.Moment.{Done, Jumped, acts_at, done_all, quiet_jump, quiet_past, rests_silent, some_world, woken_all, seat_own, marked, IsMarked}
 use Rattle.call_floor.proofs.Sleeping.{SameIf, AreActing, followed_by, quiet_first, turn_tick, unit_acting, unit_alike}
 use Rattle.call_floor.proofs.StillLemmas.{up_still, down_still}
-use Rattle.call_floor.proofs.UnitApart.{due_turns_still, one_later, session_turns_still, units_numbers, vehicles_still}
+use Rattle.call_floor.proofs.UnitApart.{due_turns_still, session_turns_still, vehicles_still}
 use Rattle.std.proofs.Common.{append-nil, add-zero, append_assoc, add_assoc}
 use Rattle.std.proofs.lemmas.Bool.{leb-false}
 

@@ -1,5 +1,5 @@
 -- A line that sets a flow, for each vehicle that is kept, one behind the other.
-use Rattle.std.proofs.Common.{◌≡◌, ℕ, Bool, true, false, List, [], ◌∷◌, ◌++◌, Option, Some, length, map, refl, ap, sym, ◌∙◌, subst}
+use Rattle.std.proofs.Common.{◌≡◌, ℕ, true, false, List, [], Some, length, map, refl, ap, sym, ◌∙◌, subst}
 use Rattle.trace_model.specs.declared.event.Event.{Event}
 use Rattle.trace_model.specs.declared.event.Event.TheVariants as event
 use Rattle.channel_sim.specs.Lines.{step, passes_within}

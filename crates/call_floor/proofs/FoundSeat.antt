@@ -1,5 +1,5 @@
 -- Which vehicle stands at the place that a search of its number gives, and for which one a call number was drawn.
-use Rattle.std.proofs.Common.{◌≡◌, ◌≢◌, ℕ, zero, suc, List, [], ◌∷◌, ◌==◌, ◌+◌, ◌<◌, ◌≤◌, Option, Some, None, IfSome, length, get_or, slice_get, if◌then◌else◌, refl, ap, sym, ◌∙◌, arith, ne_eqb}
+use Rattle.std.proofs.Common.{◌≡◌, ◌≢◌, ℕ, zero, suc, List, [], ◌∷◌, ◌<◌, ◌≤◌, Some, None, IfSome, length, get_or, slice_get, if◌then◌else◌, refl, ap, sym, ◌∙◌, arith, ne_eqb}
 use Rattle.std.specs.List.{AllByRecursion}
 use Rattle.channel_sim.specs.World.{World, Step}
 use Rattle.channel_sim.specs.WorldStands.{NeedsCall}

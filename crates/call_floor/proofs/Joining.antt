@@ -1,5 +1,5 @@
 -- A vehicle takes its place among those that are kept.
-use Rattle.std.proofs.Common.{◌≡◌, ℕ, zero, suc, true, false, List, [], ◌∷◌, ◌++◌, ◌<◌, ◌≤◌, IfSome, length, slice_get, take, drop, nat_lt, if◌then◌else◌, refl, ap, sym, ◌∙◌, subst, arith}
+use Rattle.std.proofs.Common.{ℕ, zero, suc, List, [], ◌∷◌, ◌++◌, ◌<◌, ◌≤◌, IfSome, length, slice_get, take, drop, if◌then◌else◌, sym, subst, arith}
 use Rattle.std.proofs.lemmas.Bool.{lt-ltb, le-ltb}
 use Rattle.std.specs.List.{AllByRecursion}
 use Rattle.call_floor.specs.declared.seat.Seat as kept_seat

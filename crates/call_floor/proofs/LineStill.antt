@@ -1,5 +1,5 @@
 -- A line of one vehicle brings no call of a number that was drawn and has no leg up.
-use Rattle.std.proofs.Common.{◌≡◌, ℕ, zero, suc, Bool, true, false, List, [], ◌∷◌, ◌++◌, ◌==◌, ◌+◌, ◌<◌, ◌≤◌, ◌⊎◌, inl, inr, Option, Some, None, length, map, option_map, slice_get, if◌then◌else◌, refl, ap, sym, ◌∙◌, subst, arith, eqb-true}
+use Rattle.std.proofs.Common.{◌≡◌, ℕ, suc, Bool, true, false, List, [], ◌∷◌, ◌++◌, ◌==◌, ◌+◌, ◌<◌, ◌≤◌, inl, inr, Option, Some, None, length, option_map, slice_get, refl, ap, sym, ◌∙◌, subst, arith, eqb-true}
 use Rattle.std.specs.List.{AllByRecursion}
 use Rattle.link_frames.specs.declared.frame.End.TheVariants as «end»
 use Rattle.link_frames.specs.Row.{Row}
@@ -10,20 +10,20 @@ use Rattle.psap_machine.specs.PointRows as point
 use Rattle.trace_fit.proofs.Lists.{all_append}
 use Rattle.trace_model.specs.declared.event.Event.{Event}
 use Rattle.trace_model.specs.declared.event.Event.TheVariants as event
-use Rattle.channel_sim.specs.World.{Call, World, Step, call_of, each, session_did, vehicle_did}
+use Rattle.channel_sim.specs.World.{Call, World, Step, call_of, each, vehicle_did}
 use Rattle.channel_sim.specs.Lines.{Deed, Does, HandsUp, HandsDown, Answers, CallsBack, with_call, comes_up, deed, deeds_of, when, or_nothing, step}
 use Rattle.channel_sim.specs.WorldStands.{NeedsCall}
 use Rattle.call_floor.specs.declared.live.Live as kept_live
-use Rattle.call_floor.specs.Floor.{Floor, FloorStep, Stand, own, own_of, stand_of, turn}
+use Rattle.call_floor.specs.Floor.{Floor, Stand, own, own_of, stand_of, turn}
 use Rattle.call_floor.specs.FloorStands.{IsDown, IsOf, AreLive}
 use Rattle.call_floor.specs.inner.FloorAt.{numbers_of}
 use Rattle.call_floor.specs.inner.Subjects.{subject, IsTurn}
-use Rattle.call_floor.proofs.Apart.{IsStill, Still}
+use Rattle.call_floor.proofs.Apart.{Still}
 use Rattle.call_floor.proofs.DeedLemmas.{DrawsNone, draws_none}
 use Rattle.call_floor.proofs.EventApart.{TurnOwn, TurnOther, own_turn, other_turn, step_moves, turn_numbers}
 use Rattle.call_floor.proofs.Gone.{Other, no_call}
 use Rattle.call_floor.proofs.LiveCalls.{all_none, down_own, own_down}
-use Rattle.call_floor.proofs.Sleeping.{calls_in, calls_own}
+use Rattle.call_floor.proofs.Sleeping.{calls_in}
 use Rattle.call_floor.proofs.StillLemmas.{still_here, still_both, performs_still, up_still, down_still, vehicle_still, session_still}
 use Rattle.call_floor.proofs.TurnWorlds.{turn_away}
 

@@ -8,7 +8,6 @@ use Rattle.channel_sim.specs.World.{World, Step}
 use Rattle.channel_sim.specs.WorldStands.{WorldStandsFor}
 use Rattle.channel_sim.specs.declared.world.World as kept_world
 use Rattle.call_floor.specs.declared.floor.Floor as kept_floor
-use Rattle.call_floor.specs.declared.live.Live as kept_live
 use Rattle.call_floor.specs.declared.seat.Seat as kept_seat
 use Rattle.call_floor.specs.Floor.{Floor, Stand, stand_of, own, turn, turn_in}
 use Rattle.call_floor.specs.FloorStands.{AreLive, IsOf}

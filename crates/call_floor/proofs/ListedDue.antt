@@ -1,5 +1,5 @@
 -- The frames of one call more are listed as due: the list, and the vehicle, which stays as it was.
-use Rattle.std.proofs.Common.{◌≡◌, ℕ, zero, suc, Bool, true, false, List, [], ◌∷◌, ◌++◌, ◌+◌, ◌-◌, ◌<◌, ◌≤◌, ◌⊎◌, inl, inr, Option, Some, None, Result, Ok, Err, OnOk, length, map, get_or, set, replicate, option_map, if◌then◌else◌, refl, ap, sym, ◌∙◌, subst, arith}
+use Rattle.std.proofs.Common.{◌≡◌, ℕ, zero, suc, Bool, true, false, List, [], ◌∷◌, ◌++◌, ◌+◌, ◌-◌, ◌<◌, ◌≤◌, ◌⊎◌, inl, inr, Some, Result, Ok, Err, OnOk, length, map, get_or, set, replicate, option_map, if◌then◌else◌, refl, ap, sym, ◌∙◌, subst, arith}
 use Rattle.std.proofs.lemmas.List.{length-map}
 use Rattle.channel_sim.specs.declared.calls.due.Due as kept_due
 use Rattle.channel_sim.specs.declared.channel.Channel as kept_channel
@@ -11,7 +11,7 @@ use Rattle.channel_sim.specs.Tidy.{AreAbove}
 use Rattle.channel_sim.specs.World.{World, Due}
 use Rattle.call_floor.specs.declared.seat.Seat as kept_seat
 use Rattle.call_floor.specs.Floor.{Floor, Stand, Turn, hand_turns, own, own_of, stand_of}
-use Rattle.call_floor.specs.inner.FloorAt.{Amid, FloorIs, IsAmid, Relation, Rests, SeatIs, SeatsAre, Sleeps, call_turns, call_turns_in, listed_turns, numbers_of}
+use Rattle.call_floor.specs.inner.FloorAt.{Amid, FloorIs, IsAmid, Rests, SeatIs, SeatsAre, Sleeps, call_turns, call_turns_in, listed_turns, numbers_of}
 use Rattle.call_floor.proofs.ActingTurn.{none_zero}
 
 -- The list looks at no more of a frame than what it is in the definitions.

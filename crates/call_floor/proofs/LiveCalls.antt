@@ -1,5 +1,5 @@
 -- The calls that are kept as live: all with a leg up are among them, through all turns.
-use Rattle.std.proofs.Common.{◌≡◌, ℕ, zero, suc, Bool, true, false, List, [], ◌∷◌, ◌++◌, ◌==◌, ◌||◌, ◌+◌, ◌<◌, ◌≤◌, ◌⊎◌, inl, inr, Option, Some, None, IfSome, length, map, option_map, get_or, drop, slice_get, if◌then◌else◌, refl, ap, sym, ◌∙◌, subst, arith, eqb-true, eq-eqb, ne_eqb, drop-cons}
+use Rattle.std.proofs.Common.{◌≡◌, ℕ, zero, suc, Bool, true, false, List, [], ◌∷◌, ◌++◌, ◌==◌, ◌||◌, ◌+◌, ◌<◌, ◌≤◌, ◌⊎◌, inl, inr, Option, Some, None, length, map, option_map, get_or, drop, slice_get, if◌then◌else◌, refl, ap, sym, ◌∙◌, subst, arith, eqb-true, eq-eqb, ne_eqb}
 use Rattle.std.proofs.lemmas.Bool.{eqb-false}
 use Rattle.std.specs.List.{AllByRecursion}
 use Rattle.channel_sim.specs.Lag.{AreSameBut, StandsAt, CallLags, CallsLag, waits, clock_of}
@@ -8,18 +8,15 @@ use Rattle.channel_sim.specs.declared.calls.call.Call as kept_call
 use Rattle.channel_sim.specs.World.{Call, World, Step, call_of, session_passes}
 use Rattle.call_floor.specs.declared.live.Live as kept_live
 use Rattle.call_floor.specs.declared.seat.Seat as kept_seat
-use Rattle.call_floor.specs.Floor.{Floor, FloorStep, Stand, Turn, Placed, stand_of, own, own_of, calls_at, placed, calls_from, calls_of, turn, plays, vehicle_turns, session_turns}
-use Rattle.call_floor.specs.FloorKept.{IsPlaced, IsKept}
+use Rattle.call_floor.specs.Floor.{Floor, FloorStep, Stand, Turn, stand_of, own_of, calls_at, placed, calls_from, calls_of, turn, plays, vehicle_turns, session_turns}
 use Rattle.call_floor.specs.FloorStands.{IsDown, IsOf, AreLive}
-use Rattle.call_floor.specs.inner.FloorAt.{AreSameBelow, flow_turns, flows_if, numbers_of, plays_if, sessions_if, turn_if, vehicles_if, flow_of}
-use Rattle.call_floor.specs.inner.Order.{AreInOrder}
+use Rattle.call_floor.specs.inner.FloorAt.{AreSameBelow, flow_turns, flows_if, numbers_of, plays_if, sessions_if, vehicles_if, flow_of}
 use Rattle.call_floor.specs.inner.Placed.{IsDrawn, InPlace, IsReady}
-use Rattle.call_floor.proofs.Apart.{Still, AllStill, plays_numbers}
+use Rattle.call_floor.proofs.Apart.{Still, AllStill}
 use Rattle.call_floor.proofs.EventApart.{turn_numbers}
-use Rattle.call_floor.proofs.FloorSteps.{in_place}
 use Rattle.call_floor.proofs.Gone.{Named, Other, no_call, named_turns, names, same_turns, IsGone, IsMore, gone_left_out}
 use Rattle.call_floor.proofs.PlaysLemmas.{apart_above}
-use Rattle.call_floor.proofs.Sleeping.{calls_in, calls_own, turn_own, turn_drawn, turn_tick, kept_turns, plays_kept, way_still}
+use Rattle.call_floor.proofs.Sleeping.{calls_in, calls_own, turn_own, turn_drawn, kept_turns, plays_kept, way_still}
 use Rattle.call_floor.proofs.TurnWorlds.{any, ComesOf, comes_of}
 use Rattle.call_floor.proofs.UnitApart.{stays_in_place, vehicles_still, session_turns_still, due_turns_still}
 use Rattle.channel_sim.specs.Handing.{hands_way, sent_way}

@@ -2,10 +2,9 @@
 use Rattle.std.proofs.Common.{◌≡◌, ℕ, zero, suc, Bool, true, false, List, [], ◌∷◌, ◌==◌, ◌||◌, ◌+◌, ◌<◌, ◌≤◌, Option, Some, length, get_or, map, if◌then◌else◌, refl, ap, sym, ◌∙◌, subst, arith, eq-eqb}
 use Rattle.std.specs.List.{AllByRecursion}
 use Rattle.channel_sim.specs.Lag.{StandsAt, waits, clock_of}
-use Rattle.channel_sim.specs.World.{World, Step}
 use Rattle.call_floor.specs.declared.live.Live as kept_live
 use Rattle.call_floor.specs.declared.seat.Seat as kept_seat
-use Rattle.call_floor.specs.Floor.{Floor, FloorStep, Stand, Turn, own, own_of, quiet_floor, stand_of, turn}
+use Rattle.call_floor.specs.Floor.{Floor, Stand, Turn, own, quiet_floor, stand_of, turn}
 use Rattle.call_floor.specs.inner.FloorAt.{Amid, FloorIs, IsAmid, Relation, SeatIs, SeatsAre, numbers_of, plays_if, turn_if}
 use Rattle.call_floor.specs.inner.Placed.{IsReady}
 use Rattle.call_floor.proofs.Gone.{Named}

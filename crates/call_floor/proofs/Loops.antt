@@ -1,5 +1,5 @@
 -- Turns one behind the other, of those that act: one more, all, and where one fails.
-use Rattle.std.proofs.Common.{◌≡◌, ℕ, zero, suc, Bool, true, false, List, [], ◌∷◌, ◌++◌, ◌+◌, ◌<◌, ◌≤◌, length, map, get_or, take, drop, refl, ap, sym, ◌∙◌, subst, arith, append_assoc, append-nil, add_assoc, add-zero, length-append}
+use Rattle.std.proofs.Common.{◌≡◌, ℕ, zero, suc, Bool, List, [], ◌∷◌, ◌++◌, ◌+◌, ◌<◌, ◌≤◌, length, get_or, take, drop, refl, ap, sym, ◌∙◌, subst, arith, append_assoc, append-nil, add_assoc, add-zero, length-append}
 use Rattle.channel_sim.specs.declared.calls.due.Due as kept_due
 use Rattle.channel_sim.specs.Handing.{due_of, hands_way}
 use Rattle.channel_sim.specs.World.{World, Step, session_passes, vehicle_passes}
@@ -7,7 +7,7 @@ use Rattle.call_floor.specs.declared.entry.FloorEntry.{FloorEntry}
 use Rattle.call_floor.specs.declared.listener.Tagged.{Tagged}
 use Rattle.call_floor.specs.declared.live.Live as kept_live
 use Rattle.call_floor.specs.declared.seat.Seat as kept_seat
-use Rattle.call_floor.specs.Floor.{Floor, FloorStep, Stand, Turn, and_then, plays, quiet_floor, turn, vehicle_turns}
+use Rattle.call_floor.specs.Floor.{Floor, FloorStep, Stand, Turn, and_then, quiet_floor, vehicle_turns}
 use Rattle.call_floor.specs.Tagged.{heard, FloorGrew}
 use Rattle.call_floor.specs.inner.FloorAt.{FloorIs, Relation, listed_turns, numbers_of, passes_of, plays_if, turn_if}
 use Rattle.call_floor.proofs.Apart.{plays_numbers}

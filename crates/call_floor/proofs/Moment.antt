@@ -1,6 +1,6 @@
 -- From one tick at which something happens to the next: vehicles that rest, those of them that are woken, and those that
 -- sleep on.
-use Rattle.std.proofs.Common.{◌≡◌, ℕ, zero, suc, Bool, true, false, List, [], ◌∷◌, ◌++◌, ◌==◌, ◌+◌, ◌-◌, ◌<◌, ◌≤◌, ◌⊎◌, inl, inr, Option, Some, None, nat_le, option_map, if◌then◌else◌, refl, ap, sym, ◌∙◌, subst, arith, eq-eqb, ne_eqb, eqb-true}
+use Rattle.std.proofs.Common.{◌≡◌, ℕ, Bool, true, false, List, [], ◌∷◌, ◌++◌, ◌==◌, ◌+◌, ◌-◌, ◌<◌, ◌≤◌, ◌⊎◌, inl, inr, Option, Some, None, nat_le, option_map, if◌then◌else◌, refl, ap, sym, ◌∙◌, subst, arith, eq-eqb, ne_eqb, eqb-true}
 use Rattle.std.proofs.lemmas.Bool.{leb-true, leb-false}
 use Rattle.std.specs.List.{AllByRecursion}
 use Rattle.channel_sim.specs.Lag.{StandsAt, StandsNow}
@@ -13,17 +13,17 @@ use Rattle.channel_sim.proofs.Jump.{units_add, units_one}
 use Rattle.channel_sim.proofs.Standing.{now_stands}
 use Rattle.channel_sim.proofs.MomentLemmas.{jumped, quiet_end, moment_quiet}
 use Rattle.call_floor.specs.declared.seat.Seat as kept_seat
-use Rattle.call_floor.specs.Floor.{Floor, FloorStep, Stand, Turn, stand_of, own, own_of, calls_of, turn, unit, units, quiet_floor, session_turns, vehicle_turns}
+use Rattle.call_floor.specs.Floor.{Floor, Stand, Turn, stand_of, own, own_of, calls_of, turn, unit, units, quiet_floor, session_turns, vehicle_turns}
 use Rattle.call_floor.specs.inner.Changes.{ArePaired, IsAsked, IsPlanned, IsQuiet, IsWoken, reached}
 use Rattle.call_floor.specs.inner.FloorAt.{Amid, FloorIs, IsAmid, Now, Resting, Rests, SeatIs, SeatsAre, Sleeps, flow_turns, flows_if, numbers_of, plays_if, sessions_if, unit_if, vehicles_if}
-use Rattle.call_floor.specs.inner.Placed.{InPlace, IsReady}
+use Rattle.call_floor.specs.inner.Placed.{InPlace}
 use Rattle.call_floor.proofs.Paired.{IsSame, paired, same_paired}
 use Rattle.call_floor.proofs.QuietFloor.{quiet_units}
 use Rattle.call_floor.proofs.Apart.{AllStill}
 use Rattle.call_floor.proofs.LiveCalls.{flow_still}
 use Rattle.call_floor.proofs.Sleeping.{Alike, turn_own}
 use Rattle.call_floor.proofs.TurnWorlds.{any}
-use Rattle.call_floor.proofs.UnitApart.{UnitsOwn, UnitOwn, unit_own, units_own, units_numbers, unit_numbers, one_later, vehicles_still, session_turns_still}
+use Rattle.call_floor.proofs.UnitApart.{UnitsOwn, UnitOwn, unit_own, units_own, units_numbers, one_later, vehicles_still, session_turns_still}
 
 pub some_world : (x y : World) → Some x ≡ Some y → x ≡ y
 some_world x y e = cc

@@ -1,5 +1,5 @@
 -- Vehicles that are kept, one for one, in one relation before a change and in another one behind it.
-use Rattle.std.proofs.Common.{◌≡◌, ℕ, zero, suc, true, false, List, [], ◌∷◌, ◌==◌, ◌<◌, ◌≤◌, Option, Some, None, length, get_or, set, if◌then◌else◌, refl, ap, sym, ◌∙◌, subst, arith, eq-eqb, ne_eqb}
+use Rattle.std.proofs.Common.{◌≡◌, ℕ, zero, suc, List, [], ◌∷◌, ◌<◌, ◌≤◌, Some, length, get_or, set, if◌then◌else◌, refl, ap, sym, ◌∙◌, subst, arith, eq-eqb, ne_eqb}
 use Rattle.std.specs.List.{AllByRecursion}
 use Rattle.channel_sim.specs.Tidy.{AreAbove}
 use Rattle.call_floor.specs.declared.seat.Seat as kept_seat

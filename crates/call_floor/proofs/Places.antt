@@ -1,6 +1,6 @@
 -- Places and numbers of the calls that were drawn for a vehicle: each is the other's inverse, and what is drawn later
 -- leaves both as they are.
-use Rattle.std.proofs.Common.{◌≡◌, ℕ, zero, suc, Bool, true, false, List, [], ◌∷◌, ◌++◌, ◌==◌, ◌+◌, ◌≤◌, ◌<◌, ◌⊎◌, inl, inr, Some, length, slice_get, if◌then◌else◌, refl, ap, sym, ◌∙◌, subst, arith, eqb-true, eq-eqb}
+use Rattle.std.proofs.Common.{◌≡◌, ℕ, zero, suc, Bool, true, false, List, [], ◌∷◌, ◌++◌, ◌==◌, ◌+◌, ◌≤◌, ◌<◌, inl, inr, Some, length, slice_get, if◌then◌else◌, refl, ap, sym, ◌∙◌, subst, arith, eqb-true, eq-eqb}
 use Rattle.std.proofs.lemmas.Bool.{eqb-false}
 use Rattle.call_floor.specs.inner.Placed.{IsDrawn}
 use Rattle.call_floor.specs.Parts.{how_many, place, number}

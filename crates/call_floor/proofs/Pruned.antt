@@ -1,11 +1,11 @@
 -- Calls that have no leg up any more are left out of those that are kept as live.
-use Rattle.std.proofs.Common.{◌≡◌, ℕ, zero, suc, true, false, Bool, List, [], ◌∷◌, ◌++◌, ◌==◌, ◌||◌, ◌<◌, ◌≤◌, ◌⊎◌, inl, inr, Option, Some, None, length, get_or, set, slice_get, take, drop, map, if◌then◌else◌, Bor, refl, ap, sym, ◌∙◌, subst, arith, eqb-true}
+use Rattle.std.proofs.Common.{◌≡◌, ℕ, zero, suc, true, false, Bool, List, [], ◌∷◌, ◌++◌, ◌==◌, ◌||◌, ◌<◌, ◌≤◌, inl, inr, Option, Some, None, length, get_or, set, slice_get, take, drop, map, if◌then◌else◌, Bor, refl, ap, sym, ◌∙◌, subst, arith, eqb-true}
 use Rattle.std.specs.List.{AllByRecursion}
 use Rattle.std.specs.Option.{is_some, option_copied}
 use Rattle.psap_machine.specs.declared.session.Session.{Session}
 use Rattle.psap_machine.specs.Point.{Point}
 use Rattle.channel_sim.specs.Tidy.{HasLeg}
-use Rattle.channel_sim.specs.World.{Call, World, call_of, session_in, session_of}
+use Rattle.channel_sim.specs.World.{Call, call_of, session_in, session_of}
 use Rattle.channel_sim.specs.WorldStands.{FoundStandsFor}
 use Rattle.trace_fit.specs.Seats.{is_number}
 use Rattle.call_floor.specs.declared.live.Live as kept_live

@@ -7,7 +7,7 @@ use Rattle.channel_sim.specs.World.{World, Step, hands_up, hands_down}
 use Rattle.channel_sim.specs.World as world
 use Rattle.call_floor.specs.declared.entry.FloorEntry.{FloorEntry}
 use Rattle.call_floor.specs.Floor.{own_of, Floor, FloorStep, Stand, Turn, stand_of, own, entry_of, turn_in, turn, plays, units, unit, vehicles_pass, sessions_pass, flows_up, vehicle_turns, session_turns, due_turns, calls_of}
-use Rattle.call_floor.specs.inner.Placed.{IsDrawn, InPlace}
+use Rattle.call_floor.specs.inner.Placed.{InPlace}
 use Rattle.call_floor.specs.Parts.{own_entries}
 use Rattle.call_floor.proofs.Apart.{plays_numbers}
 use Rattle.call_floor.proofs.EventApart.{turn_numbers}

@@ -1,8 +1,7 @@
 -- A turn of one vehicle that is kept: the others are kept as they are.
-use Rattle.std.proofs.Common.{◌≡◌, ℕ, zero, suc, true, false, List, [], ◌∷◌, ◌==◌, ◌<◌, ◌≤◌, Option, Some, None, IfSome, map, length, get_or, set, slice_get, option_map, if◌then◌else◌, refl, ap, sym, ◌∙◌, subst, arith, eq-eqb, ne_eqb}
+use Rattle.std.proofs.Common.{◌≡◌, ℕ, zero, suc, true, false, List, [], ◌∷◌, ◌==◌, ◌<◌, ◌≤◌, Option, Some, None, map, length, get_or, set, option_map, if◌then◌else◌, refl, ap, sym, ◌∙◌, subst, arith, eq-eqb, ne_eqb}
 use Rattle.channel_sim.specs.Tidy.{AreAbove}
 use Rattle.channel_sim.specs.World.{World, Step}
-use Rattle.channel_sim.specs.declared.world.World as kept_world
 use Rattle.call_floor.specs.declared.entry.FloorEntry.{FloorEntry}
 use Rattle.call_floor.specs.declared.seat.Seat as kept_seat
 use Rattle.call_floor.specs.declared.listener.Tagged.{Tagged}

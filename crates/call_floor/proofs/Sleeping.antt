@@ -1,5 +1,5 @@
 -- Vehicles that sleep through a tick may be left out of it: what is told is the same, and so are the worlds of the others.
-use Rattle.std.proofs.Common.{◌≡◌, ℕ, zero, suc, Bool, true, false, List, [], ◌∷◌, ◌++◌, ◌==◌, ◌+◌, ◌≤◌, Option, Some, None, is_some, map, option_map, if◌then◌else◌, refl, ap, sym, ◌∙◌, subst, arith, append_assoc, eqb-true, eq-eqb, zero-add}
+use Rattle.std.proofs.Common.{◌≡◌, ℕ, suc, Bool, true, false, List, [], ◌∷◌, ◌++◌, ◌==◌, ◌+◌, ◌≤◌, Option, Some, None, is_some, map, option_map, if◌then◌else◌, refl, ap, sym, ◌∙◌, subst, arith, eqb-true, eq-eqb, zero-add}
 use Rattle.std.specs.List.{AllByRecursion}
 use Rattle.trace_model.specs.declared.entry.Entry.{Entry}
 use Rattle.trace_model.specs.History.{Sent}
@@ -10,7 +10,7 @@ use Rattle.channel_sim.specs.World as world
 use Rattle.call_floor.specs.declared.entry.FloorEntry.{FloorEntry}
 use Rattle.call_floor.specs.Floor.{Floor, FloorStep, Stand, Turn, Placed, stand_of, own, own_of, calls_at, entry_of, turn_in, turn, plays, quiet_floor, and_then, placed, calls_from, calls_of, vehicle_turns, session_turns, hand_turns, due_turns, vehicles_pass, sessions_pass, flows_up, flows_down, unit}
 use Rattle.call_floor.specs.Parts.{own_entries}
-use Rattle.call_floor.specs.inner.FloorAt.{turn_if, plays_if, vehicles_if, sessions_if, flow_of, flow_turns, flows_if, ends_if, unit_if, numbers_of}
+use Rattle.call_floor.specs.inner.FloorAt.{plays_if, vehicles_if, sessions_if, flow_of, flow_turns, flows_if, ends_if, unit_if, numbers_of}
 use Rattle.call_floor.specs.inner.Placed.{InPlace}
 use Rattle.call_floor.proofs.Apart.{Still, AllStill, plays_drawn}
 use Rattle.call_floor.proofs.EventApart.{turn_numbers}

@@ -1,5 +1,5 @@
 -- A turn within a line, in the own world of its vehicle, and in that of another.
-use Rattle.std.proofs.Common.{◌≡◌, ℕ, Bool, true, false, List, [], ◌==◌, ◌⊎◌, inl, inr, Option, Some, None, option_map, if◌then◌else◌, refl, ap, sym, ◌∙◌, subst, eqb-true}
+use Rattle.std.proofs.Common.{◌≡◌, ℕ, Bool, true, false, List, [], ◌==◌, ◌⊎◌, inl, inr, Option, Some, None, option_map, refl, ap, sym, ◌∙◌, subst, eqb-true}
 use Rattle.channel_sim.specs.World.{World, Step}
 use Rattle.call_floor.specs.Floor.{own_of, Floor, Stand, stand_of, own, put, drawn_by, turn_in, turn}
 use Rattle.call_floor.proofs.Apart.{Still, put_other, turn_same, turn_other}

@@ -1,5 +1,5 @@
 -- The vehicle's table looks at no call's number.
-use Rattle.std.proofs.Common.{◌≡◌, ℕ, Bool, true, false, not, List, [], ◌∷◌, ◌++◌, ◌==◌, ◌+◌, ◌&&◌, nat_le, Option, Some, None, map, unwrap_or, if◌then◌else◌, refl, ap, sym, ◌∙◌}
+use Rattle.std.proofs.Common.{◌≡◌, ℕ, Bool, true, false, not, List, [], ◌∷◌, ◌++◌, ◌==◌, ◌&&◌, nat_le, Option, Some, None, map, unwrap_or, if◌then◌else◌, refl, ap, sym, ◌∙◌}
 use Rattle.std.proofs.lemmas.List.{map-append}
 use Rattle.callback.specs.Rest.{least_standby, longest_standby}
 use Rattle.link_frames.specs.declared.frame.Answer.TheVariants as answer
@@ -23,7 +23,7 @@ use Rattle.redial.specs.declared.series.Series.{Series}
 use Rattle.redial.specs.declared.series.Ticked.{Ticked}
 use Rattle.redial.specs.declared.series.Turn.{Turn}
 use Rattle.ivs_machine.specs.Vehicle.{Vehicle, first_vehicle, Phase, Idle, Standby, Arming, InSeries, InCall, Left, LeftIdle, LeftStandby, CallStage, Initiating, Awaiting, Sending, Confirming, Talking, is_settled}
-use Rattle.ivs_machine.specs.VehicleRows.{ends, longest_call, Heard, Trigger, Cancel, Net, Answered, Failed, Incoming, Sleep, Fault, Hangup, Lost, Arrives, Reset, cancel_period, down, voices, gives, when, follows, begins, failed_attempt, moves, fails, told, ended_items, turns, rests, idles, triggers, arms, returns, answered, called, enters, opens, takes, sends_again, acked, counts, releases, restarts, networked, is_above, is_long_open, named, unnamed, vehicle_row, aged, aged_in, at, in_stage, with_rows, deadlines, acts, unit_row}
+use Rattle.ivs_machine.specs.VehicleRows.{ends, longest_call, Heard, Trigger, Cancel, Net, Answered, Failed, Incoming, Sleep, Fault, Hangup, Lost, Arrives, Reset, cancel_period, down, voices, gives, when, follows, begins, failed_attempt, moves, fails, told, ended_items, turns, rests, idles, triggers, returns, answered, called, enters, opens, takes, sends_again, acked, counts, releases, networked, is_above, is_long_open, named, unnamed, vehicle_row, aged, aged_in, at, in_stage, with_rows, deadlines, acts, unit_row}
 use Rattle.call_floor.specs.Numbers.{note_with, vehicle_with}
 
 abbrev pub vehicle_row_with : (ℕ → ℕ) → Row Vehicle → Row Vehicle

@@ -2,7 +2,7 @@
 -- each call number was drawn; where each vehicle that is kept stands for its own world, by number; and where all calls
 -- with a leg up are among those that are kept as live. This project's profile. Cited by the contracts of `Floor`, and
 -- by what stands on it.
-use Rattle.std.specs.Prelude.{◌≡◌, ◌⊎◌, ℕ, suc, List, [], ◌∷◌, Option, Some, None, Result, MatchResult, length, map, slice_get}
+use Rattle.std.specs.Prelude.{◌≡◌, ◌⊎◌, ℕ, suc, List, [], ◌∷◌, Some, None, Result, MatchResult, length, map, slice_get}
 use Rattle.channel_sim.specs.World.{call_of}
 use Rattle.channel_sim.specs.WorldStands.{WorldStandsFor}
 use Rattle.call_floor.specs.declared.entry.FloorEntry.{FloorEntry}

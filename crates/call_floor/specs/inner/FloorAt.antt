@@ -1,7 +1,7 @@
 -- A `Floor` of which each vehicle that is kept stands in some relation to its own world: between lines, between the
 -- ticks of a line at which something happens, or in the midst of such a tick. Cited by the private functions of
 -- `Floor` alone.
-use Rattle.std.specs.Prelude.{◌≡◌, ◌≤◌, ◌<◌, ◌+◌, ◌^◌, ℕ, Bool, true, false, List, [], ◌∷◌, ◌++◌, Option, Some, None, Result, MatchResult, IfSome, length, map, get_or, slice_get, if◌then◌else◌}
+use Rattle.std.specs.Prelude.{◌≡◌, ◌≤◌, ◌<◌, ◌+◌, ℕ, Bool, true, false, List, [], ◌∷◌, Option, Some, None, Result, MatchResult, length, map, get_or, if◌then◌else◌}
 use Rattle.trace_model.specs.declared.event.Event.{Event}
 use Rattle.trace_model.specs.declared.event.Event.TheVariants as event
 use Rattle.channel_sim.specs.declared.calls.due.Due as kept_due

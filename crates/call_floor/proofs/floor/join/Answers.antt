@@ -1,5 +1,5 @@
-use Rattle.std.proofs.Common.{◌≤◌, IfSome, length, slice_get, take, refl, sym, ◌∙◌, subst}
-use Rattle.std.specs.List.{AllByRecursion, insert}
+use Rattle.std.proofs.Common.{refl, sym, subst}
+use Rattle.std.specs.List.{insert}
 use Rattle.call_floor.specs.declared.seat.Seat as kept_seat
 use Rattle.call_floor.specs.Floor.{first_stand, floor_with, joined}
 use Rattle.call_floor.specs.FloorStands.{SeatStandsFor, SeatsStandFor}

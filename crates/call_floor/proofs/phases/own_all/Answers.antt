@@ -1,4 +1,4 @@
-use Rattle.std.proofs.Common.{◌≡◌, ◌≤◌, ◌-◌, ◌+◌, ◌++◌, ◌∷◌, [], ◌⊎◌, inl, inr, ℕ, suc, length, replicate, refl, ap, sym, ◌∙◌, arith, append_assoc, append-nil}
+use Rattle.std.proofs.Common.{◌≡◌, ◌≤◌, ◌-◌, ◌+◌, ◌++◌, ◌∷◌, [], inl, inr, suc, length, replicate, refl, ap, sym, ◌∙◌, arith, append_assoc, append-nil}
 use Rattle.call_floor.proofs.ListedDue.{replicate_more, replicate_end}
 use Rattle.call_floor.proofs.phases.own_all.Goals as goal
 

@@ -1,4 +1,4 @@
-use Rattle.std.proofs.Common.{◌≡◌, ◌<◌, ◌+◌, ◌^◌, sym, subst, arith}
+use Rattle.std.proofs.Common.{◌<◌, ◌+◌, ◌^◌, sym, subst}
 use Rattle.channel_sim.specs.Lag.{StandsAt}
 use Rattle.channel_sim.specs.WorldStands.{ticks_reached}
 use Rattle.channel_sim.specs.declared.world.World as kept_world

@@ -1,4 +1,4 @@
-use Rattle.std.proofs.Common.{◌<◌, sym, subst, arith}
+use Rattle.std.proofs.Common.{◌<◌, subst, arith}
 use Rattle.call_floor.specs.Floor.{first_stand, floor_with, joined}
 use Rattle.call_floor.specs.FloorStands.{SeatsStandFor}
 use Rattle.call_floor.proofs.FloorRuns.{joins_kept}

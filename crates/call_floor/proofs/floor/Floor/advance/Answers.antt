@@ -1,4 +1,4 @@
-use Rattle.std.proofs.Common.{◌≡◌, ◌≤◌, ◌+◌, ap, sym, ◌∙◌, subst, arith}
+use Rattle.std.proofs.Common.{◌≡◌, ◌≤◌, ap, sym, ◌∙◌, subst, arith}
 use Rattle.call_floor.specs.FloorFault.{FloorFaultCause}
 use Rattle.call_floor.specs.FloorLines.{floor_step}
 use Rattle.call_floor.specs.Tagged.{heard}

@@ -1,5 +1,4 @@
-use Rattle.std.proofs.Common.{◌≡◌, ◌≢◌, ◌<◌, ◌≤◌, ◌-◌, ℕ, Option, Some, None, IfSome, length, slice_get, suc, refl, ap, sym, ◌∙◌, subst, arith}
-use Rattle.std.specs.List.{AllByRecursion}
+use Rattle.std.proofs.Common.{◌≡◌, ◌<◌, ◌≤◌, ◌-◌, ℕ, Option, Some, None, length, suc, refl, ap, sym, ◌∙◌, subst, arith}
 use Rattle.trace_model.specs.declared.event.Event.{Event}
 use Rattle.channel_sim.specs.Lines.{step}
 use Rattle.channel_sim.specs.WorldStands.{NeedsCall}

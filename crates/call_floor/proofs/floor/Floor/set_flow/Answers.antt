@@ -3,7 +3,7 @@ use Rattle.std.proofs.lemmas.Result.{err_from_is_err_and}
 use Rattle.std.specs.Vec.{with_item}
 use Rattle.call_floor.specs.declared.floor.Floor as kept_floor
 use Rattle.call_floor.specs.Floor.{own}
-use Rattle.call_floor.specs.Tagged.{heard, FloorGrew}
+use Rattle.call_floor.specs.Tagged.{FloorGrew}
 use Rattle.call_floor.specs.inner.FloorAt.{Now}
 use Rattle.call_floor.proofs.Caught.{change_at}
 use Rattle.call_floor.proofs.FlowSet.{IsFlowed, flow_draws, flow_elapses, flow_grew, flow_now, flow_passes, flow_told}

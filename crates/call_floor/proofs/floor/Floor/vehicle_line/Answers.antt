@@ -1,4 +1,4 @@
-use Rattle.std.proofs.Common.{◌≡◌, ◌≢◌, None, IfSome, slice_get, refl, ap, sym, subst}
+use Rattle.std.proofs.Common.{◌≡◌, ◌≢◌, None, IfSome, slice_get, refl, sym, subst}
 use Rattle.std.specs.List.{AllByRecursion}
 use Rattle.trace_model.specs.declared.event.Event.{Event}
 use Rattle.channel_sim.specs.Lines.{step}

@@ -1,4 +1,4 @@
-use Rattle.std.proofs.Common.{◌≡◌, ◌∙◌}
+use Rattle.std.proofs.Common.{◌∙◌}
 use Rattle.std.proofs.lemmas.Result.{err_from_is_err_and}
 use Rattle.call_floor.specs.Floor.{Floor, vehicle_turns}
 use Rattle.call_floor.specs.inner.FloorAt.{Amid, sessions_if, vehicles_if}

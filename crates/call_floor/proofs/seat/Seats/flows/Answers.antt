@@ -1,4 +1,4 @@
-use Rattle.std.proofs.Common.{◌≡◌, ◌∙◌, ◌≤◌, ◌+◌, sym, subst}
+use Rattle.std.proofs.Common.{◌≤◌, ◌+◌, subst}
 use Rattle.std.proofs.lemmas.Result.{err_from_is_err_and}
 use Rattle.call_floor.specs.Floor.{FloorStep}
 use Rattle.call_floor.specs.Tagged.{FloorGrew}

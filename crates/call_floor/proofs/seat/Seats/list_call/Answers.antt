@@ -1,9 +1,8 @@
-use Rattle.std.proofs.Common.{◌≡◌, ◌<◌, ◌⊎◌, ◌++◌, ◌-◌, ℕ, List, OnOk, replicate, Some, option_map, true, false, length, get_or, set, refl, ap, sym, ◌∙◌, subst, arith}
+use Rattle.std.proofs.Common.{◌≡◌, ◌<◌, ◌⊎◌, ◌++◌, ◌-◌, ℕ, List, OnOk, replicate, Some, option_map, false, length, get_or, refl, ap, sym, ◌∙◌, subst, arith}
 use Rattle.std.proofs.lemmas.List.{append-nil}
-use Rattle.channel_sim.specs.Handing.{due_in_call, due_of}
-use Rattle.channel_sim.specs.Lag.{StandsAt}
+use Rattle.channel_sim.specs.Handing.{due_in_call}
 use Rattle.call_floor.specs.Floor.{own, own_of}
-use Rattle.call_floor.specs.inner.FloorAt.{call_turns, listed_turns, numbers_of}
+use Rattle.call_floor.specs.inner.FloorAt.{listed_turns, numbers_of}
 use Rattle.call_floor.proofs.ActingTurn.{ActsHere, acts_here, not_acting}
 use Rattle.call_floor.proofs.ListedDue.{call_silent, floor_same, listed_more, on_ok, owned_more}
 use Rattle.call_floor.proofs.seat.Seats.list_call.Goals as goal

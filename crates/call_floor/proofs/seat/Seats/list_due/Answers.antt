@@ -1,4 +1,4 @@
-use Rattle.std.proofs.Common.{◌≡◌, ◌<◌, ◌≤◌, ◌+◌, ◌++◌, ℕ, suc, List, length, get_or, take, refl, ap, sym, ◌∙◌, subst, arith}
+use Rattle.std.proofs.Common.{◌≡◌, ◌<◌, ◌≤◌, ◌+◌, ◌++◌, ℕ, suc, List, length, get_or, take, refl, ap, sym, ◌∙◌, arith}
 use Rattle.call_floor.specs.Floor.{Turn}
 use Rattle.call_floor.specs.inner.FloorAt.{call_turns, listed_turns, numbers_of, plays_if}
 use Rattle.call_floor.proofs.DueCalls.{all_more, all_turns, live_due}

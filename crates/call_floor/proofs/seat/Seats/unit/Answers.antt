@@ -1,8 +1,8 @@
-use Rattle.std.proofs.Common.{◌≡◌, ◌∙◌, ◌≤◌, ◌+◌, true, false}
+use Rattle.std.proofs.Common.{◌∙◌, true, false}
 use Rattle.std.proofs.lemmas.Result.{err_from_is_err_and}
-use Rattle.call_floor.specs.Floor.{Floor, FloorStep, and_then}
+use Rattle.call_floor.specs.Floor.{FloorStep, and_then}
 use Rattle.call_floor.specs.Tagged.{heard, FloorGrew}
-use Rattle.call_floor.specs.inner.FloorAt.{Amid, ends_if, flows_if, passes_of}
+use Rattle.call_floor.specs.inner.FloorAt.{Amid, ends_if, flows_if}
 use Rattle.call_floor.proofs.Behind.{came_behind, cut_before, ends_ready, ends_tick, flows_tick}
 use Rattle.call_floor.proofs.LiveCalls.{ready_flows}
 use Rattle.call_floor.proofs.Loops.{passes_front, passes_more}

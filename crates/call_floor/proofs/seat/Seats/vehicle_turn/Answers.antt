@@ -1,10 +1,10 @@
-use Rattle.std.proofs.Common.{◌≡◌, ◌<◌, ◌≤◌, ◌⊎◌, ℕ, true, false, length, refl, ap, sym, ◌∙◌, subst, arith}
+use Rattle.std.proofs.Common.{◌≡◌, ◌<◌, ◌⊎◌, false, length, refl, sym, ◌∙◌, subst, arith}
 use Rattle.std.proofs.lemmas.Result.{err_from_is_err_and}
 use Rattle.channel_sim.specs.Lag.{StandsAt}
 use Rattle.channel_sim.specs.World.{vehicle_passes}
-use Rattle.call_floor.specs.Floor.{FloorStep, own, quiet_floor}
+use Rattle.call_floor.specs.Floor.{FloorStep, own}
 use Rattle.call_floor.specs.Tagged.{FloorGrew}
-use Rattle.call_floor.specs.inner.FloorAt.{Amid, FloorIs, turn_if}
+use Rattle.call_floor.specs.inner.FloorAt.{Amid, FloorIs}
 use Rattle.call_floor.proofs.ActingTurn.{ActsHere, acts_here, not_acting, passed_over, silent, acted, acted_told, acted_passes}
 use Rattle.call_floor.proofs.StillLemmas.{vehicle_passes_still}
 use Rattle.call_floor.proofs.TurnWorlds.{any}
