@@ -35,7 +35,7 @@ WRITES = 50_000
 # the kinds of scripts.py, each with how many it is measured with, and then with twice as many
 SCRIPTS = {"mixed": 2_000, "calls": 20_000, "flows": 1_000, "one": 200_000, "legs": 5_000, "apart": 1_000, "callbacks": 150_000}
 # the kinds of those with a relay desk, each with how many it is measured with, and then with twice as many
-DESKS = {"desk": 100_000, "shown": 100_000}
+DESKS = {"desk": (50_000, 100_000), "shown": (100_000,)}
 # the other commands, each with what makes its input (none: the trace of a script, or nothing), a kind of it, and how much of it is
 # measured, and then twice as much, which has to stay below the greatest input
 OTHERS = [
@@ -272,7 +272,7 @@ def frames_alone(modem, folder):
 def tones(program, modem, folder):
     """The processor time of `tones` beside that of `run` and that of the plain loop over as many samples, and that of twice as much."""
     print("\nScripts over the modem: processor time of `ecall run`, of the plain loop over as many samples, and of `ecall tones 500 1`;")
-    print("what `tones` takes beside the samples, over `run`; and twice as much")
+    print("`tones` over both together; and twice as much")
     print(f"{'kind':>10} {'count':>8} {'run':>8} {'samples':>8} {'tones':>8} {'ratio':>6} {'doubled':>8} {'ratio':>6}")
     words = [program, "tones", "500", "1"]
     for kind, (count, octets) in TONED.items():
@@ -281,14 +281,14 @@ def tones(program, modem, folder):
         [samples] = least([[modem, str(round(count * octets / FRAME_OCTETS)), "500", "1"]], os.devnull)
         run, toned = least([[program, "run"], words], path)
         [twice] = least([words], double)
-        print(f"{kind:>10} {count:>8} {run:8.3f} {samples:8.3f} {toned:8.3f} {(toned - samples) / run:6.2f} {twice:8.3f} {twice / toned:6.2f}")
+        print(f"{kind:>10} {count:>8} {run:8.3f} {samples:8.3f} {toned:8.3f} {toned / (run + samples):6.2f} {twice:8.3f} {twice / toned:6.2f}")
 
 
 def relays(program, folder):
     """The processor time of `relay` with many desk requests pending, and that of twice as many."""
     print("\nScripts with a relay desk: processor time of `ecall relay`, and of twice as much")
     print(f"{'kind':>10} {'count':>8} {'relay':>8} {'doubled':>8} {'ratio':>6}")
-    for kind, count in DESKS.items():
+    for kind, count in ((kind, count) for kind, counts in DESKS.items() for count in counts):
         [once], [twice] = (least([[program, "relay"]], write_script(folder, kind, n)) for n in (count, 2 * count))
         print(f"{kind:>10} {count:>8} {once:8.3f} {twice:8.3f} {twice / once:6.2f}")
 
