@@ -1,0 +1,9 @@
+pub mod BuiltFloor
+pub mod Distinct
+pub mod FloorLines
+pub mod LineNumbers
+pub mod PartsLaw
+pub mod PlayedLines
+pub mod ReadSays
+pub mod ScriptSoFar
+pub mod StagePlays

@@ -1,0 +1,5 @@
+pub mod FloorParts
+pub mod FloorRun
+pub mod FloorScript
+pub mod FloorText
+pub mod inner

@@ -1,0 +1,59 @@
+//! The listener that writes each entry's line, with the vehicle's number behind the tick.
+ghost use Rattle.std.specs.Prelude.{◌≡◌, ◌≤◌, [], ◌∷◌, OnOk, OnErr, IfErr};
+ghost use Rattle.trace_model.specs.Listener.{DeafCause};
+ghost use Rattle.floor_command.specs.FloorText.{sink, sink_name, TextGrew, TextGrewPartly};
+ghost use Rattle.floor_command.specs.inner.FloorTextLaws.{TextGrew-nothing, TextGrew-append, TextGrewPartly-whole, TextGrewPartly-after, TextGrewPartly-longer};
+
+use call_floor::{FloorEntry, FloorListener};
+use call_io::Sink;
+use floor_text::write_floor_entry;
+use std::alloc::Global;
+use trace_model::Deaf;
+
+/// Writes the line of each entry that it hears to a sink that it borrows. It keeps nothing and takes no memory.
+#[derive(Drop)]
+pub struct FloorTextOut<'a, O> {
+    out: &'a mut O,
+}
+
+impl<'a, O> FloorTextOut<'a, O> {
+    /// Writes to this sink.
+    pub fn over(out: &'a mut O) -> FloorTextOut<'a, O>
+        ensures same_sink { sink_name result ≡ out.entry.ghost_name }
+        ensures value { sink result ≡ out.old }
+    {
+        FloorTextOut { out }
+    }
+}
+
+impl<'a, O: Sink> FloorListener for FloorTextOut<'a, O> {
+    ghost grew = { TextGrew O.held O.way };
+
+    ghost partly = { TextGrewPartly O.held O.way };
+
+    ghost faults = { λ to. O.faults (sink to) };
+
+    fn hear(&mut self, _alloc: Global, entry: &FloorEntry) -> Result<(), Deaf>
+        ensures ok { OnOk result (TextGrew O.held O.way self.old self.new (entry.now ∷ [])) }
+        ensures err { OnErr result (TextGrewPartly O.held O.way self.old self.new (entry.now ∷ [])) }
+        ensures write { IfErr result (λ e. e ≡ Deaf.Write) }
+        ensures stood { OnOk result (O.faults (sink self.new) ≡ O.faults (sink self.old)) }
+        ensures cause { IfErr result (λ e. DeafCause e (O.faults (sink self.old)) (O.faults (sink self.new))) }
+        ensures counted { O.faults (sink self.old) ≤ O.faults (sink self.new) }
+    {
+        match write_floor_entry(entry.vehicle, &entry.entry, self.out) {
+            Ok(()) => Ok(()),
+            Err(_) => Err(Deaf::Write),
+        }
+    }
+
+    ghost unchanged = { TextGrew-nothing O.held O.way };
+
+    ghost twice = { TextGrew-append O.held O.way };
+
+    ghost whole = { TextGrewPartly-whole O.held O.way };
+
+    ghost then_partly = { TextGrewPartly-after O.held O.way };
+
+    ghost longer = { TextGrewPartly-longer O.held O.way };
+}
