@@ -2,7 +2,7 @@
 """run.py PROGRAM: how many sets of data `PROGRAM decode` reads and describes a second, in 4 MB of address space; how much
 processor time that takes beside a plain program and beside decoders that asn1c generates from format2.asn1 and format1.asn1; what
 decoding alone takes of both; what encoding alone takes of both; with how many calls the text is written; and what `PROGRAM encode`, `PROGRAM run` and the
-other commands take beside the plain program. Parts that need a tool that isn't there are skipped in a line."""
+other commands take beside the plain program; and what `PROGRAM floor` takes beside `PROGRAM run` over each vehicle's part. Parts that need a tool that isn't there are skipped in a line."""
 import glob
 import os
 import re
@@ -47,6 +47,8 @@ OTHERS = [
     (["make", "0"], None, [], None),
     (["trial", "0"], None, [], None),
 ]
+# vehicles on the floor that is measured, and the calls of each, which are doubled then
+FLOOR = (64, 200)
 
 
 class Skipped(Exception):
@@ -293,6 +295,37 @@ def relays(program, folder):
         print(f"{kind:>10} {count:>8} {once:8.3f} {twice:8.3f} {twice / once:6.2f}")
 
 
+def floor_script(folder, vehicles, calls, *vehicle):
+    return written(folder, "floors.py", *map(str, (vehicles, calls, *vehicle)))
+
+
+def same_parts(program, whole, parts, folder):
+    """That each vehicle's part of the floor's trace is the trace that `run` writes for its part of the script."""
+    split = os.path.join(folder, "parts")
+    os.makedirs(split, exist_ok=True)
+    with open(whole, "rb") as script:
+        trace = subprocess.run([program, "floor"], stdin=script, capture_output=True, check=True).stdout
+    subprocess.run([sys.executable, os.path.join(HERE, "..", "examples", "split-floor"), split], input=trace, check=True)
+    for vehicle, path in enumerate(parts, 1):
+        with open(path, "rb") as script, open(os.path.join(split, f"{vehicle}.trace"), "rb") as part:
+            if subprocess.run([program, "run"], stdin=script, capture_output=True, check=True).stdout != part.read():
+                raise OSError(f"the part of vehicle {vehicle} is not what `run` writes")
+
+
+def floors(program, folder):
+    """The processor time of `floor`, beside the sum of `run` over the part of each vehicle, and that of twice the calls."""
+    vehicles, calls = FLOOR
+    whole = floor_script(folder, vehicles, calls)
+    parts = [floor_script(folder, vehicles, calls, vehicle) for vehicle in range(1, vehicles + 1)]
+    same_parts(program, whole, parts, folder)
+    [once] = least([[program, "floor"]], whole)
+    alone = sum(least([[program, "run"]], path)[0] for path in parts)
+    [twice] = least([[program, "floor"]], floor_script(folder, vehicles, 2 * calls))
+    print(f"\n{vehicles} vehicles with {calls} calls each, whose traces are the same apart and on the floor:")
+    print(f"  `floor` {once:.3f} s, `run` over each vehicle's part {alone:.3f} s together, ratio {once / alone:.2f}")
+    print(f"  twice the calls {twice:.3f} s, ratio {twice / once:.2f}")
+
+
 def instructions(command, text):
     """How many instructions a command needs for this input."""
     run = ["valgrind", "--tool=cachegrind", "--cache-sim=no", "--cachegrind-out-file=/dev/null", *command]
@@ -405,6 +438,7 @@ def main(program):
         if modem:
             attempt("a frame as samples", lambda here: frames_alone(modem, here), os.path.join(folder, "modem"))
             tones(program, modem, folder)
+        floors(program, folder)
         attempt("decoding alone", lambda _: alone(program, generated, known), folder)
         attempt("encoding alone", lambda here: encoding(generated, known, here), os.path.join(folder, "encoder"))
         attempt("calls of write", lambda _: writes(program, known), folder)

@@ -22,7 +22,7 @@ const WITHOUT = 'This page draws traces alone: it was packed without a module of
 const WITH = 'decode, encode, frames, make and conform run in this page, by the module that the toolchain of ecall builds '
   + 'for WebAssembly. Their answers are proved; trusted are the toolchain, with LLVM for WebAssembly, and this browser. '
   + 'The picture, the page and the sentences on refusals are JavaScript, and tested only. run, register, replay, trial, '
-  + 'tones and relay take memory, which the toolchain can’t do for WebAssembly yet: run them at the command line, and draw the trace here.';
+  + 'tones, floor and relay take memory, which the toolchain can’t do for WebAssembly yet: run them at the command line, and draw the trace here.';
 
 const editor = new Editor();
 const lines = new Lines(line => choose(line));

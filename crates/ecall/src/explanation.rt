@@ -47,6 +47,7 @@ const COMMANDS: &str = "\
   ecall encode < FACTS       makes the sets that `write` lines ask for\n  \
   ecall frames < PIECES      writes the frames of a stream, in pieces of hexadecimal\n  \
   ecall tones L N < SCRIPT   plays a script over a noisy modem\n  \
+  ecall floor < SCRIPT       plays a script of vehicles at one point\n  \
   ecall relay < SCRIPT       plays a script with a relay desk behind the point\n  \
   ecall make N               writes the script of a number\n  \
   ecall trial N              counts what that script comes to\n  \
@@ -66,10 +67,11 @@ fn write_usage<W: fmt::Write>(f: &mut fmt::Formatter<W>, word: Option<&str>) -> 
                 "`tones` wants two numbers, 0 to 1499 and 0 to 4294967295 without leading zeros, as in \
                 `ecall tones 500 1 < SCRIPT`"
             ),
-            "run" | "register" | "replay" | "decode" | "encode" | "frames" | "relay" => write!(
-                f,
-                "`{word}` takes no further words: it reads standard input, as in `ecall {word} < FILE`"
-            ),
+            "run" | "register" | "replay" | "decode" | "encode" | "frames" | "floor" | "relay" =>
+                write!(
+                    f,
+                    "`{word}` takes no further words: it reads standard input, as in `ecall {word} < FILE`"
+                ),
             "conform" => write!(f, "`conform` takes no further words"),
             _ => write!(f, "`{word}` is no command:\n  {COMMANDS}"),
         },

@@ -270,6 +270,7 @@ unread_write (Some command.Encode) = tt
 unread_write (Some command.Frames) = tt
 unread_write (Some command.Replay) = tt
 unread_write (Some (command.Tones noise)) = tt
+unread_write (Some command.Floor) = tt
 unread_write (Some command.Relay) = tt
 
 handed_unread : (asked : Option Command) (answer result : Status) (rest : List ℕ) → HandsOver answer rest result

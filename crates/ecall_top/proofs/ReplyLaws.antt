@@ -18,6 +18,10 @@ use Rattle.script_commands.specs.Register.{register_reply}
 use Rattle.script_commands.specs.Run.{run_reply}
 use Rattle.script_commands.specs.Trial.{trial_reply}
 use Rattle.tones_command.specs.Tones.{toned_script, tones_reply}
+use Rattle.floor_command.specs.FloorRun.{floor_reply}
+use Rattle.floor_command.specs.FloorRun as floor_run
+use Rattle.floor_command.specs.FloorScript as floor
+use Rattle.floor_command.specs.FloorText as floor_text
 use Rattle.relay_command.specs.Relay.{refused_from, relay_reply, relay_trace}
 use Rattle.relay_text.specs.ItemLine.{text_with_desk}
 use Rattle.trace_text.specs.EntryLine.{text_of}
@@ -41,6 +45,7 @@ replies_some (Some command.Replay) input = replayed_some input
 replies_some (Some (command.Make number)) input = (record { text = made_script number; status = status.Done }, refl)
 replies_some (Some (command.Trial number)) input = (trial_reply number, refl)
 replies_some (Some (command.Tones noise)) input = (tones_reply noise input, refl)
+replies_some (Some command.Floor) input = (floor_reply input, refl)
 replies_some (Some command.Relay) input = (relay_reply input, refl)
 replies_some (Some command.Conform) input =
     let found = conformed_some in
@@ -61,6 +66,7 @@ replies_one (Some command.Replay) input r s a b = replayed_one input r s a b
 replies_one (Some (command.Make number)) input r s a b = a ∙ sym b
 replies_one (Some (command.Trial number)) input r s a b = a ∙ sym b
 replies_one (Some (command.Tones noise)) input r s a b = a ∙ sym b
+replies_one (Some command.Floor) input r s a b = a ∙ sym b
 replies_one (Some command.Relay) input r s a b = a ∙ sym b
 replies_one (Some command.Conform) input r s a b = same_reply r s (conformed_one r.text s.text a.0 b.0) (a.1 ∙ sym b.1)
 
@@ -77,6 +83,7 @@ unread_reply (Some command.Replay) none r replied more = absurd (cc)
 unread_reply (Some (command.Make number)) none r replied more = replied
 unread_reply (Some (command.Trial number)) none r replied more = replied
 unread_reply (Some (command.Tones noise)) none r replied more = absurd (cc)
+unread_reply (Some command.Floor) none r replied more = absurd (cc)
 unread_reply (Some command.Relay) none r replied more = absurd (cc)
 unread_reply (Some command.Conform) none r replied more = replied
 
@@ -116,6 +123,9 @@ usage_reply (Some (command.Trial number)) r replied same more = replied
 usage_reply (Some (command.Tones noise)) r replied same more =
     absurd (no_usage_ended (text_of (script_trace (toned_script noise []))) (toned_script noise []).refused
     (ap (λ s. s.status) (sym replied) ∙ same))
+usage_reply (Some command.Floor) r replied same more =
+    absurd (no_usage_ended (floor_text.text_of (floor_run.script_trace (floor.script_of [])))
+    (floor.script_of []).refused (ap (λ s. s.status) (sym replied) ∙ same))
 usage_reply (Some command.Relay) r replied same more =
     absurd (no_usage_ended (text_with_desk (relay_trace [])) (refused_from nothing_said 1 (lines_of []))
     (ap (λ s. s.status) (sym replied) ∙ same))

@@ -19,6 +19,7 @@ use Rattle.set_commands.specs.Frames.{AreFrames, IsLineOfFrames}
 use Rattle.script_commands.specs.Register.{registered}
 use Rattle.script_commands.specs.Replay.{verdict_status}
 use Rattle.tones_command.specs.Tones.{toned_script}
+use Rattle.floor_command.specs.FloorScript as floor
 use Rattle.relay_command.specs.Relay.{refused_from}
 use Rattle.trace_text.specs.Script.{nothing_said}
 use Rattle.script_stage.specs.ScriptTrace.{ended, script_trace}
@@ -107,6 +108,8 @@ replies_status (Some (command.Make number)) input r is = ap (λ s. s.status) is
 replies_status (Some (command.Trial number)) input r is = ap (λ s. s.status) is
 replies_status (Some (command.Tones noise)) input r is =
     subst Fine (sym is) (ended_status _ (toned_script noise input).refused)
+replies_status (Some command.Floor) input r is =
+    subst Fine (sym is) (ended_status _ (floor.script_of input).refused)
 replies_status (Some command.Relay) input r is =
     subst Fine (sym is) (ended_status _ (refused_from nothing_said 1 (lines_of input)))
 replies_status (Some command.Conform) input r is = is.1

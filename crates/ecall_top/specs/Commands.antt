@@ -17,6 +17,7 @@ command_named word =
     else if bytes_eq word (codes "frames") then Some command.Frames
     else if bytes_eq word (codes "replay") then Some command.Replay
     else if bytes_eq word (codes "conform") then Some command.Conform
+    else if bytes_eq word (codes "floor") then Some command.Floor
     else if bytes_eq word (codes "relay") then Some command.Relay
     else None
 
@@ -58,6 +59,7 @@ plays (Some command.Run) = true
 plays (Some command.Register) = true
 plays (Some (command.Trial number)) = true
 plays (Some (command.Tones noise)) = true
+plays (Some command.Floor) = true
 plays (Some command.Relay) = true
 plays _ = false
 
@@ -68,6 +70,7 @@ takes_memory (Some command.Replay) = true
 takes_memory (Some command.Register) = true
 takes_memory (Some (command.Trial number)) = true
 takes_memory (Some (command.Tones noise)) = true
+takes_memory (Some command.Floor) = true
 takes_memory (Some command.Relay) = true
 takes_memory _ = false
 

@@ -21,11 +21,12 @@ use Rattle.script_stage.specs.ScriptTrace.{script_passes}
 use Rattle.script_commands.specs.Run.{run_reply}
 use Rattle.script_commands.specs.Trial.{trial_reply}
 use Rattle.tones_command.specs.Tones.{tones_passes, tones_reply}
+use Rattle.floor_command.specs.FloorRun.{floor_passes, floor_reply}
 use Rattle.relay_command.specs.Relay.{relay_passes, relay_reply}
 
 abbrev pub usage_line : List ℕ
 usage_line =
-    codes "usage: ecall run|register|decode|encode|frames|replay|trial N|make N|conform|tones L N|relay"
+    codes "usage: ecall run|register|decode|encode|frames|replay|trial N|make N|conform|tones L N|floor|relay"
     ++ newline ∷ []
 
 -- the reply to a command and an input, or to words that name none
@@ -41,6 +42,7 @@ Replies (Some (command.Make number)) input r = r ≡ record { text = made_script
 Replies (Some (command.Trial number)) input r = r ≡ trial_reply number
 Replies (Some command.Conform) input r = IsConformed r.text × (r.status ≡ status.Done)
 Replies (Some (command.Tones noise)) input r = r ≡ tones_reply noise input
+Replies (Some command.Floor) input r = r ≡ floor_reply input
 Replies (Some command.Relay) input r = r ≡ relay_reply input
 
 -- how often the ends are passed at most for a command and an input: by playing its script
@@ -49,6 +51,7 @@ passes_of (Some command.Run) input = script_passes (script_of input)
 passes_of (Some command.Register) input = script_passes (script_of input)
 passes_of (Some (command.Trial number)) input = script_passes (script_of (made_script number))
 passes_of (Some (command.Tones noise)) input = tones_passes noise input
+passes_of (Some command.Floor) input = floor_passes input
 passes_of (Some command.Relay) input = relay_passes input
 passes_of _ input = 0
 

@@ -30,6 +30,8 @@ pub enum Command {
     Conform,
     /// Play the script that the input has, with a modem on a noisy line behind its `deliver` lines, and write its trace.
     Tones(Noise),
+    /// Play the script of a floor of vehicles that the input has, and write the floor's trace.
+    Floor,
     /// Play the script that the input has, with a relay desk behind the point, and write its trace.
     Relay,
 }
@@ -70,6 +72,8 @@ fn read_word(word: &str) -> Option<Command>
         Some(Command::Replay)
     } else if word == "conform" {
         Some(Command::Conform)
+    } else if word == "floor" {
+        Some(Command::Floor)
     } else if word == "relay" {
         Some(Command::Relay)
     } else {

@@ -18,6 +18,8 @@ ghost use Rattle.script_stage.specs.ScriptTrace.{script_tick, script_trace};
 ghost use Rattle.script_commands.specs.Run.{run_reply};
 ghost use Rattle.tones_command.specs.Modem.{NoiseFrom};
 ghost use Rattle.tones_command.specs.Tones.{toned_script, tones_reply};
+ghost use Rattle.floor_command.specs.FloorParts.{AreApart};
+ghost use Rattle.floor_command.specs.FloorScript as floor;
 ghost use Rattle.relay_command.specs.Carried.{IsCarried};
 ghost use Rattle.relay_command.specs.OfRun.{of_world, script_without_orders};
 ghost use Rattle.relay_command.specs.Relay.{relay_trace};
@@ -34,6 +36,7 @@ use crate::command::read_command;
 use call_io::{Block, Sink, Source, write_all};
 pub use command::Command;
 pub use command_base::{Refused, Status};
+use floor_command::{floor_parts, play_floor};
 pub use laws::reply_laws;
 use link_frames::Steps;
 use relay_command::play_relay;
@@ -45,7 +48,7 @@ use tones_command::play_tones;
 
 /// What the program says to words that are no form of words.
 const USAGE: &[u8] =
-    b"usage: ecall run|register|decode|encode|frames|replay|trial N|make N|conform|tones L N|relay\n";
+    b"usage: ecall run|register|decode|encode|frames|replay|trial N|make N|conform|tones L N|floor|relay\n";
 
 /// Carries out the command that the words name, the program's own name not among them: reads `input`, writes `output`,
 /// and answers how that ended.
@@ -66,6 +69,8 @@ const USAGE: &[u8] =
 /// nothing.
 /// `tones L N` plays a script as `run` does, where each `deliver` line hands its frame over through a modem on a line
 /// with noise of at most L in each sample, 0 to 1499, drawn from the number N on; a line whose frame is lost says nothing.
+/// `floor` plays a script of up to 64 vehicles at one point, and writes the trace of the whole floor. It takes memory for
+/// the facts of each, and as `run` does.
 /// `relay` plays a script as `run` does, with a relay desk behind the point: its script has the lines `pass`, `hand forth`
 /// and `hand back` besides, and its trace the items of the desk and of the second point. It takes memory for the desk, too.
 ///
@@ -112,6 +117,9 @@ pub fn ecall<I: Source, O: Sink, L: Ledger>(
         Safe (script_trace (toned_script noise script)) (script_tick (toned_script noise script)) }
     ensures faint { (noise : NoiseFrom) (script : List ℕ) → noise.most ≤ 500 →
         tones_reply noise script ≡ run_reply script }
+    // On a floor each vehicle that has facts gets the trace that it would get alone for its own lines, and that is safe up
+    // to the tick at which the script ends.
+    ensures apart { (script : List ℕ) → AreApart (floor.script_of script) }
     // The entries that `relay` writes are those of `run` for the lines in front of the first that is refused, without the
     // orders to the desk, of which `run` refuses none.
     ensures relayed { (script : List ℕ) →
@@ -138,6 +146,7 @@ pub fn ecall<I: Source, O: Sink, L: Ledger>(
     ensures reads_counted { I.faults input.old ≤ I.faults input.new }
     ensures writes_counted { O.faults output.old ≤ O.faults output.new }
 {
+    floor_parts();
     let mut block = Block::over(output);
     carry_out(alloc, words, input, &mut block, moments)
 }
@@ -201,6 +210,7 @@ fn reply<I: Source, O: Sink, L: Ledger>(
         Some(Command::Trial(number)) => try_script(alloc, *number, output, moments),
         Some(Command::Conform) => write_vectors(output),
         Some(Command::Tones(noise)) => play_tones(alloc, noise, input, output, moments),
+        Some(Command::Floor) => play_floor(alloc, input, output, moments),
         Some(Command::Relay) => play_relay(alloc, input, output, moments),
         None => usage(output),
     }

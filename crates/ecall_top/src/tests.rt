@@ -91,7 +91,7 @@ fn expect(
 }
 
 /// Words that name no command.
-const OTHER_WORDS: [&str; 12] = [
+const OTHER_WORDS: [&str; 13] = [
     "run fast",
     "decode all",
     "conform 1",
@@ -101,6 +101,7 @@ const OTHER_WORDS: [&str; 12] = [
     "tones 500",
     "tones 1500 1",
     "tones 01 1",
+    "floor 2",
     "relay 1",
     "--help",
     "",
@@ -109,7 +110,7 @@ const OTHER_WORDS: [&str; 12] = [
 #[test]
 fn refuses_other_words(rt: HostRuntime) -> Result<(), Fail> {
     let usage =
-        "usage: ecall run|register|decode|encode|frames|replay|trial N|make N|conform|tones L N|relay\n";
+        "usage: ecall run|register|decode|encode|frames|replay|trial N|make N|conform|tones L N|floor|relay\n";
     for words in &OTHER_WORDS {
         expect(&rt, rt.alloc(), words, "", Status::Usage, usage)?;
     }
@@ -117,7 +118,7 @@ fn refuses_other_words(rt: HostRuntime) -> Result<(), Fail> {
 }
 
 /// Words that name commands, an input, and what is written.
-const COMMANDS: [(&str, &str, &str); 8] = [
+const COMMANDS: [(&str, &str, &str); 9] = [
     ("run", "set 02\ntrigger auto\n", "0 dial 1\n"),
     ("register", "set 02\ntrigger auto\n", "[]\n"),
     ("decode", "\n", ""),
@@ -125,6 +126,7 @@ const COMMANDS: [(&str, &str, &str); 8] = [
     ("frames", "01\n", "init\nrest 0\n"),
     ("replay", "0 dial 1\n", "sound 1\n"),
     ("tones 500 1", "set 02\ntrigger auto\n", "0 dial 1\n"),
+    ("floor", "7 set 02\n7 trigger auto\n", "0 7 dial 1\n"),
     (
         "relay",
         "set 02\ntrigger auto\npass 1\n",

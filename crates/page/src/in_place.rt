@@ -75,6 +75,7 @@ fn reply_in_place<I: Source, O: Sink>(
         | Command::Replay
         | Command::Trial(_)
         | Command::Tones(_)
+        | Command::Floor
         | Command::Relay => { unreachable!() }
     }
 }

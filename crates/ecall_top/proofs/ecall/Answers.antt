@@ -35,6 +35,9 @@ returns-clause-toned g c = λ noise script. script_safe (toned_script noise scri
 pub returns-clause-faint : goal.returns-clause-faint
 returns-clause-faint g c = faint_reply
 
+pub returns-clause-apart : goal.returns-clause-apart
+returns-clause-apart g c = c.floor_parts.ensures
+
 pub returns-clause-relayed : goal.returns-clause-relayed
 returns-clause-relayed g c = relay_as_run
 

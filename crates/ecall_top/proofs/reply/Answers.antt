@@ -46,6 +46,17 @@ returns-in-Some-Tones-clause-ends g c =
       unread = tt;
     })
 
+pub returns-in-Some-Floor-clause-ends : goal.returns-in-Some-Floor-clause-ends
+returns-in-Some-Floor-clause-ends g c =
+    named (command_of (map string_bytes c.args.words.now)) (Some command.Floor) _ _ c.play_floor.result
+    (search rules)
+    (record {
+      outcome = c.play_floor.ensures.outcome;
+      told = c.play_floor.ensures.told;
+      silent = λ once cut. absurd (false≢true once);
+      unread = tt;
+    })
+
 pub returns-in-Some-Relay-clause-ends : goal.returns-in-Some-Relay-clause-ends
 returns-in-Some-Relay-clause-ends g c =
     named (command_of (map string_bytes c.args.words.now)) (Some command.Relay) _ _ c.play_relay.result
