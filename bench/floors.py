@@ -4,14 +4,8 @@ with so many calls under flows of 30 and 20 ticks. In each round all of them cal
 for a second set, and hangs up on each. With a third number it writes what is that vehicle's alone, as a script of `run`."""
 import sys
 
-FACTS = """vin WM9VDSVDSYA123456
-kind 1
-fuel 1000000
-time 1577836800
-place 173880000 41700000
-heading 45
-trusted yes
-"""
+sys.dont_write_bytecode = True
+from scripts import FACTS
 
 
 def rounds(vehicles, calls, call_of, own):
