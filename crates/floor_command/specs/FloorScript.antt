@@ -81,8 +81,8 @@ placed_event known e None = Err reason.Missing
 placed_event known e (Some stands) = if is_there known e then Ok (Some (line.Event e)) else Err reason.Missing
 
 -- Whether a line may stand where it stands: a fact line in front of the first event line, and no fifth candidate of
--- additional data of its vehicle; an event line where each vehicle with a fact line has the facts that it needs, and one
--- of a vehicle where that has a fact line.
+-- additional data of its vehicle; an event line where each vehicle with a fact line has the facts that it needs, and
+-- one of a vehicle where that has a fact line.
 abbrev pub placed : FloorSaid → FloorLine → Result (Option FloorLine) Reason
 placed said (line.Fact v f) = if said.eventful then Err reason.Late else placed_fact said.known v f
 placed said (line.Event e) = placed_event said.known e (stands_in said.known)

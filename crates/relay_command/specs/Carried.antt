@@ -1,7 +1,7 @@
 -- What is safe in a trace with a relay desk, said of its entries and items alone: a set that the second point shows was
--- sent by the vehicle and shown by the point before, in the same call and for the same request, octet for octet; the set
--- of no desk request is shown there twice; and no desk request is done before its set was shown there. This project's
--- profile. Cited by the laws of this crate and by the contract of `ecall`.
+-- sent by the vehicle and shown by the point before, in the same call and for the same request, octet for octet; the
+-- set of no desk request is shown there twice; and no desk request is done before its set was shown there. This
+-- project's profile. Cited by the laws of this crate and by the contract of `ecall`.
 use Rattle.std.specs.Prelude.{◌≡◌, ℕ, List, [], ◌∷◌, ◌++◌, ◌⊎◌}
 use Rattle.trace_fit.specs.Order.{WasSent}
 use Rattle.trace_model.specs.Safety.{WasShown}

@@ -1,6 +1,6 @@
--- What the trace of a script with a relay desk has to do with that of `run`: its entries of the world are those of `run`
--- for the lines in front of the first that is refused, but for the orders to the desk. This project's profile. Cited by
--- the laws of this crate and by the contract of `ecall`.
+-- What the trace of a script with a relay desk has to do with that of `run`: its entries of the world are those of
+-- `run` for the lines in front of the first that is refused, but for the orders to the desk. This project's profile.
+-- Cited by the laws of this crate and by the contract of `ecall`.
 use Rattle.std.specs.Prelude.{ℕ, List, [], ◌∷◌, Some, None, Ok, Err}
 use Rattle.line_input.specs.Lines.{lines_of}
 use Rattle.trace_model.specs.declared.entry.Entry.{Entry}

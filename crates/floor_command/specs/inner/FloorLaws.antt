@@ -1,5 +1,5 @@
--- The script that a floor's lines say, one after another, what `floor` has come to behind some of them, its reply to the
--- others, and its law as a command over lines, proved. Cited by that command.
+-- The script that a floor's lines say, one after another, what `floor` has come to behind some of them, its reply to
+-- the others, and its law as a command over lines, proved. Cited by that command.
 use Rattle.std.specs.Prelude.{◌≡◌, ℕ, ◌+◌, Bool, true, false, cond, List, [], ◌∷◌, ◌++◌, Option, Some, None, Result, Ok, Err}
 use Rattle.std.proofs.Common.{sym, ◌∙◌, ap, refl, arith, subst, append_assoc, inl, inr}
 use Rattle.std.proofs.lemmas.List.{append-nil}
@@ -30,7 +30,8 @@ use Rattle.floor_command.specs.inner.Progress.{event_of, events_before}
 pub judged-passed : (said : FloorSaid) (text : List ℕ) → IsPassedOver text → judged said text ≡ Ok None
 judged-passed said text h = rw (judged, h.0, h.1) refl
 
-pub judged-line : (said : FloorSaid) (text : List ℕ) → IsLine text → judged said text ≡ placed_line said (floor_says text)
+pub judged-line : (said : FloorSaid) (text : List ℕ) → IsLine text
+    → judged said text ≡ placed_line said (floor_says text)
 judged-line said text h = rw (judged, h.0, h.1) refl
 
 pub judged-fault : (said : FloorSaid) (text : List ℕ) (why : Reason) → line_fault text ≡ Some why
@@ -178,7 +179,8 @@ pub played-nothing : (o : Option (List Stand)) → played o [] ≡ []
 played-nothing None = refl
 played-nothing (Some stands) = refl
 
-played-append : (o : Option (List Stand)) (es fs : List FloorEvent) → Begins (text_of (played o es)) (text_of (played o (es ++ fs)))
+played-append : (o : Option (List Stand)) (es fs : List FloorEvent)
+    → Begins (text_of (played o es)) (text_of (played o (es ++ fs)))
 played-append None es fs = record { rest = []; whole = refl }
 played-append (Some stands) es fs =
     let w : Floor = floor_with stands in

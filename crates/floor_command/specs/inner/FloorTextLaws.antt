@@ -21,7 +21,8 @@ module _ {O : Type 0} (held : O → Option (List ℕ)) (way : O → Way) where
   pub TextGrew-nothing : (a : FloorTextOut O) → TextGrew held way a a []
   TextGrew-nothing a = (refl, Grew-nothing (held (sink a)), Onward-nothing (way (sink a)))
 
-  pub TextGrew-append : (a b c : FloorTextOut O) (s t : List FloorEntry) → TextGrew held way a b s → TextGrew held way b c t
+  pub TextGrew-append : (a b c : FloorTextOut O) (s t : List FloorEntry) → TextGrew held way a b s
+      → TextGrew held way b c t
       → TextGrew held way a c (s ++ t)
   TextGrew-append a b c s t first second = (
     second.0 ∙ first.0,

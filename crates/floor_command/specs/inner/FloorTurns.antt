@@ -46,8 +46,8 @@ pub record GoesOn (place : Result (Option FloorLine) Reason) (said : FloorSaid) 
 -- what a line that was read comes to, by what it says in its place, for one who hears its entries, and so grows by them
 -- or by a part of them; no answer goes on. Where memory is wanted for facts or for a vehicle's place, nothing was told.
 abbrev pub PlaysTo : Result (Option FloorLine) Reason → (number : ℕ) → FloorSaid → List FloorEvent
-    → (old new : FloorStage) → (held held' : Option (List ℕ)) → (Grows Partly : List FloorEntry → Type 0) → (Counted : ℕ → Type 0) → Option Status
-    → Type 0
+    → (old new : FloorStage) → (held held' : Option (List ℕ)) → (Grows Partly : List FloorEntry → Type 0)
+    → (Counted : ℕ → Type 0) → Option Status → Type 0
 PlaysTo place number said events old new held held' Grows Partly Counted None =
     GoesOn place said events Grows Counted old new
 PlaysTo place number said events old new held held' Grows Partly Counted (Some (status.Refused why)) =

@@ -1,5 +1,5 @@
--- What `relay` has come to behind some lines of its script, its reply to the others, and its law as a command over lines,
--- proved. Cited by that command.
+-- What `relay` has come to behind some lines of its script, its reply to the others, and its law as a command over
+-- lines, proved. Cited by that command.
 use Rattle.std.specs.Prelude.{◌≡◌, ℕ, ◌+◌, true, false, List, [], ◌∷◌, ◌++◌, Option, Some, None, Ok, Err}
 use Rattle.std.proofs.Common.{sym, ◌∙◌, ap, refl, arith, append_assoc}
 use Rattle.msd_fit.specs.declared.facts.Facts.{Facts}
@@ -36,7 +36,8 @@ pub record RelaySeen : Type 0 where
 
 -- the reply to lines behind what was said
 abbrev pub reply_from : Said → Option Scene → ℕ → List (List ℕ) → Reply
-reply_from said scene number texts = ended (text_with_desk (trace_from said scene texts)) (refused_from said number texts)
+reply_from said scene number texts =
+    ended (text_with_desk (trace_from said scene texts)) (refused_from said number texts)
 
 abbrev pub RelayFrom : RelaySeen → ℕ → List (List ℕ) → Reply → Type 0
 RelayFrom seen number texts r = r ≡ reply_from seen.said seen.scene number texts
@@ -82,7 +83,8 @@ reply-done said scene number =
     ∙ ap (λ o. ended (text_with_desk (trace_from said scene [])) o) (sym (refused-none said number))
 
 module _ (said : Said) (scene : Option Scene) (text : List ℕ) (texts : List (List ℕ)) where
-  pub trace-passed : judged_relay said text ≡ Ok None → trace_from said scene (text ∷ texts) ≡ trace_from said scene texts
+  pub trace-passed : judged_relay said text ≡ Ok None
+      → trace_from said scene (text ∷ texts) ≡ trace_from said scene texts
   unfolding trace_from
   trace-passed h = rw (trace_from, h) refl
 

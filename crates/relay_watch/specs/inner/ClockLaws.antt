@@ -1,5 +1,5 @@
--- The laws of the relay desk with its tick, proved: what comes one behind the other is written one behind the other, and
--- ticks pass one by one or many at once. Cited by the listener of this crate and by its private functions.
+-- The laws of the relay desk with its tick, proved: what comes one behind the other is written one behind the other,
+-- and ticks pass one by one or many at once. Cited by the listener of this crate and by its private functions.
 use Rattle.std.specs.Prelude.{◌≡◌, ◌<◌, ℕ, zero, suc, ◌+◌, List, [], ◌∷◌, ◌++◌, map, Option}
 use Rattle.std.proofs.Common.{sym, ◌∙◌, ap, refl, arith, subst, append_assoc, add-zero}
 use Rattle.std.proofs.lemmas.List.{append-nil}
@@ -13,7 +13,8 @@ use Rattle.relay_text.specs.ItemLine.{RelayEntry, OfDesk}
 use Rattle.relay_watch.specs.declared.clock.DeskClock.{DeskClock}
 use Rattle.relay_watch.specs.Clocks.{Clock, Came, IsTold, and_then, came_quietly, clock_of, elapses, follows, meets, row_at, ticks_once}
 
-pub text_with_desk-append : (xs ys : List RelayEntry) → text_with_desk (xs ++ ys) ≡ text_with_desk xs ++ text_with_desk ys
+pub text_with_desk-append : (xs ys : List RelayEntry)
+    → text_with_desk (xs ++ ys) ≡ text_with_desk xs ++ text_with_desk ys
 text_with_desk-append [] ys = refl
 text_with_desk-append (x ∷ xs) ys =
     ap (λ t. relay_entry_line x ++ t) (text_with_desk-append xs ys)

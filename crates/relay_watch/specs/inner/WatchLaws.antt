@@ -33,8 +33,8 @@ module _ {O : Type 0} (held : O → Option (List ℕ)) (way : O → Way) where
     same_then a b c first.0 second.0,
     subst (λ (r : Came). IsTold r (desk_in c) (held (sink a)) (held (sink c)))
         (sym (follows-append s t (clock_of (desk_in a))))
-        (told_then (follows s (clock_of (desk_in a))) (follows t) (desk_in b) (desk_in c) (held (sink a)) (held (sink b))
-        (held (sink c)) first.1 second.1),
+        (told_then (follows s (clock_of (desk_in a))) (follows t) (desk_in b) (desk_in c)
+        (held (sink a)) (held (sink b)) (held (sink c)) first.1 second.1),
   )
 
   pub WatchGrewPartly-whole : (a b : Watch O) (s : List Entry) → WatchGrew held way a b s
