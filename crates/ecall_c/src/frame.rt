@@ -1,7 +1,7 @@
 //! Frames and items as flat structs of C.
-ghost use Rattle.std.specs.Prelude.{◌≡◌, ◌≤◌, ◌↔◌, length, take, map, IsSome, IfSome};
+ghost use Rattle.std.specs.Prelude.{◌≡◌, ◌≤◌, ◌↔◌, false, length, take, map, IsSome, IfSome};
 ghost use Rattle.link_frames.specs.Frame.{lent};
-ghost use Rattle.ecall_c.specs.Items.{IsFrame, frame_of, flat_frame, flat_item, end_code, why_code, timer_code};
+ghost use Rattle.ecall_c.specs.Items.{IsFrame, frame_of, flat_frame, flat_item, full, no_frame, end_code, why_code, timer_code};
 
 use link_frames::{Answer, End, Frame, FrameRef, Note, OCTETS, Request, Timer, Why};
 
@@ -164,6 +164,27 @@ fn bare(kind: u8, call: u32, at_point: u8, number: u8) -> EcallItem
     }
 }
 
+/// Both voice ways of an end.
+fn voices(end: End, call: u32, up: bool, down: bool) -> EcallItem
+    ensures { result ≡ full 12 call (end_code end) 0 up down no_frame }
+{
+    EcallItem {
+        up,
+        down,
+        ..bare(12, call, end_number(end), 0)
+    }
+}
+
+/// An item that has a frame.
+fn with_frame(kind: u8, call: u32, at_point: u8, frame: EcallFrame) -> EcallItem
+    ensures { result ≡ full kind call at_point 0 false false frame }
+{
+    EcallItem {
+        frame,
+        ..bare(kind, call, at_point, 0)
+    }
+}
+
 /// The item as a flat struct.
 pub fn flatten_item(note: &Note) -> EcallItem
     ensures { result ≡ flat_item note.now }
@@ -189,31 +210,20 @@ pub fn flatten_item(note: &Note) -> EcallItem
             call,
             up,
             down,
-        } => EcallItem {
-            up: *up,
-            down: *down,
-            ..bare(12, *call, end_number(*end), 0)
-        },
-        Note::Send { end, call, frame } => EcallItem {
-            frame: flatten_frame(frame),
-            ..bare(13, *call, end_number(*end), 0)
-        },
+        } => voices(*end, *call, *up, *down),
+        Note::Send { end, call, frame } => {
+            with_frame(13, *call, end_number(*end), flatten_frame(frame))
+        }
         Note::Shown {
             call,
             request,
             octets,
-        } => EcallItem {
-            frame: flat(2, request.number(), 0, octets),
-            ..bare(14, *call, 1, 0)
-        },
+        } => with_frame(14, *call, 1, flat(2, request.number(), 0, octets)),
         Note::Acked {
             call,
             request,
             octets,
-        } => EcallItem {
-            frame: flat(2, request.number(), 0, octets),
-            ..bare(15, *call, 0, 0)
-        },
+        } => with_frame(15, *call, 0, flat(2, request.number(), 0, octets)),
         Note::Ended { end, call, timer } => {
             bare(16, *call, end_number(*end), timer_number(*timer))
         }
