@@ -1,4 +1,4 @@
-.PHONY: demo build install examples checks test bench c-library c-examples page page-check
+.PHONY: demo build install examples checks tasks test bench c-library c-examples page page-check
 
 PROGRAM = crates/ecall/out/ecall
 PREFIX = /usr/local
@@ -20,6 +20,10 @@ examples: build
 
 checks:
 	tools/own-checks $(PROGRAM)
+
+tasks: build
+	tools/c-library $(shell uname -m)-unknown-linux-gnu
+	tools/transcripts --all $(PROGRAM) README.md
 
 test:
 	tools/timed rt ci

@@ -34,7 +34,7 @@ static inline void print_frame(const struct ecall_frame *frame) {
 static inline void print_summary(const uint8_t octets[ECALL_OCTETS]) {
     struct ecall_decoded read = ecall_decode(octets, ECALL_OCTETS);
     if (read.refusal.reason != ECALL_IS_SET)
-        printf(" bad %u %u %llu", read.refusal.place, read.refusal.reason, (unsigned long long)read.refusal.value);
+        printf(" refused %u %u %llu", read.refusal.place, read.refusal.reason, (unsigned long long)read.refusal.value);
     else
         printf(" ok %u %.17s %u %d %d", read.set.message, (const char *)read.set.vin, read.set.time,
                read.set.latitude, read.set.longitude);
@@ -42,7 +42,7 @@ static inline void print_summary(const uint8_t octets[ECALL_OCTETS]) {
 
 /* The item as a line of a trace, at this tick. */
 static inline void print_item(unsigned tick, const struct ecall_item *item) {
-    static const char *const words[] = {"nothing", "dial", "failed", "gave-up", "seeking", "arming", "cancelled", "standby",
+    static const char *const words[] = {"nothing", "dial", "failed", "gaveup", "seeking", "arming", "cancelled", "standby",
         "idle", "net", "up", "down", "voice", "send", "shown", "acked", "ended", "fault", "busy", "spent", "unshown", "restart"};
     static const char *const why[] = {"release", "hangup", "lost"};
     static const char *const timers[] = {"", "T1", "T2", "T3", "T4", "T5", "T6", "T7", "T8", "", "T10", "TD", "TW", "sum"};
