@@ -1,4 +1,4 @@
-.PHONY: demo build install examples checks tasks test bench c-library c-examples page page-check
+.PHONY: demo build install examples checks tasks test bench c-library c-examples c-aarch64 page page-check
 
 PROGRAM = crates/ecall/out/ecall
 PREFIX = /usr/local
@@ -40,6 +40,10 @@ c-library:
 c-examples:
 	tools/c-library $(shell uname -m)-unknown-linux-gnu
 	c/check c/out/$(shell uname -m)-unknown-linux-gnu
+
+c-aarch64:
+	tools/c-library aarch64-unknown-linux-gnu
+	c/check c/out/aarch64-unknown-linux-gnu
 
 page:
 	tools/page
