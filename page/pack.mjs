@@ -17,7 +17,8 @@ export function examplesOf(folder = EXAMPLES) {
   const names = readdirSync(folder).sort();
   return names.flatMap(file => {
     const [name, kind] = file.split('.');
-    if (!Object.hasOwn(KINDS, kind ?? '')) return [];
+    // the trace of a floor is no trace of one vehicle, which is what is drawn
+    if (!Object.hasOwn(KINDS, kind ?? '') || (kind === 'trace' && names.includes(`${name}.floor`))) return [];
     const verdict = names.includes(`${name}.verdict`) ? readFileSync(`${folder}${name}.verdict`, 'utf8').trim() : undefined;
     return [{ command: KINDS[kind], name, file, text: readFileSync(folder + file, 'utf8'), verdict }];
   });
