@@ -244,6 +244,27 @@ struct ecall_part_octets {
 /* The octets of a part. */
 struct ecall_part_octets ecall_part_write(const struct ecall_message_part *part) ECALL_GIVEN;
 
+enum ecall_message_verdict {
+    ECALL_PART_READ = 0,    /* a part is at the front */
+    ECALL_PART_MORE = 1,    /* they are the beginning of a part, or none */
+    ECALL_PART_STOPPED = 2, /* no part goes on with an octet */
+    ECALL_MESSAGE_END = 3,  /* the end of the message is at the front */
+    ECALL_SCRIPT_END = 4    /* the vehicle's script is at its end; behind a part of a message that is wrong, as fault 4 */
+};
+
+struct ecall_message_read {
+    uint64_t taken;  /* how many octets the part or the end has; or how many stand before the octet; or 0 */
+    uint8_t verdict; /* of enum ecall_message_verdict */
+    uint8_t fault;   /* of the octet: 1 to 3 as of a frame, 4 no part that comes to this end, 5 the last of a number 0 */
+    uint8_t octet;
+    struct ecall_message_part part;
+};
+
+/* What is at the front of the octets that the other end sent: to the point, or else to the vehicle. A stream that comes in
+ * pieces is kept by the caller, at most 148 octets of it from where the last part or message ended; with more octets it is
+ * asked again. */
+struct ecall_message_read ecall_message_read(const uint8_t *octets, size_t len, bool at_point) ECALL_GIVEN;
+
 /* ---- What the ends do ---- */
 
 enum ecall_item_kind {
@@ -411,6 +432,7 @@ ECALL_SIZE(struct ecall_frame_octets, 146);
 ECALL_SIZE(struct ecall_frame_read, 160);
 ECALL_SIZE(struct ecall_message_part, 148);
 ECALL_SIZE(struct ecall_part_octets, 151);
+ECALL_SIZE(struct ecall_message_read, 160);
 ECALL_SIZE(struct ecall_item, 152);
 ECALL_SIZE(struct ecall_items, 1220);
 ECALL_SIZE(struct ecall_vehicle_event, 148);

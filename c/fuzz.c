@@ -75,6 +75,20 @@ static void change_stream(void) {
     if (!written.is_frame || written.len != read.taken || memcmp(written.octets, at, written.len)) abort();
 }
 
+/* Octets that may begin a message; a part that they have is written as they are. */
+static void change_message(void) {
+    static const uint8_t first[] = {0, 16, 17, 18, 19, 20, 32, 48};
+    size_t len = 1 + next(200);
+    uint8_t *at = page_end - len;
+    for (size_t i = 0; i < len; i++) at[i] = (uint8_t)(i < 8 ? next(8) : next(256));
+    at[0] = first[next(8)];
+    struct ecall_message_read read = ecall_message_read(at, len, next(2));
+    if (read.verdict > ECALL_SCRIPT_END || read.taken > len) abort();
+    if (read.verdict != ECALL_PART_READ) return;
+    struct ecall_part_octets written = ecall_part_write(&read.part);
+    if (!written.is_part || written.len != read.taken || memcmp(written.octets, at, written.len)) abort();
+}
+
 static _Alignas(8) unsigned char vehicle_room[ECALL_VEHICLE_ROOM], point_room[ECALL_POINT_ROOM];
 static struct ecall_vehicle vehicle = {vehicle_room};
 static struct ecall_point point = {point_room};
@@ -120,6 +134,7 @@ int main(int argc, char **argv) {
         if (done & 1) change_set();
         else {
             change_stream();
+            change_message();
             change_frame();
         }
     }

@@ -174,12 +174,47 @@ static void parts(void) {
     CHECK(written.is_part && written.len == 1 && written.octets[0] == 16);
 }
 
+/* A message is read part by part as it was written; an octet with which none goes on is told. */
+static void read_messages(void) {
+    static const struct ecall_message_part given[] = {
+        {.call = 7, .kind = ECALL_LEAVES},
+        {.call = 0x01020304, .kind = ECALL_CARRIES, .frame = {.kind = ECALL_CONTENT, .request = 9, .attempt = 2, .octets = {1, 2, 3}}},
+        {.call = 1, .kind = ECALL_CARRIES, .frame = {.kind = ECALL_INIT}},
+        {.kind = ECALL_DIALS},
+    };
+    uint8_t octets[400];
+    size_t len = 0, at = 0;
+    for (size_t i = 0; i < sizeof given / sizeof *given; i++) {
+        struct ecall_part_octets part = ecall_part_write(&given[i]);
+        memcpy(octets + len, part.octets, part.len);
+        len += part.len;
+    }
+    octets[len++] = 0;
+    for (size_t i = 0; i < sizeof given / sizeof *given; i++) {
+        struct ecall_message_read read = ecall_message_read(octets + at, len - at, true);
+        CHECK(read.verdict == ECALL_PART_READ && memcmp(&read.part, &given[i], sizeof *given) == 0);
+        CHECK(ecall_message_read(octets + at, read.taken - 1, true).verdict == ECALL_PART_MORE);
+        at += read.taken;
+    }
+    struct ecall_message_read read = ecall_message_read(octets + at, len - at, true);
+    CHECK(read.verdict == ECALL_MESSAGE_END && read.taken == 1 && at + 1 == len);
+    CHECK(ecall_message_read((const uint8_t *)"0", 1, true).verdict == ECALL_SCRIPT_END);
+    /* what only the point is sent, a number 0, a frame that is none */
+    read = ecall_message_read((const uint8_t *)"\x10", 1, false);
+    CHECK(read.verdict == ECALL_PART_STOPPED && read.taken == 0 && read.fault == 4 && read.octet == 16);
+    read = ecall_message_read((const uint8_t *)"\x12\0\0\0\0", 5, false);
+    CHECK(read.verdict == ECALL_PART_STOPPED && read.taken == 4 && read.fault == 5 && read.octet == 0);
+    read = ecall_message_read((const uint8_t *)"\x20\0\0\0\1\6\1\3", 8, true);
+    CHECK(read.verdict == ECALL_PART_STOPPED && read.taken == 7 && read.fault == 3 && read.octet == 3);
+}
+
 int main(int argc, char **argv) {
     static char line[1000];
     make();
     frames();
     read_frames();
     parts();
+    read_messages();
     for (int i = 1; i < argc; i++) {
         FILE *file = fopen(argv[i], "r");
         CHECK(file);

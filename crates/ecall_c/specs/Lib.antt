@@ -8,3 +8,5 @@ pub mod Ticks
 pub mod Facts
 pub mod Frames
 pub mod Parts
+pub mod MessageReads
+pub mod inner

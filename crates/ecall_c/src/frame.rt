@@ -81,7 +81,7 @@ pub fn flat(kind: u8, request: u8, attempt: u8, octets: &[u8; OCTETS]) -> EcallF
 
 pub const NO_OCTETS: [u8; OCTETS] = [0; OCTETS];
 
-fn flatten_frame(frame: &Frame) -> EcallFrame
+pub fn flatten_frame(frame: &Frame) -> EcallFrame
     ensures { result ≡ flat_frame frame.now }
 {
     match frame {

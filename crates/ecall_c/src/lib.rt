@@ -7,6 +7,7 @@ mod facts;
 mod flat;
 mod frame;
 mod frames;
+mod message_reading;
 mod messages;
 mod place;
 mod point;
