@@ -59,6 +59,10 @@ static struct ecall_frame frame = {.kind = ECALL_CONTENT, .request = 1};
 static struct ecall_decoded decoded;
 static struct ecall_encoded encoded;
 static struct ecall_frame_octets frame_octets;
+static struct ecall_frame_read frame_read;
+static struct ecall_message_part part = {.call = 1, .kind = ECALL_CARRIES, .frame = {.kind = ECALL_CONTENT, .request = 1}};
+static struct ecall_part_octets part_octets;
+static struct ecall_message_read message_read;
 static uint8_t set[ECALL_OCTETS];
 
 static void decode(void) { decoded = ecall_decode(set, sizeof set); }
@@ -66,6 +70,9 @@ static void encode(void) { encoded = ecall_encode(&decoded.set, set, sizeof set)
 static void spell(void) { encoded = ecall_spell(&facts, ECALL_AUTOMATIC, 1); }
 static void make(void) { ecall_make(&facts, ECALL_AUTOMATIC, 1, set); }
 static void write_frame(void) { frame_octets = ecall_frame_write(&frame); }
+static void read_frame(void) { frame_read = ecall_frame_read(frame_octets.octets, frame_octets.len); }
+static void write_part(void) { part_octets = ecall_part_write(&part); }
+static void read_message(void) { message_read = ecall_message_read(part_octets.octets, part_octets.len, true); }
 static void vehicle_new(void) { vehicle.at = vehicle_room; ecall_vehicle_new(&vehicle, set); }
 static void vehicle_knows(void) { vehicle.at = vehicle_room; ecall_vehicle_knows(&vehicle, &facts); }
 static void vehicle_hear(void) { ecall_vehicle_hear(&vehicle, &to_vehicle, &items); }
@@ -112,6 +119,9 @@ static int paint_all(void) {
     paint("ecall_spell", spell);
     paint("ecall_make", make);
     paint("ecall_frame_write", write_frame);
+    paint("ecall_frame_read", read_frame);
+    paint("ecall_part_write", write_part);
+    paint("ecall_message_read", read_message);
     paint("ecall_point_arriving", point_arriving);
     paint("ecall_point_due", point_due);
     paint("ecall_point_hear, an initiation", point_hear);
