@@ -1,0 +1,9 @@
+use Rattle.set_objects.specs.Object.{position_fields}
+use Rattle.set_objects.proofs.PieceLemmas.{three}
+use Rattle.set_objects.proofs.place.put_position.Goals as goal
+
+pub returns : goal.returns
+unfolding position_fields
+returns c =
+    three c.put_longitude.result c.args.text.now.items _ _ _ _ _ _ c.in_ok-put_time.ensures c.in_ok-put_latitude.ensures
+    c.put_longitude.ensures

@@ -1,0 +1,5 @@
+pub mod Bad
+pub mod Degrees
+pub mod Json
+pub mod Object
+pub mod Told
