@@ -1,6 +1,7 @@
 .PHONY: demo build install examples checks tasks test bench c-library c-examples c-aarch64 page page-check
 
 PROGRAM = crates/ecall/out/ecall
+VIEW = crates/ecall_view/out/ecall_view
 PREFIX = /usr/local
 
 demo:
@@ -10,9 +11,11 @@ demo:
 build:
 	rt all check --jobs 4
 	cd crates/ecall && rt run -- run < /dev/null
+	cd crates/ecall_view && rt run -- sets < /dev/null
 
 install: build
 	install -D $(PROGRAM) $(DESTDIR)$(PREFIX)/bin/ecall
+	install -D $(VIEW) $(DESTDIR)$(PREFIX)/bin/ecall_view
 	install -D -m 644 docs/ecall.1 $(DESTDIR)$(PREFIX)/share/man/man1/ecall.1
 
 examples: build
