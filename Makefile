@@ -35,6 +35,7 @@ test:
 bench: build
 	bench/run.py $(PROGRAM)
 	bench/refuse.py $(PROGRAM)
+	bench/view.py $(PROGRAM) $(VIEW)
 	bench/c.py c/out/$(shell uname -m)-unknown-linux-gnu
 
 c-library:

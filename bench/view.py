@@ -1,0 +1,90 @@
+#!/usr/bin/env python3
+"""view.py ECALL VIEW: measures `VIEW sets` beside `ECALL decode` over the same sets, over twice as many, over 10 million in little
+memory, and over all processors by GNU parallel, where that is there. Times are processor time, the least of some rounds in which
+the programs take turns, but for the last, which are by the clock. The text is thrown away."""
+import os
+import resource
+import shutil
+import subprocess
+import sys
+import tempfile
+import time
+
+HERE = os.path.dirname(os.path.abspath(__file__))
+ROUNDS = 9
+SETS = 120_000
+MANY = 10_000_000
+# bytes of address space, the program's code and the C library included
+ROOM = 8 << 20
+
+
+def spent(command, path):
+    """Processor seconds of a command over a file."""
+    with open(path, "rb") as given:
+        before = resource.getrusage(resource.RUSAGE_CHILDREN)
+        subprocess.run(command, stdin=given, stdout=subprocess.DEVNULL, check=True)
+        after = resource.getrusage(resource.RUSAGE_CHILDREN)
+    return after.ru_utime - before.ru_utime + after.ru_stime - before.ru_stime
+
+
+def least(*runs):
+    """The least time of each of some commands over files, in rounds that go over all of them in turn."""
+    rounds = [[spent(command, path) for command, path in runs] for _ in range(ROUNDS)]
+    return [min(times) for times in zip(*rounds)]
+
+
+def write_sets(path, count):
+    with open(path, "wb") as file:
+        subprocess.run([sys.executable, os.path.join(HERE, "sets.py"), str(count)], stdout=file, check=True)
+
+
+def confine():
+    resource.setrlimit(resource.RLIMIT_AS, (ROOM, ROOM))
+
+
+def many(view, path):
+    """Seconds by the clock of a run over a file again and again, in little room."""
+    with open(path, "rb") as file:
+        text = file.read()
+    began = time.monotonic()
+    child = subprocess.Popen([view, "sets"], stdin=subprocess.PIPE, stdout=subprocess.DEVNULL, preexec_fn=confine)
+    for _ in range(MANY // SETS + 1):
+        child.stdin.write(text)
+    child.stdin.close()
+    if child.wait():
+        raise OSError(f"over many sets it ended with status {child.returncode}")
+    return time.monotonic() - began
+
+
+def by_clock(words, path):
+    with open(path, "rb") as given:
+        began = time.monotonic()
+        subprocess.run(words, stdin=given, stdout=subprocess.DEVNULL, check=True)
+    return time.monotonic() - began
+
+
+def main(ecall, view):
+    with tempfile.TemporaryDirectory() as folder:
+        path, twice, eight = (os.path.join(folder, name) for name in ("sets", "twice", "eight"))
+        write_sets(path, SETS)
+        for name, times in ((twice, 2), (eight, 8)):
+            with open(name, "wb") as file, open(path, "rb") as once:
+                text = once.read()
+                file.writelines([text] * times)
+        decoded, told, double = least(([ecall, "decode"], path), ([view, "sets"], path), ([view, "sets"], twice))
+        print(f"{SETS} mixed sets: ecall decode {decoded:.3f} s, ecall_view sets {told:.3f} s, {told / decoded:.2f} times")
+        print(f"{2 * SETS} mixed sets: ecall_view sets {double:.3f} s, {double / told:.2f} times")
+        seconds = many(view, path)
+        print(f"{(MANY // SETS + 1) * SETS} sets in {ROOM >> 20} MB of address space: {seconds:.1f} s by the clock")
+        if shutil.which("parallel") is None:
+            print("parallel is not there, so nothing is measured over all processors")
+            return
+        alone = min(by_clock([view, "sets"], eight) for _ in range(3))
+        together = min(by_clock(["parallel", "--pipe", "--block", "4M", view, "sets"], eight) for _ in range(3))
+        print(f"{8 * SETS} sets by the clock: {alone:.2f} s alone, {together:.2f} s by parallel --pipe over {os.cpu_count()} processors")
+
+
+if __name__ == "__main__":
+    if len(sys.argv) != 3:
+        sys.exit(__doc__)
+    main(*sys.argv[1:])
