@@ -12,3 +12,6 @@ mod text;
 mod vehicle;
 
 pub use line::put_line;
+
+#[cfg(test)]
+mod tests;

@@ -7,3 +7,6 @@ mod telling;
 
 pub use answer::Answer;
 pub use telling::tell_sets;
+
+#[cfg(test)]
+mod tests;
