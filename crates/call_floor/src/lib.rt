@@ -13,8 +13,6 @@ mod live;
 mod phases;
 mod seat;
 mod sleep;
-#[cfg(test)]
-mod tests;
 
 pub use entry::FloorEntry;
 pub use event::{CallLine, FloorEvent, MOST_VEHICLES, VehicleLine, VehicleNumber};

@@ -13,8 +13,6 @@ mod quiet;
 mod room;
 mod sends;
 mod telling;
-#[cfg(test)]
-mod tests;
 mod world;
 
 pub use calls::Due;

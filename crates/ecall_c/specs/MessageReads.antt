@@ -1,6 +1,7 @@
--- What the first octets of a stream of live messages come to, from the beginning of a message on or from behind a part of
--- one: the flat struct that C is answered. Behind a part the octet in place of a message is no exception: who reads it
--- there has a message that the other end never sends. This project's profile. Cited by the export that reads messages.
+-- What the first octets of a stream of live messages come to, from the beginning of a message on or from behind a
+-- part of one: the flat struct that C is answered. Behind a part the octet in place of a message is no exception: who
+-- reads it there has a message that the other end never sends. This project's profile. Cited by the export that reads
+-- messages.
 use Rattle.std.specs.Prelude.{ℕ, ◌+◌, Bool, true, false, List, [], ◌∷◌}
 use Rattle.link_frames.specs.declared.frame.End.{End}
 use Rattle.link_frames.specs.declared.frame.End.TheVariants as «end»

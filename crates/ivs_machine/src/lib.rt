@@ -3,8 +3,6 @@
 
 mod event;
 mod laws;
-#[cfg(test)]
-mod tests;
 mod vehicle;
 
 pub use event::VehicleEvent;

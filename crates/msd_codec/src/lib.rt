@@ -10,6 +10,3 @@ mod writing;
 pub use laws::spelling_laws;
 pub use reading::decode;
 pub use writing::{TooLong, encode, encoded_bits, extra_bits};
-
-#[cfg(test)]
-mod tests;

@@ -18,6 +18,3 @@ pub use writers::{
     write_additions, write_bool, write_char, write_enum, write_format, write_length, write_octets,
     write_oid, write_presence, write_small, write_whole,
 };
-
-#[cfg(test)]
-mod tests;

@@ -132,6 +132,3 @@ fn write_string(to: &mut BitBuf, octets: Bits<'_>, count: u32) -> Result<(), Ful
     to.put(u64::from(count), 8)?;
     to.put_bits(octets)
 }
-
-#[cfg(test)]
-mod tests;

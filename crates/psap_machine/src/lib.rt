@@ -4,8 +4,6 @@
 mod event;
 mod laws;
 mod session;
-#[cfg(test)]
-mod tests;
 
 pub use event::PointEvent;
 pub use laws::rows_owe;

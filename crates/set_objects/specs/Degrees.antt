@@ -1,5 +1,5 @@
--- An angle in degrees, of milliarcseconds: this project's profile. A degree has 3,600,000 milliarcseconds. Seven decimals
--- are written, rounded to the nearest, so that no two angles are written alike. Cited by the object of a set.
+-- An angle in degrees, of milliarcseconds: this project's profile. A degree has 3,600,000 milliarcseconds. Seven
+-- decimals are written, rounded to the nearest, so that no two angles are written alike. Cited by the object of a set.
 use Rattle.std.specs.Prelude.{ℕ, ◌+◌, ◌*◌, ◌/◌, ◌%◌, ℤ, pos, int_lt, unsigned_abs, List, [], ◌∷◌, codes, decimal, if◌then◌else◌}
 use Rattle.std.specs.List.{concat}
 use Rattle.msd_values.specs.Texts.{character}

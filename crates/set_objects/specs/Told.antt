@@ -1,6 +1,6 @@
--- What is told of a line with a set of data in hexadecimal: an object, unless the line is passed over, whether or not it
--- is refused. This project's profile. What a line says is what `ecall decode` reads in it, and its set is the one that
--- its octets show. Cited by `put_line`.
+-- What is told of a line with a set of data in hexadecimal: an object, unless the line is passed over, whether or not
+-- it is refused. This project's profile. What a line says is what `ecall decode` reads in it, and its set is the one
+-- that its octets show. Cited by `put_line`.
 use Rattle.std.specs.Prelude.{◌≡◌, ℕ, Bool, true, false, List, [], ◌++◌, ◌⊎◌, Option, Some, None, Result, Ok, Err}
 use Rattle.per_bits.specs.declared.refusals.Refusal.{Refusal}
 use Rattle.msd_values.specs.declared.msd.Msd.{Msd}

@@ -204,6 +204,3 @@ fn copy_extras(extras: &Extras) -> Extras
     copy.try_extend_from_slice(extras.as_slice()).unwrap();
     copy
 }
-
-#[cfg(test)]
-mod tests;

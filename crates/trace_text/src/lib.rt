@@ -5,10 +5,6 @@ mod choices;
 mod draft;
 mod encode;
 mod entries;
-#[cfg(test)]
-mod entry_tests;
-#[cfg(test)]
-mod event_tests;
 mod events;
 mod fact_line;
 mod facts;
@@ -17,14 +13,8 @@ mod hexadecimal;
 mod laws;
 mod note_text;
 mod numbers;
-#[cfg(test)]
-mod refusal_tests;
 mod script;
-#[cfg(test)]
-mod script_tests;
 mod summary;
-#[cfg(test)]
-mod tests;
 mod text_out;
 mod write;
 

@@ -56,6 +56,3 @@ impl<'a, O: Sink> Listener for TextOut<'a, O> {
 
     ghost longer = { TextGrewPartly-longer O.held O.way };
 }
-
-#[cfg(test)]
-mod tests;

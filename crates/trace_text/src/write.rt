@@ -135,6 +135,3 @@ pub fn write_entry<O: Sink>(entry: &Entry, out: &mut O) -> Result<(), Failed>
         write_short(entry, out)
     }
 }
-
-#[cfg(test)]
-mod tests;

@@ -1,5 +1,6 @@
 -- What is told of the lines of an input with one set of data in hexadecimal each: the object of each line that isn't
--- passed over, in order, whether or not it is refused. This project's profile. Cited by the outcome of telling an input.
+-- passed over, in order, whether or not it is refused. This project's profile. Cited by the outcome of telling an
+-- input.
 use Rattle.std.specs.Prelude.{◌≡◌, ℕ, ◌+◌, ◌||◌, List, [], ◌∷◌, ◌++◌}
 use Rattle.set_commands.specs.Decode.{judged_set}
 use Rattle.set_objects.specs.Told.{IsLineTold, Told, nothing_told}
