@@ -25,7 +25,7 @@ MOST_OCTETS = 140
 BELOW = {"call_io": "thiserror", "per_bits": "", "per_types": "per_bits", "msd_values": "per_bits call_io arrayvec hex itoa jiff jiff_core"}
 BELOW |= {"msd_codec": "per_bits per_types msd_values arrayvec", "encoder": "per_bits msd_values msd_codec call_io arrayvec"}
 # those that modem.txt stands on
-MODEM_BELOW = {"per_bits": "", "link_frames": "arrayvec", "tone_link": "per_bits link_frames arrayvec thiserror", "modem": "link_frames tone_link"}
+MODEM_BELOW = {"per_bits": "", "link_frames": "arrayvec", "tone_link": "per_bits link_frames arrayvec thiserror", "modem": "link_frames tone_link arrayvec"}
 FRAMES = 20_000
 # the kinds of scripts whose frames the modem carries, each with how many it is measured with, and how many octets go through for one
 TONED = {"calls": (20_000, 3), "one": (20_000, 72.5)}
@@ -267,7 +267,7 @@ def frames_alone(modem, folder):
     none, some = least([[ours, "0"], [ours, str(FRAMES)]], os.devnull)
     [plain] = least([[modem, str(FRAMES)]], os.devnull)
     print(f"\nA frame of {FRAME_OCTETS} octets as samples and back, processor time for one")
-    print(f"  {'tone_write and tone_read':<34} {(some - none) / FRAMES * 1e6:8.2f} us")
+    print(f"  {'rewrite_tones and tone_read':<34} {(some - none) / FRAMES * 1e6:8.2f} us")
     print(f"  {'the plain loop':<34} {plain / FRAMES * 1e6:8.2f} us  {(some - none) / plain:5.2f}")
 
 
