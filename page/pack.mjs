@@ -1,5 +1,6 @@
-// node page/pack.mjs [MODULE.wasm]: the page in one file, page/out/ecall.html, which opens from a disk, where browsers load
-// neither a script's modules nor a .wasm. Without a module the page draws traces alone.
+// node page/pack.mjs [PLAIN.wasm [WHOLE.wasm]]: the page in one file, page/out/ecall.html, which opens from a disk, where browsers
+// load neither a script's modules nor a .wasm. The first module has the commands that take no memory, the second one has all;
+// without a module the page draws traces alone.
 
 import { mkdirSync, readFileSync, readdirSync, writeFileSync } from 'node:fs';
 import { fileURLToPath } from 'node:url';
@@ -7,20 +8,31 @@ import { fileURLToPath } from 'node:url';
 const HERE = fileURLToPath(new URL('.', import.meta.url));
 const EXAMPLES = `${HERE}../examples/`;
 /** The sources, each behind those that it imports. */
-const SOURCES = ['dom', 'svg', 'colours', 'trace', 'verdict', 'layout', 'marks', 'chart', 'module', 'editor', 'lines', 'picture', 'page'];
-const KINDS = { trace: 'draw', recorded: 'draw', hex: 'decode', facts: 'encode', frames: 'frames' };
+const SOURCES = ['dom', 'svg', 'colours', 'trace', 'verdict', 'layout', 'marks', 'chart', 'module', 'trust', 'editor', 'lines', 'picture', 'page'];
+/** The commands for each kind of example; the first one is that whose text is stored. */
+const KINDS = {
+  script: ['run', 'register'], floor: ['floor'], trace: ['draw', 'replay'], recorded: ['draw', 'replay'],
+  hex: ['decode'], facts: ['encode'], frames: ['frames'],
+};
 
 const read = name => readFileSync(HERE + name, 'utf8');
+
+/** The commands of an example, and the numbers behind the command: those of its own file of words, where it has one. */
+function asked(folder, name, kind, names) {
+  if (kind !== 'script' || !names.includes(`${name}.words`)) return { commands: KINDS[kind], numbers: [] };
+  const [command, ...numbers] = readFileSync(`${folder}${name}.words`, 'utf8').trim().split('\n');
+  return { commands: [command], numbers };
+}
 
 /** The examples of the repository, and the verdict on those traces that have one beside them. */
 export function examplesOf(folder = EXAMPLES) {
   const names = readdirSync(folder).sort();
   return names.flatMap(file => {
     const [name, kind] = file.split('.');
-    // the trace of a floor is no trace of one vehicle, which is what is drawn
+    // the trace of a floor is no trace of one vehicle, which is what is drawn and judged
     if (!Object.hasOwn(KINDS, kind ?? '') || (kind === 'trace' && names.includes(`${name}.floor`))) return [];
     const verdict = names.includes(`${name}.verdict`) ? readFileSync(`${folder}${name}.verdict`, 'utf8').trim() : undefined;
-    return [{ command: KINDS[kind], name, file, text: readFileSync(folder + file, 'utf8'), verdict }];
+    return [{ ...asked(folder, name, kind, names), name, file, text: readFileSync(folder + file, 'utf8'), verdict }];
   });
 }
 
@@ -44,17 +56,19 @@ function scriptOf() {
   return script;
 }
 
-/** The one file. */
-export function pack(module) {
+/** The one file, with these modules in it. */
+export function pack(modules) {
   const puts = { '/* page.css */': read('page.css'), '/* page.js */': scriptOf() };
-  let page = read('index.html').replace('<script id="wasm" type="text/plain">', start => start + (module ? module.toString('base64') : ''));
+  let page = read('index.html');
+  for (const [name, bytes] of Object.entries(modules)) page = page.replace(`<script id="${name}" type="text/plain">`, start => start + bytes.toString('base64'));
   for (const [place, text] of Object.entries(puts)) page = page.replace(place, () => text);
   return page;
 }
 
 if (process.argv[1] === fileURLToPath(import.meta.url)) {
-  const page = pack(process.argv[2] ? readFileSync(process.argv[2]) : null);
+  const modules = Object.fromEntries(process.argv.slice(2, 4).map((file, at) => [['plain', 'whole'][at], readFileSync(file)]));
+  const page = pack(modules);
   mkdirSync(`${HERE}out`, { recursive: true });
   writeFileSync(`${HERE}out/ecall.html`, page);
-  process.stdout.write(`pack: page/out/ecall.html, ${page.length} bytes, ${process.argv[2] ? 'with' : 'without'} a module\n`);
+  process.stdout.write(`pack: page/out/ecall.html, ${page.length} bytes, modules: ${Object.keys(modules).join(' and ') || 'none'}\n`);
 }

@@ -60,10 +60,14 @@ export class Editor {
     this.scrolled();
   }
 
+  /** Selects a line, and brings it into sight. */
+  show(line) {
+    this.area.setSelectionRange(...reachOf(this.area.value, line));
+    this.area.scrollTop = Math.max(0, (line - 4) * ROW);
+  }
+
   goToLine() {
-    const [from, to] = reachOf(this.area.value, this.line);
     this.area.focus();
-    this.area.setSelectionRange(from, to);
-    this.judge({ line: this.line, why: this.note.querySelector('span').textContent.replace(/^line \d+: /, '') });
+    this.show(this.line);
   }
 }

@@ -7,32 +7,39 @@ import { Lines } from './lines.js';
 import { STATUSES, isSupported, loadModule } from './module.js';
 import { Picture } from './picture.js';
 import { readTrace } from './trace.js';
+import { UNSUPPORTED, WITHOUT, moduleFor, trustOf } from './trust.js';
 import { readVerdict, verdictOf } from './verdict.js';
 
-/** What each command takes, and what it is called. */
+/** What each command is called, which numbers it takes, whether it reads the input, and of what its picture is. */
 const COMMANDS = {
-  draw: { name: 'draw: a trace, as a picture', reads: true },
-  decode: { name: 'decode: sets, described', reads: true },
-  encode: { name: 'encode: facts, as sets', reads: true },
-  frames: { name: 'frames: octets, as frames', reads: true },
-  make: { name: 'make: the script of a number', numbered: true },
-  conform: { name: 'conform: the known vectors' },
+  draw: { name: 'draw: a trace, as a picture', numbers: [], reads: true },
+  run: { name: 'run: a script, as a trace', numbers: [], reads: true, drawn: 'output' },
+  register: { name: 'register: a script, as its calls', numbers: [], reads: true },
+  replay: { name: 'replay: a trace, judged', numbers: [], reads: true, drawn: 'input' },
+  tones: { name: 'tones: a script, over a noisy modem', numbers: ['noise', 'number'], reads: true, drawn: 'output' },
+  floor: { name: 'floor: a script of many vehicles', numbers: [], reads: true },
+  relay: { name: 'relay: a script with a relay desk', numbers: [], reads: true, drawn: 'output' },
+  decode: { name: 'decode: sets, described', numbers: [], reads: true },
+  encode: { name: 'encode: facts, as sets', numbers: [], reads: true },
+  frames: { name: 'frames: octets, as frames', numbers: [], reads: true },
+  make: { name: 'make: the script of a number', numbers: ['number'] },
+  trial: { name: 'trial: what that script comes to', numbers: ['number'] },
+  conform: { name: 'conform: the known vectors', numbers: [] },
 };
-const WITHOUT = 'This page draws traces alone: it was packed without a module of ecall.';
-const WITH = 'decode, encode, frames, make and conform run in this page, by the module that the toolchain of ecall builds '
-  + 'for WebAssembly. Their answers are proved; trusted are the toolchain, with LLVM for WebAssembly, and this browser. '
-  + 'The picture, the page and the sentences on refusals are JavaScript, and tested only. run, register, replay, trial, '
-  + 'tones, floor and relay take memory, which the toolchain can’t do for WebAssembly yet: run them at the command line, and draw the trace here.';
+const NUMBERS = ['noise', 'number'];
 
 const editor = new Editor();
 const lines = new Lines(line => choose(line));
 const picture = new Picture(line => choose(line));
-let ecall = null;
+/** The modules that were packed into the page, and of what the picture is. */
+let modules = [], drawn = 'output';
 
 const command = () => byId('command').value;
 
+/** Marks a line, and its mark in the picture. */
 function choose(line) {
-  lines.select(line);
+  if (drawn === 'output') lines.select(line);
+  else editor.show(line);
   picture.select(line);
 }
 
@@ -47,42 +54,55 @@ function draw() {
   const { entries, others } = readTrace(editor.text);
   editor.judge(verdict);
   lines.show(editor.text, { shortened: true, bad: verdict?.line ?? null });
+  drawn = 'output';
   picture.show(entries, verdict);
   const left = others.length ? `; ${others.length} lines are no entries, the first is line ${others[0]}` : '';
   const sound = verdict?.kind === 'sound' ? `; ${verdict.why}` : '';
   say(`${entries.length} entries${sound}${left}`, others.length === 0 && (verdict?.line ?? null) === null);
 }
 
+/** Draws the trace that a command wrote, or that it judged. */
+function drawAnswer(text, verdict) {
+  drawn = COMMANDS[command()].drawn ?? 'output';
+  const traces = { output: text, input: editor.text };
+  picture.show(COMMANDS[command()].drawn ? readTrace(traces[drawn]).entries : [], drawn === 'input' ? verdict : null);
+}
+
 function run() {
-  const { reads } = COMMANDS[command()];
-  const began = performance.now();
-  const { status, bytes } = ecall.run(command(), { number: Number(byId('number').value), ...(reads ? { input: new TextEncoder().encode(editor.text) } : {}) });
+  const { numbers, reads, drawn: traced } = COMMANDS[command()];
+  const words = [command(), ...numbers.map(number => byId(number).value)];
+  const module = modules.find(one => one.takes(words)), began = performance.now();
+  if (!module) return say(`${STATUSES[1]}: ${words.join(' ')}`, false);
+  const { status, bytes } = module.run(words, reads ? new TextEncoder().encode(editor.text) : undefined);
   const took = performance.now() - began;
   const text = new TextDecoder().decode(bytes);
-  editor.judge(status === 0 ? null : verdictOf(text));
-  lines.show(text);
-  picture.show([], null);
-  say(`${STATUSES[status]} (status ${status}), ${bytes.length} bytes in ${took.toFixed(1)} ms`, status === 0);
+  const verdict = verdictOf(text, command());
+  editor.judge(status === 0 ? null : verdict);
+  lines.show(text, { shortened: traced === 'output' });
+  drawAnswer(text, verdict);
+  return say(`${STATUSES[status]} (status ${status}), ${bytes.length} bytes in ${took.toFixed(1)} ms`, status === 0);
 }
 
 const ask = () => (command() === 'draw' ? draw() : run());
 
-/** Shows what the command takes, and its examples. */
+/** Shows what the command takes, its examples, and which module it runs by. */
 function settle() {
-  const { reads, numbered } = COMMANDS[command()];
-  byId('number-field').hidden = !numbered;
+  const { reads, numbers } = COMMANDS[command()];
+  NUMBERS.forEach(number => { byId(`${number}-field`).hidden = !numbers.includes(number); });
   byId('verdict-field').hidden = command() !== 'draw';
   byId('input').disabled = !reads;
-  const fitting = examples.filter(example => example.command === command());
+  byId('trust').textContent = modules.length ? trustOf(modules, command()) : byId('trust').textContent;
+  const fitting = examples.filter(example => example.commands.includes(command()));
   byId('example').disabled = fitting.length === 0;
   byId('example').replaceChildren(new Option('choose one', ''), ...fitting.map(example => new Option(example.name)));
 }
 
 function take(name) {
-  const example = examples.find(one => one.command === command() && one.name === name);
+  const example = examples.find(one => one.commands.includes(command()) && one.name === name);
   if (!example) return;
   byId('example').value = name;
   byId('verdict').value = example.verdict ?? '';
+  COMMANDS[command()].numbers.forEach((number, at) => { byId(number).value = example.numbers[at]; });
   editor.text = example.text;
   ask();
 }
@@ -104,20 +124,26 @@ function listen() {
   byId('save-chart').addEventListener('click', () => offer('call.svg', picture.svg, 'image/svg+xml'));
 }
 
-/** The module that was packed into the page, if one was and the browser can run it. */
+/** The bytes of a module that was packed into the page, if it was. */
+function packed(name) {
+  const text = byId(name).textContent.trim();
+  return text === '' ? null : Uint8Array.from(atob(text), character => character.charCodeAt(0));
+}
+
+/** The modules that were packed into the page and that the browser can run, that one first for which less is trusted; or why there is none. */
 async function load() {
-  const packed = byId('wasm').textContent.trim();
-  if (packed === '') return { why: WITHOUT };
-  if (!isSupported()) return { why: 'This browser has no WebAssembly with a 64-bit memory (Chromium has it from 133 on), so the page draws traces alone.' };
-  return { module: await loadModule(Uint8Array.from(atob(packed), character => character.charCodeAt(0))), why: WITH };
+  const found = ['plain', 'whole'].map(packed).filter(bytes => bytes);
+  if (found.length === 0) return { modules: [], why: WITHOUT };
+  if (!isSupported()) return { modules: [], why: UNSUPPORTED };
+  return { modules: await Promise.all(found.map(loadModule)), why: '' };
 }
 
 async function begin() {
   listen();
-  const { module, why } = await load().catch(fault => ({ why: `The module of ecall doesn't run here (${fault.message}), so the page draws traces alone.` }));
-  ecall = module ?? null;
-  byId('trust').textContent = why;
-  const offered = ['draw', ...(ecall?.commands ?? [])];
+  const loaded = await load().catch(fault => ({ modules: [], why: `The modules of ecall don't run here (${fault.message}), so the page draws traces alone.` }));
+  modules = loaded.modules;
+  byId('trust').textContent = loaded.why;
+  const offered = Object.keys(COMMANDS).filter(name => name === 'draw' || moduleFor(modules, name));
   byId('command').replaceChildren(...offered.map(name => make('option', { value: name, textContent: COMMANDS[name].name })));
   const asked = new URLSearchParams(location.search);
   if (offered.includes(asked.get('command'))) byId('command').value = asked.get('command');

@@ -11,6 +11,20 @@ const LINE_REASONS = {
   8: 'a fact, with an event before it',
   9: 'a fifth candidate of additional data',
 };
+/** Those that say more of a trace that is judged. */
+const ENTRY_REASONS = {
+  ...LINE_REASONS,
+  1: `${LINE_REASONS[1]}, or a summary that isn't that of its octets`,
+  2: `${LINE_REASONS[2]}, or a tick below that of the line before`,
+  6: "octets that aren't 280 hexadecimal digits, in lower case",
+};
+/** What helps against some of them. */
+const HELP = {
+  3: '; one space stands between two words',
+  5: "; a tab, a carriage return (`tr -d '\\r'` takes it out) and a byte order mark are such bytes",
+  7: '; put `vin`, `kind` and `time`, or in a script a `set` line, in front',
+  8: '; put it in front of the first event',
+};
 const RULES = {
   1: 'a set is acknowledged that was not shown before, octet for octet, for this call and request',
   2: "a muted voice isn't opened, right behind the end of a wait for data or a fault",
@@ -35,30 +49,32 @@ const SET_REASONS = {
   11: value => (value === '0' ? 'there are no octets' : 'there are more than 140 octets'),
 };
 
-function whyRefused([kind, ...numbers]) {
+function whyRefused([kind, ...numbers], ofTrace) {
   if (kind === 'set') {
     const [place, reason, value] = numbers;
-    return `no set of data: ${SET_REASONS[reason]?.(value) ?? 'refused'}, at bit ${place} from 0 (reason ${reason})`;
+    const at = reason === '11' ? '' : `, at bit ${place} from 0`;
+    return `no set of data: ${SET_REASONS[reason]?.(value) ?? 'refused'}${at} (reason ${reason})`;
   }
   if (kind === 'frame') {
     const [place, fault, octet] = numbers;
     return `no frame goes on with the octet ${octet} at place ${place} of the stream from 0, ${FRAME_FAULTS[fault] ?? 'refused'} (fault ${fault})`;
   }
-  return `${LINE_REASONS[kind] ?? 'refused'} (reason ${kind})`;
+  return `${(ofTrace ? ENTRY_REASONS : LINE_REASONS)[kind] ?? 'refused'} (reason ${kind})${HELP[kind] ?? ''}`;
 }
 
-/** What one line of an answer says of a line of its input: its number, and why; null where it judges none. */
-export function readVerdict(text) {
+/** What one line of an answer says of a line of its input: its number, and why; null where it judges none. It is of `replay`, unless it
+ * is said not to be: what is wrong with a line of a trace says more. */
+export function readVerdict(text, ofTrace = true) {
   const [kind, ...words] = text.trim().split(' ');
   if (kind === 'sound' && words.length === 1) return { kind, items: Number(words[0]), line: null, why: `a safe trace of ${words[0]} entries` };
   if (!/^\d+$/.test(words[0] ?? '') || words.length < 2) return null;
   const line = Number(words[0]);
   if (kind === 'broken') return { kind, line, why: `${RULES[words[1]] ?? 'a rule is broken'} (rule ${words[1]})` };
-  if (kind === 'refused') return { kind, line, why: whyRefused(words.slice(1)) };
+  if (kind === 'refused') return { kind, line, why: whyRefused(words.slice(1), ofTrace) };
   return null;
 }
 
-/** The verdict in the last line of an answer, if it has one. */
-export function verdictOf(answer) {
-  return readVerdict(answer.trimEnd().split('\n').at(-1));
+/** The verdict in the last line of a command's answer, if it has one. */
+export function verdictOf(answer, command) {
+  return readVerdict(answer.trimEnd().split('\n').at(-1), command === 'replay');
 }

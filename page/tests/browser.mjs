@@ -1,5 +1,5 @@
 // node page/tests/browser.mjs PROGRAM: the page in a headless Chromium, opened from the disk. Each example through the page gives
-// the stored text of the native program, and what it stores nothing of the text that PROGRAM writes; each trace its picture.
+// the bytes, the status and the sentence of the native PROGRAM, and the text that is stored beside it; each trace its picture.
 
 import { spawnSync } from 'node:child_process';
 import { existsSync, readFileSync } from 'node:fs';
@@ -10,7 +10,7 @@ import { Browser, ROOT } from './chromium.mjs';
 import { longTrace } from './long.mjs';
 
 const EXAMPLES = `${ROOT}examples/`;
-const ANSWERS = { hex: 'description', facts: 'sets', frames: 'told' };
+const ANSWERS = { run: 'trace', tones: 'trace', relay: 'trace', floor: 'trace', register: 'register', replay: 'verdict', decode: 'description', encode: 'sets', frames: 'told' };
 const faults = [];
 let tried = 0;
 
@@ -28,33 +28,73 @@ const STATUS = "document.getElementById('status').textContent";
 const offered = id => `new Promise(done => { const was = URL.createObjectURL; URL.createObjectURL = blob => { URL.createObjectURL = was; blob.text().then(done); return 'about:blank#'; };
   HTMLAnchorElement.prototype.click = () => {}; document.getElementById('${id}').click(); })`;
 
-async function checkAnswers(browser) {
-  for (const { command, name, file } of examplesOf().filter(example => example.command !== 'draw')) {
-    await browser.value(chose('command', command));
-    await browser.value(chose('example', name));
-    const [, kind] = file.split('.'), status = existsSync(`${EXAMPLES}${name}.status`) ? readFileSync(`${EXAMPLES}${name}.status`, 'utf8').trim() : '0';
-    expect(`${command} < ${file}: text`, await browser.value(offered('save')), readFileSync(`${EXAMPLES}${name}.${ANSWERS[kind]}`, 'utf8'));
-    expect(`${command} < ${file}: status`, /\(status (\d)\)/.exec(await browser.value(STATUS))?.[1], status);
-    const said = existsSync(`${EXAMPLES}${name}.said`) ? readFileSync(`${EXAMPLES}${name}.said`, 'utf8').trim().replace('ecall: ', '') : '';
-    expect(`${command} < ${file}: refusal`, await browser.value("document.querySelector('#judged:not([hidden]) span')?.textContent ?? ''"), said);
-    expect(`${command} < ${file}: marked line`, await browser.value("document.getElementById('refused').hidden"), said === '');
+const native = (program, words, input) => spawnSync(program, words, { input, encoding: 'utf8', maxBuffer: 1 << 28 });
+
+/** What the page says and offers is what the program says and writes. */
+async function checkAnswer(browser, what, { stdout, stderr, status }) {
+  expect(`${what}: text`, await browser.value(offered('save')), stdout);
+  expect(`${what}: status`, /\(status (\d)\)/.exec(await browser.value(STATUS))?.[1], String(status));
+  const said = status === 2 || status === 3 ? stderr.trim().replace('ecall: ', '') : '';
+  expect(`${what}: sentence`, await browser.value("document.querySelector('#judged:not([hidden]) span')?.textContent ?? ''"), said);
+  expect(`${what}: marked line`, await browser.value("document.getElementById('refused').hidden"), said === '');
+}
+
+async function checkAnswers(browser, program) {
+  for (const { commands, numbers, name, file, text } of examplesOf()) {
+    for (const command of commands.filter(one => one !== 'draw')) {
+      await browser.value(chose('command', command));
+      await browser.value(chose('example', name));
+      const ran = native(program, [command, ...numbers], text), stored = `${EXAMPLES}${name}.${ANSWERS[command]}`;
+      await checkAnswer(browser, `${command} < ${file}`, ran);
+      if (command !== 'replay' || file.endsWith('.recorded')) expect(`${command} < ${file}: stored`, ran.stdout, existsSync(stored) ? readFileSync(stored, 'utf8') : ran.stdout);
+    }
   }
 }
 
-async function checkNative(browser, program) {
-  for (const [command, number] of [['conform', 0], ['make', 0], ['make', 7], ['make', 4294967295]]) {
-    const words = command === 'make' ? [command, String(number)] : [command];
+async function checkNumbered(browser, program) {
+  for (const [command, number] of [['conform'], ['make', '0'], ['make', '7'], ['make', '4294967295'], ['trial', '3']]) {
     await browser.value(chose('command', command));
-    await browser.value(chose('number', String(number)));
+    if (number) await browser.value(chose('number', number));
     await browser.value(GO);
-    const native = spawnSync(program, words, { encoding: 'utf8', maxBuffer: 1 << 26 });
-    expect(`${words.join(' ')}: text`, await browser.value(offered('save')), native.stdout);
+    await checkAnswer(browser, [command, number].join(' ').trim(), native(program, number ? [command, number] : [command], ''));
+  }
+}
+
+/** A made script of 20,000 lines is played in the page, and its trace of many more is drawn in a window. */
+async function checkMade(browser, program) {
+  const script = native(program, ['make', '3'], '').stdout, ran = native(program, ['run'], script);
+  await browser.value(chose('command', 'run'));
+  await browser.value(typed(script));
+  const took = await browser.value(`(() => { const began = performance.now(); ${GO}; return performance.now() - began; })()`);
+  await checkAnswer(browser, 'run of make 3', ran);
+  expect('run of make 3: drawn in a window', await browser.value("document.querySelectorAll('#canvas [data-item]').length > 5"), true);
+  process.stdout.write(`browser: ${ran.stdout.length} bytes of a trace written and drawn in ${took.toFixed(0)} ms\n`);
+}
+
+/** What a command wrote, or judged, is drawn as the picture of that trace. */
+async function checkDrawn(browser) {
+  for (const { commands, name, file, text, verdict } of examplesOf()) {
+    const command = ['run', 'tones', 'relay', 'replay'].find(one => commands.includes(one));
+    if (!command) continue;
+    await browser.value(chose('command', command));
+    await browser.value(chose('example', name));
+    const trace = command === 'replay' ? text : await browser.value(offered('save'));
+    const wanted = chartOf(trace, command === 'replay' ? readVerdict(verdict ?? await browser.value(offered('save'))) : null);
+    expect(`${command} < ${file}: picture`, await browser.value(offered('save-chart')), wanted);
+  }
+}
+
+/** The page says by which module a command runs, and what is trusted for it. */
+async function checkTrust(browser) {
+  for (const [command, module] of [['decode', 'the module that the toolchain of ecall builds'], ['run', 'the module with all of ecall'], ['draw', 'draw runs no module']]) {
+    await browser.value(chose('command', command));
+    expect(`${command}: trust`, (await browser.value("document.getElementById('trust').textContent")).includes(module), true);
   }
 }
 
 async function checkPictures(browser) {
   await browser.value(chose('command', 'draw'));
-  for (const { name, file, text, verdict } of examplesOf().filter(example => example.command === 'draw')) {
+  for (const { name, file, text, verdict } of examplesOf().filter(({ commands }) => commands.includes('draw'))) {
     await browser.value(chose('example', name));
     const wanted = chartOf(text, verdict ? readVerdict(verdict) : null);
     expect(`draw < ${file}: picture`, await browser.value(offered('save-chart')), wanted);
@@ -119,9 +159,12 @@ async function main(program) {
   try {
     await browser.look(1400, 900);
     await browser.open();
-    await checkAnswers(browser);
-    await checkNative(browser, program);
+    await checkTrust(browser);
+    await checkAnswers(browser, program);
+    await checkNumbered(browser, program);
+    await checkMade(browser, program);
     await checkPictures(browser);
+    await checkDrawn(browser);
     await checkLinks(browser);
     await checkNames(browser);
     await checkLong(browser);

@@ -13,6 +13,7 @@ import { longTrace } from './long.mjs';
 
 const ROOT = fileURLToPath(new URL('../../', import.meta.url)), EXAMPLES = `${ROOT}examples/`;
 const ANSWERS = { recorded: 'verdict', hex: 'description', facts: 'sets', frames: 'told', script: 'trace' };
+const COMMANDS = { recorded: 'replay', hex: 'decode', facts: 'encode', frames: 'frames', script: 'run' };
 const stored = name => (existsSync(EXAMPLES + name) ? readFileSync(EXAMPLES + name, 'utf8') : null);
 const count = (text, part) => text.split(part).length - 1;
 const faults = [];
@@ -53,7 +54,7 @@ function checkVerdict(name, trace, verdict) {
 function checkSentence(name, kind) {
   const said = stored(`${name}.said`), answer = stored(`${name}.${ANSWERS[kind]}`);
   if (said === null || answer === null) return;
-  const { line, why } = verdictOf(answer);
+  const { line, why } = verdictOf(answer, COMMANDS[kind]);
   expect(`${name}: sentence`, `ecall: line ${line}: ${why}\n`, said);
 }
 

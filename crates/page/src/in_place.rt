@@ -23,6 +23,7 @@ pub(crate) fn answer_in_place<I: Source, O: Sink>(
     ensures outcome { CommandOutcome (Some command)
         (streams_of I.left O.held input.old output.old 0)
         (streams_of I.left O.held input.new output.new 0) result }
+    ensures in_place { result ≡ Status.Memory → ⊥ }
     ensures unread { ReadCause result (I.faults input.old) (I.faults input.new) }
     ensures unwritten { WriteCause result (O.faults output.old) (O.faults output.new) }
 {
@@ -41,6 +42,7 @@ fn carry_out_in_place<I: Source, O: Sink>(
     ensures ends { CommandEnds (Some command)
         (streams_of I.left (λ block. O.held (sink block)) input.old output.old 0)
         (streams_of I.left (λ block. O.held (sink block)) input.new output.new 0) result }
+    ensures in_place { result ≡ Status.Memory → ⊥ }
     ensures unread { ReadCause result (I.faults input.old) (I.faults input.new) }
     ensures unwritten { WriteCause result (O.faults (sink output.old)) (O.faults (sink output.new)) }
     ensures same_sink { sink_name output.new ≡ sink_name output.old }
@@ -60,6 +62,7 @@ fn reply_in_place<I: Source, O: Sink>(
         (streams_of I.left (held O.held) input.old output.old 0)
         (streams_of I.left (held O.held) input.new output.new 0) result }
     ensures handed { result ≡ Status.ReadFault → pending output.new ≡ [] }
+    ensures in_place { result ≡ Status.Memory → ⊥ }
     ensures unread { ReadCause result (I.faults input.old) (I.faults input.new) }
     ensures unwritten { WriteCause result (O.faults (sink output.old)) (O.faults (sink output.new)) }
     ensures onward { Onward (way O.held output.old) (way O.held output.new) }

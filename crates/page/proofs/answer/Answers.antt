@@ -1,21 +1,19 @@
-use Rattle.std.proofs.Common.{ℕ, List, [], Some, take, subst, sym, ◌∙◌}
-use Rattle.ecall_top.specs.Replies.{CommandOutcome}
+use Rattle.std.specs.Prelude.{Some, take}
+use Rattle.std.proofs.Common.{refl, ◌∙◌}
+use Rattle.page_room.proofs.Told.{remembers, told}
 use Rattle.page.proofs.answer.Goals as goal
 
-pub returns : goal.returns
-returns c =
-    let status = c.answer_in_place-status.result in
+pub returns-clause-text : goal.returns-clause-text
+returns-clause-text c =
     let new = c.answer_in_place-status.new in
-    let first = subst (λ (input : List ℕ). CommandOutcome (Some c.args.command)
-    (record { left = Some input; held = Some (take c.over-to.result.used c.over-to.result.room.now); passes = 0 })
-    (record { left = Some new.input; held = Some (take new.output.used new.output.room.now); passes = 0 }) status)
-    c.of-from.ensures c.answer_in_place-status.ensures.outcome in
-    let second = subst (λ (held : List ℕ). CommandOutcome (Some c.args.command)
-    (record { left = Some c.args.input.now; held = Some held; passes = 0 })
-    (record { left = Some new.input; held = Some (take new.output.used new.output.room.now); passes = 0 }) status)
-    c.over-to.ensures.nothing first in
-    let third = subst (λ (text : List ℕ). CommandOutcome (Some c.args.command)
-    (record { left = Some c.args.input.now; held = Some []; passes = 0 })
-    (record { left = Some new.input; held = Some text; passes = 0 }) status)
-    (sym (c.put.ensures ∙ c.text.ensures.text)) second in
-    (status, c.code.ensures, (new.input, third))
+    told (Some c.args.command) c.of-from.result c.args.input.now new.input
+    (take c.over-to.result.used c.over-to.result.room.now) (take c.reply.result.written c.reply.new.output)
+    (take new.output.used new.output.room.now) 0 0 c.over-to.result.faults new.output.faults c.reply.result.status
+    c.answer_in_place-status.result c.of-from.ensures c.over-to.ensures.nothing c.reply.ensures.text refl
+    c.over-to.ensures.faults (c.reply.ensures.status ∙ c.code.ensures) c.answer_in_place-status.ensures.outcome
+    c.answer_in_place-status.ensures.unread c.answer_in_place-status.ensures.unwritten c.reply.ensures.full
+
+pub returns-clause-memory : goal.returns-clause-memory
+returns-clause-memory c =
+    remembers c.answer_in_place-status.result c.reply.result.status (c.reply.ensures.status ∙ c.code.ensures)
+    c.answer_in_place-status.ensures.in_place

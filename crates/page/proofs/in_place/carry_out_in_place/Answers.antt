@@ -1,6 +1,6 @@
 use Rattle.std.specs.Prelude.{Some}
 use Rattle.call_io.proofs.BlockLemmas.{Onward-append}
-use Rattle.ecall_top.proofs.Handed.{handed_over, handed_read}
+use Rattle.ecall_top.proofs.Handed.{handed_memory, handed_over, handed_read}
 use Rattle.page.proofs.in_place.carry_out_in_place.Goals as goal
 
 pub returns-clause-ends : goal.returns-clause-ends
@@ -11,6 +11,11 @@ returns-clause-ends g c =
     (Onward-append _ _ _ c.reply_in_place-status.ensures.onward c.hand_over.ensures.onward) c.hand_over.ensures.kept
     c.reply_in_place-status.result c.hand_over.result c.hand_over.ensures.over
     c.reply_in_place-status.ensures.ends
+
+pub returns-clause-in_place : goal.returns-clause-in_place
+returns-clause-in_place g c =
+    λ wants. c.reply_in_place-status.ensures.in_place
+    (handed_memory c.reply_in_place-status.result c.hand_over.result _ c.hand_over.ensures.over wants)
 
 pub returns-clause-unread : goal.returns-clause-unread
 returns-clause-unread g c =
