@@ -1,0 +1,5 @@
+pub mod Fault
+pub mod Outcome
+pub mod Refused
+pub mod Told
+pub mod inner
