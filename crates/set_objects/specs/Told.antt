@@ -1,21 +1,15 @@
 -- What is told of a line with a set of data in hexadecimal: an object, unless the line is passed over, whether or not
 -- it is refused. This project's profile. What a line says is what `ecall decode` reads in it, and its set is the one
 -- that its octets show. Cited by `put_line`.
-use Rattle.std.specs.Prelude.{◌≡◌, ℕ, Bool, true, false, List, [], ◌++◌, ◌⊎◌, Option, Some, None, Result, Ok, Err}
+use Rattle.std.specs.Prelude.{◌≡◌, ℕ, Bool, true, false, List, ◌++◌, ◌⊎◌, Option, Some, None, Result, Ok, Err}
 use Rattle.per_bits.specs.declared.refusals.Refusal.{Refusal}
 use Rattle.msd_values.specs.declared.msd.Msd.{Msd}
 use Rattle.msd_codec.specs.Sets.{Shows, StopsAt}
 use Rattle.line_input.specs.declared.reason.Reason.{Reason}
-use Rattle.set_objects.specs.Bad.{line_refusal_object, set_refusal_object}
+use Rattle.view_lines.specs.Refused.{line_refusal_object}
+use Rattle.view_lines.specs.Told.{Told, nothing_told}
+use Rattle.set_objects.specs.Bad.{set_refusal_object}
 use Rattle.set_objects.specs.Object.{set_object}
-
--- a text, and whether any of its objects says that a line is refused
-pub record Told : Type 0 where
-  pub text : List ℕ
-  pub refused : Bool
-
-abbrev pub nothing_told : Told
-nothing_told = record { text = []; refused = false }
 
 -- the octets show a set, and its object is told
 pub record SetTold (number : ℕ) (octets : List ℕ) (t : Told) : Type 0 where

@@ -6,10 +6,11 @@ ghost use Rattle.per_bits.specs.Bits.{octets_of};
 ghost use Rattle.per_bits.specs.Parts.{members_of, present_members};
 ghost use Rattle.set_objects.specs.Object.{addition_field, additions_field, additions_object};
 
-use crate::text::{put_all, put_octets};
+use crate::text::put_octets;
 use itoa::Buffer;
 use per_bits::{Additions, Octs};
 use std::alloc::AllocError;
+use view_lines::put_all;
 
 #[tactic(auto, unfolding(crate::specs::Object::addition_field))]
 // Puts a present addition.

@@ -1,12 +1,11 @@
-//! The objects of lines that are refused.
+//! The objects of lines whose octets are no set.
 ghost use Rattle.std.specs.Prelude.{◌≡◌, ◌++◌, OnOk};
-ghost use Rattle.set_objects.specs.Bad.{line_reason_name, line_refusal_object, set_reason_name, set_refusal_object};
+ghost use Rattle.set_objects.specs.Bad.{set_reason_name, set_refusal_object};
 
-use crate::text::put_all;
 use itoa::Buffer;
-use line_input::Reason;
 use per_bits::Refusal;
 use std::alloc::AllocError;
+use view_lines::put_all;
 
 /// The name of why a set is refused.
 fn set_reason_name(reason: per_bits::Reason) -> &'static [u8]
@@ -24,23 +23,6 @@ fn set_reason_name(reason: per_bits::Reason) -> &'static [u8]
         per_bits::Reason::PadBits => b"PadBits",
         per_bits::Reason::Trailing => b"Trailing",
         per_bits::Reason::Size => b"Size",
-    }
-}
-
-/// The name of why a line is refused.
-fn line_reason_name(reason: Reason) -> &'static [u8]
-    ensures { result.now ≡ line_reason_name reason }
-{
-    match reason {
-        Reason::Word => b"Word",
-        Reason::Number => b"Number",
-        Reason::Count => b"Count",
-        Reason::LineLong => b"LineLong",
-        Reason::Text => b"Text",
-        Reason::Hex => b"Hex",
-        Reason::Missing => b"Missing",
-        Reason::Late => b"Late",
-        Reason::Many => b"Many",
     }
 }
 
@@ -70,30 +52,6 @@ pub(crate) fn put_set_refusal(
             b"\",\"value\":",
             value.format(refusal.value).as_bytes(),
             b"}}\n",
-        ],
-    )
-}
-
-/// Puts the object of a line that has no octets.
-pub(crate) fn put_line_refusal(
-    text: &mut Vec<u8>,
-    line: u64,
-    reason: Reason,
-) -> Result<(), AllocError>
-    ensures { OnOk result (text.new.items ≡ text.old.items ++ line_refusal_object line reason) }
-{
-    let mut number = Buffer::new();
-    let mut code = Buffer::new();
-    put_all(
-        text,
-        &[
-            b"{\"line\":",
-            number.format(line).as_bytes(),
-            b",\"refused\":{\"place\":null,\"reason\":",
-            code.format(reason.code()).as_bytes(),
-            b",\"name\":\"",
-            line_reason_name(reason),
-            b"\",\"value\":null}}\n",
         ],
     )
 }

@@ -2,9 +2,9 @@
 ghost use Rattle.std.specs.Prelude.{◌≡◌, ◌<◌, ◌++◌, OnOk};
 ghost use Rattle.set_objects.specs.Degrees.{decimals_of, degrees_text, digit_at, seven_digits, sign_text};
 
-use crate::text::put_all;
 use itoa::Buffer;
 use std::alloc::AllocError;
+use view_lines::put_all;
 
 /// How many milliarcseconds a degree has.
 const DEGREE: u32 = 3_600_000;

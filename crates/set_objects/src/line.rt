@@ -1,56 +1,19 @@
 //! What is told of one line.
-ghost use Rattle.std.specs.Prelude.{◌≡◌, ◌≤◌, ◌++◌, List, ℕ, length, Ok, Err, Some, IfOk};
-ghost use Rattle.std.specs.List.{list_all};
+ghost use Rattle.std.specs.Prelude.{◌≤◌, length, Ok, Err, Some, IfOk};
 ghost use Rattle.hex.specs.Hex.{decode_of};
-ghost use Rattle.line_input.specs.Lines.{is_comment, is_printable, line_fault, most_in_line};
+ghost use Rattle.line_input.specs.Lines.{most_in_line};
 ghost use Rattle.set_commands.specs.Decode.{judged_set, octets_in, some_octets};
 ghost use Rattle.set_objects.specs.Told.{PutsLine};
 
-use crate::bad::{put_line_refusal, put_set_refusal};
+use crate::bad::put_set_refusal;
 use crate::object::put_set;
 use line_input::{Reason, only_word};
 use msd_codec::decode;
 use std::alloc::AllocError;
+use view_lines::{is_comment, line_fault, put_line_refusal};
 
 /// The most octets that a line has in hexadecimal.
 const MOST_OCTETS: usize = 256;
-
-/// The most bytes of a line.
-const MOST_IN_LINE: usize = 512;
-
-/// Whether each byte may stand in a line.
-fn is_printable(line: &[u8]) -> bool
-    ensures { result ≡ list_all is_printable line.now }
-{
-    let mut all = true;
-    for byte in line {
-        all &= b' ' <= *byte && *byte <= b'~';
-    }
-    all
-}
-
-/// Why a line is refused, whatever it says.
-fn line_fault(line: &[u8]) -> Option<Reason>
-    ensures { result ≡ line_fault line.now }
-{
-    if line.len() > MOST_IN_LINE {
-        Some(Reason::LineLong)
-    } else if is_printable(line) {
-        None
-    } else {
-        Some(Reason::Text)
-    }
-}
-
-/// Whether a line is empty, or begins with `#`.
-fn is_comment(line: &[u8]) -> bool
-    ensures { result ≡ is_comment line.now }
-{
-    match line.first() {
-        Some(first) => *first == b'#',
-        None => true,
-    }
-}
 
 /// Puts what is told of octets. True is for octets that are no set.
 fn put_octets_told(text: &mut Vec<u8>, number: u64, octets: &[u8]) -> Result<bool, AllocError>

@@ -5,11 +5,12 @@ ghost use Rattle.set_objects.specs.Object.{extra_field, extra_object, last_field
 
 use crate::additions::put_additions;
 use crate::place::{put_position, put_ways};
-use crate::text::{boolean_text, put_all, put_octets};
+use crate::text::{boolean_text, put_octets};
 use crate::vehicle::{put_fuel, put_vehicle};
 use msd_values::{Extra, Msd, Remarks, find_remarks};
 use per_bits::Octs;
 use std::alloc::AllocError;
+use view_lines::put_all;
 
 #[tactic(auto, unfolding(crate::specs::Object::octets_field))]
 // Puts a field of octets.

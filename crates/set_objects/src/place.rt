@@ -5,10 +5,10 @@ ghost use Rattle.set_objects.specs.Object.{angle_fields, heading_fields, latitud
 
 use crate::date::instant_text;
 use crate::degrees::put_degrees;
-use crate::text::put_all;
 use itoa::Buffer;
 use msd_values::{Delta, Msd};
 use std::alloc::AllocError;
+use view_lines::put_all;
 
 /// The number by which a set says that it doesn't know a latitude or a longitude.
 const UNKNOWN_ANGLE: i32 = 2_147_483_647;

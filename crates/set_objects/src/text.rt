@@ -1,22 +1,11 @@
-//! Text that grows piece by piece.
-ghost use Rattle.std.specs.Prelude.{◌≡◌, ◌++◌, map, take, length, ◌≤◌, OnOk};
-ghost use Rattle.std.specs.List.{concat};
+//! Values behind a text.
+ghost use Rattle.std.specs.Prelude.{◌≡◌, ◌++◌, take, length, ◌≤◌, OnOk};
 ghost use Rattle.hex.specs.Hex.{encode_lower};
 ghost use Rattle.per_bits.specs.Bits.{octets_of};
 ghost use Rattle.set_objects.specs.Json.{boolean_text};
 
 use per_bits::Octs;
 use std::alloc::AllocError;
-
-/// Puts some pieces behind a text, in order.
-pub(crate) fn put_all(text: &mut Vec<u8>, pieces: &[&[u8]]) -> Result<(), AllocError>
-    ensures { OnOk result (text.new.items ≡ text.old.items ++ concat (map (λ piece. piece.now) pieces.now)) }
-{
-    for piece in pieces {
-        text.extend_from_slice(piece)?;
-    }
-    Ok(())
-}
 
 /// Whether something is so.
 pub(crate) fn boolean_text(so: bool) -> &'static [u8]

@@ -4,10 +4,11 @@ ghost use Rattle.msd_values.specs.Texts.{root_name};
 ghost use Rattle.set_objects.specs.Object.{first_energies, fuel_fields, kind_fields, last_energies, number_fields, truth_fields, vehicle_fields, vin_field};
 
 use crate::additions::put_additions;
-use crate::text::{boolean_text, put_all};
+use crate::text::boolean_text;
 use itoa::Buffer;
 use msd_values::{Marks, Msd, VehicleKind, Vin};
 use std::alloc::AllocError;
+use view_lines::put_all;
 
 #[tactic(auto, unfolding(crate::specs::Object::number_fields))]
 // Puts the number of the line, the format and the number of the message.

@@ -1,6 +1,1 @@
-pub mod KeptLemmas
-pub mod PieceLemmas
-pub mod StandsLemmas
-pub mod TellerLemmas
 pub mod TellingLemmas
-pub mod ToldLemmas

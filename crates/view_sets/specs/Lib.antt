@@ -1,3 +1,1 @@
-pub mod Outcome
 pub mod Told
-pub mod inner

@@ -1,135 +1,45 @@
 //! Telling a whole input.
-ghost use Rattle.std.specs.Prelude.{◌≡◌, ◌+◌, ◌<◌, ◌≤◌, ◌++◌, ℕ, List, Option, OnOk, OnErr, IfErr, MatchResult, length};
-ghost use Rattle.std.specs.Io.KnownBytes.{IsAtEnd};
-ghost use Rattle.call_io.specs.Bytes.{Grew, GrewPartly, Took};
-ghost use Rattle.call_io.specs.Counts.{Rose};
-ghost use Rattle.view_sets.specs.Outcome.{Outcome, ReadCause, WriteCause};
-ghost use Rattle.view_sets.specs.inner.Telling.{HandsOn, Pieced, SoFar, Turned, answer_of, whole_answer};
+ghost use Rattle.std.specs.Prelude.{List, ℕ};
+ghost use Rattle.view_lines.specs.Outcome.{Outcome, ReadCause, WriteCause};
+ghost use Rattle.view_sets.specs.Told.{IsEndTold, IsSetTold};
 
-use crate::answer::Answer;
-use crate::teller::{Stop, Teller};
-use call_io::{Failed, Sink, Source, write_all};
-use std::alloc::Global;
+use call_io::{Sink, Source};
+use set_objects::put_line;
+use std::alloc::{AllocError, Global};
+use view_lines::{Answer, LineTeller, tell_lines};
 
-/// How many bytes are read at once.
-const BLOCK: usize = 8192;
+/// Tells lines with a set of data each. It keeps nothing.
+#[derive(Clone, Copy, Drop)]
+struct SetLines;
 
-/// The answer of what stopped a teller.
-fn answer_of(stop: Stop) -> Answer
-    ensures { result ≡ answer_of stop }
-{
-    match stop {
-        Stop::Memory => Answer::Memory,
-        Stop::TooLong => Answer::TooLong,
+impl LineTeller for SetLines {
+    ghost tells = { IsSetTold };
+
+    ghost ends = { IsEndTold };
+
+    ghost heard = { λ s lines. Unit {0} };
+
+    fn put_line(
+        &mut self,
+        text: &mut Vec<u8>,
+        number: u64,
+        line: &[u8],
+    ) -> Result<bool, AllocError> {
+        put_line(text, number, line)
+    }
+
+    fn put_end(&mut self, _text: &mut Vec<u8>) -> Result<bool, AllocError> {
+        Ok(false)
     }
 }
 
-/// The answer where a whole input was told.
-fn whole_answer(refused: bool) -> Answer
-    ensures { result ≡ whole_answer refused }
-{
-    if refused {
-        Answer::SomeRefused
-    } else {
-        Answer::Done
-    }
-}
-
-/// Hands the objects at hand on to the sink.
-fn hand_on<O: Sink>(teller: &mut Teller, output: &mut O) -> Result<(), Failed>
-    ensures ok { OnOk result (Grew (O.held output.old) (O.held output.new) teller.old.text.items) }
-    ensures partly { OnErr result (GrewPartly (O.held output.old) (O.held output.new) teller.old.text.items) }
-    ensures on { OnOk result (HandsOn teller.old teller.new) }
-    ensures cause { OnErr result (Rose (O.faults output.old) (O.faults output.new)) }
-    ensures stood { OnOk result (O.faults output.new ≡ O.faults output.old) }
-{
-    write_all(output, teller.text.as_slice())?;
-    teller.text.clear();
-    Ok(())
-}
-
-/// Takes the bytes that were read, and hands on the objects of the lines that end in them.
-fn tell_piece<O: Sink>(teller: &mut Teller, output: &mut O, piece: &[u8]) -> Result<(), Answer>
-    requires { 0 < length piece.now }
-    ensures told { (left left' mid held : Option (List ℕ)) (front : List ℕ) (reads : ℕ) → reads ≤ length front →
-        SoFar left mid held (O.held output.old) teller.old front → Took mid left' piece.now →
-        Pieced left left' held (O.held output.new) teller.new (front ++ piece.now) (reads + 1) result }
-    ensures unread { (n : ℕ) → IfErr result (λ answer. ReadCause answer n n) }
-    ensures unwritten { MatchResult result (λ _. O.faults output.new ≡ O.faults output.old)
-        (λ answer. WriteCause answer (O.faults output.old) (O.faults output.new)) }
-{
-    match teller.take(piece) {
-        Ok(()) => {}
-        Err(stop) => return Err(answer_of(stop)),
-    }
-    match hand_on(teller, output) {
-        Ok(()) => Ok(()),
-        Err(_) => Err(Answer::WriteFault),
-    }
-}
-
-/// Reads the next bytes and tells the lines that end in them. False is for the end of the input.
-fn tell_block<I: Source, O: Sink>(
-    teller: &mut Teller,
-    input: &mut I,
-    output: &mut O,
-    block: &mut [u8; BLOCK],
-) -> Result<bool, Answer>
-    ensures told { (left held : Option (List ℕ)) (front : List ℕ) (reads : ℕ) → reads ≤ length front →
-        SoFar left (I.left input.old) held (O.held output.old) teller.old front →
-        Turned left (I.left input.new) held (O.held output.new) teller.new (reads + 1) result }
-    ensures unread { MatchResult result (λ _. I.faults input.new ≡ I.faults input.old)
-        (λ answer. ReadCause answer (I.faults input.old) (I.faults input.new)) }
-    ensures unwritten { MatchResult result (λ _. O.faults output.new ≡ O.faults output.old)
-        (λ answer. WriteCause answer (O.faults output.old) (O.faults output.new)) }
-{
-    match input.read(block) {
-        Ok(0) => Ok(false),
-        Ok(count) => match tell_piece(teller, output, &block[..count]) {
-            Ok(()) => Ok(true),
-            Err(answer) => Err(answer),
-        },
-        Err(_) => Err(Answer::ReadFault),
-    }
-}
-
-/// Tells the last line, where the input ended within it, and hands its object on.
-fn tell_end<O: Sink>(teller: &mut Teller, output: &mut O) -> Answer
-    ensures told { (left left' held : Option (List ℕ)) (front : List ℕ) →
-        SoFar left left' held (O.held output.old) teller.old front → IsAtEnd left' →
-        Outcome left left' held (O.held output.new) result }
-    ensures unread { (n : ℕ) → ReadCause result n n }
-    ensures unwritten { WriteCause result (O.faults output.old) (O.faults output.new) }
-{
-    match teller.finish() {
-        Ok(()) => {}
-        Err(stop) => return answer_of(stop),
-    }
-    match hand_on(teller, output) {
-        Ok(()) => whole_answer(teller.refused),
-        Err(_) => Answer::WriteFault,
-    }
-}
-
-/// Tells the lines of an input of any length, each with a set of data in hexadecimal: the object of each line that isn't
-/// passed over, in order, whether or not it is refused. What it keeps doesn't grow with the input: a block of it, the
-/// first bytes of one line, and the objects of the lines that end in a block.
+/// Tells the lines of an input of any length, each with a set of data in hexadecimal: the object of each line that
+/// isn't passed over, in order, whether or not it is refused. What it keeps doesn't grow with the input.
 pub fn tell_sets<I: Source, O: Sink>(alloc: Global, input: &mut I, output: &mut O) -> Answer
-    ensures outcome { Outcome (I.left input.old) (I.left input.new) (O.held output.old) (O.held output.new) result }
+    ensures outcome { Outcome IsSetTold IsEndTold (I.left input.old) (I.left input.new) (O.held output.old)
+        (O.held output.new) result }
     ensures unread { ReadCause result (I.faults input.old) (I.faults input.new) }
     ensures unwritten { WriteCause result (O.faults output.old) (O.faults output.new) }
 {
-    let mut teller = Teller::new(alloc);
-    let mut block = [0; BLOCK];
-    for _ in 0..u64::MAX {
-        match tell_block(&mut teller, input, output, &mut block) {
-            Ok(more) => {
-                if !more {
-                    return tell_end(&mut teller, output);
-                }
-            }
-            Err(answer) => return answer,
-        }
-    }
-    Answer::TooLong
+    tell_lines(alloc, SetLines, input, output)
 }

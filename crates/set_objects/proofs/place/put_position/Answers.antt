@@ -1,5 +1,5 @@
 use Rattle.set_objects.specs.Object.{position_fields}
-use Rattle.set_objects.proofs.PieceLemmas.{three}
+use Rattle.view_lines.proofs.PiecesLemmas.{three}
 use Rattle.set_objects.proofs.place.put_position.Goals as goal
 
 pub returns : goal.returns

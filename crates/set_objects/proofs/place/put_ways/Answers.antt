@@ -1,5 +1,5 @@
 use Rattle.set_objects.specs.Object.{way_fields}
-use Rattle.set_objects.proofs.PieceLemmas.{four}
+use Rattle.view_lines.proofs.PiecesLemmas.{four}
 use Rattle.set_objects.proofs.place.put_ways.Goals as goal
 
 pub returns : goal.returns
