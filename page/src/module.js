@@ -4,8 +4,7 @@ export const STATUSES = ['done', 'no such command', 'a line is refused', 'the tr
   'the answer has no room left', 'out of memory', 'the input is too long'];
 
 /** The room of an answer, which the exports of both modules have in their types; and a page of a module's memory. */
-export const ROOM = 67_108_864;
-const PAGE = 65_536;
+export const ROOM = 67_108_864, PAGE = 65_536;
 /** The smallest module with a 64-bit memory. */
 const PROBE = new Uint8Array([0, 97, 115, 109, 1, 0, 0, 0, 5, 3, 1, 4, 1]);
 /** The commands of each module: the one has an export for each command, the other one for all. */

@@ -1,11 +1,12 @@
 // node page/tests/modules.mjs PROGRAM: both modules of the page, without a browser, beside the built PROGRAM: the same bytes, the
 // same status, and where a line is refused or breaks a rule the same sentence. Over the examples, over made scripts, over words
-// that name no command, over lines that are none, over examples of which some lines were changed, and over rooms that are full.
+// that name no command, over lines that are none, over examples of which some lines were changed, over rooms that are full, and over memory that
+// ends.
 
 import { spawnSync } from 'node:child_process';
 import { existsSync, readFileSync, readdirSync } from 'node:fs';
 import { setFlagsFromString } from 'node:v8';
-import { ROOM, isSupported, loadModule } from '../src/module.js';
+import { PAGE, ROOM, isSupported, loadModule } from '../src/module.js';
 import { verdictOf } from '../src/verdict.js';
 import { examplesOf } from '../pack.mjs';
 
@@ -125,10 +126,45 @@ function compareFull(program, modules) {
   compare(program, modules, ['run'], `${'#'.repeat(500)}\n`.repeat(33_488), 'too many comments');
 }
 
+/** A number as a module has it, seven bits an octet; and the number at a place of a module, with the place behind it. */
+const octetsOf = number => (number < 128 ? [number] : [128 | (number & 127), ...octetsOf(Math.floor(number / 128))]);
+const numberAt = (bytes, at) => {
+  if (bytes[at] < 128) return [bytes[at], at + 1];
+  const [rest, end] = numberAt(bytes, at + 1);
+  return [(bytes[at] & 127) + 128 * rest, end];
+};
+
+/** The module where its memory may grow by so many pages at most. */
+function limited(bytes, more) {
+  for (let at = 8; at < bytes.length;) {
+    const [size, body] = numberAt(bytes, at + 1);
+    if (bytes[at] === 5) { // the memory: one, of 64 bits
+      const [pages] = numberAt(bytes, body + 2);
+      const memory = [1, 5, ...octetsOf(pages), ...octetsOf(pages + more)];
+      return Buffer.concat([bytes.subarray(0, at), Uint8Array.from([5, memory.length, ...memory]), bytes.subarray(body + size)]);
+    }
+    at = body + size;
+  }
+  throw new Error('the module has no memory');
+}
+
+/** Where there is no memory the module says so, behind a beginning of what the program writes. */
+async function compareStarved(program, whole) {
+  const rooms = Math.ceil((2 * ROOM + PAGE) / PAGE), script = native(program, ['make', '3']).stdout, set = bytesOf('00\n');
+  for (const [words, input, heap] of [[['decode'], set, 0], [['run'], script, 0], [['run'], script, 256], [['register'], script, 256]]) {
+    const module = await loadModule(limited(whole, rooms + Math.ceil((input.length + 64) / PAGE) + heap));
+    const { status, bytes } = module.run(words, input), wanted = native(program, words, input), what = `${words[0]} with ${heap} pages`;
+    expect(`${what}: status`, status === 6 || (heap > 0 && status === wanted.status), true);
+    expect(`${what}: text`, difference(bytes, status === 6 ? wanted.stdout.subarray(0, heap ? bytes.length : 0) : wanted.stdout), '');
+  }
+}
+
 async function main(program) {
   if (!isSupported()) setFlagsFromString('--experimental-wasm-memory64'); // Node 20
-  const modules = await Promise.all(['page.wasm', 'whole.wasm'].map(name => loadModule(readFileSync(new URL(name, OUT)))));
+  const files = ['page.wasm', 'whole.wasm'].map(name => readFileSync(new URL(name, OUT)));
+  const modules = await Promise.all(files.map(loadModule));
   [compareExamples, compareMade, compareChanged, compareRefused, compareFull].forEach(check => check(program, modules));
+  await compareStarved(program, files[1]);
   faults.slice(0, 20).forEach(fault => process.stdout.write(`modules: ${fault}\n`));
   process.stdout.write(`modules: ${tried} tried in Node, ${faults.length} failed\n`);
   process.exitCode = faults.length ? 1 : 0;
