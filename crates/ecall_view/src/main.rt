@@ -1,14 +1,16 @@
-//! The program `ecall_view`: sets of data in JSON, one object for each line, for other tools.
+//! The program `ecall_view`: sets of data and traces in JSON, one object for each line, for other tools.
 #![tactic(auto)]
 
 mod ending;
 mod pipe;
 mod program;
 mod sets;
+mod subject;
 
 use crate::ending::{Ending, complain};
-use crate::program::{SETS, command_line};
+use crate::program::{SETS, TRACE, command_line};
 use crate::sets::tell_files;
+use crate::subject::Subject;
 use clap::error::ErrorKind;
 use clap::{ArgMatches, Error};
 use std::env::{self, Env};
@@ -26,8 +28,11 @@ fn carry_out(
     rt: &(impl Files + Input + Print + Eprint + AllocGlobal),
     matches: &ArgMatches<'_>,
 ) -> Ending {
-    match matches.subcommand_matches(SETS) {
-        Some(sets) => tell_files(rt, sets),
+    if let Some(words) = matches.subcommand_matches(SETS) {
+        return tell_files(rt, Subject::Sets, words);
+    }
+    match matches.subcommand_matches(TRACE) {
+        Some(words) => tell_files(rt, Subject::Traces, words),
         None => Ending::Failed,
     }
 }

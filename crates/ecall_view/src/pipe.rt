@@ -1,4 +1,6 @@
 //! A writer that notes whether whoever reads it has gone.
+ghost use Rattle.std.specs.Prelude.{◌≡◌, false};
+
 use std::io::{self, ErrorKind, Write};
 
 /// Writes to another writer, and notes whether the pipe behind it was closed.
@@ -10,7 +12,10 @@ pub struct PipeWriter<W> {
 
 impl<W> PipeWriter<W> {
     /// Before the first write.
-    pub fn new(inner: W) -> PipeWriter<W> {
+    pub fn new(inner: W) -> PipeWriter<W>
+        ensures inner { result.inner ≡ inner }
+        ensures closed { result.closed ≡ false }
+    {
         PipeWriter {
             inner,
             closed: false,
@@ -18,7 +23,9 @@ impl<W> PipeWriter<W> {
     }
 
     /// Whether a write found the pipe closed.
-    pub fn is_closed(&self) -> bool {
+    pub fn is_closed(&self) -> bool
+        ensures { result ≡ self.now.closed }
+    {
         self.closed
     }
 }
