@@ -17,6 +17,7 @@ install: build
 	install -D $(PROGRAM) $(DESTDIR)$(PREFIX)/bin/ecall
 	install -D $(VIEW) $(DESTDIR)$(PREFIX)/bin/ecall_view
 	install -D -m 644 docs/ecall.1 $(DESTDIR)$(PREFIX)/share/man/man1/ecall.1
+	install -D -m 644 docs/ecall_view.1 $(DESTDIR)$(PREFIX)/share/man/man1/ecall_view.1
 
 examples: build
 	examples/check $(PROGRAM)

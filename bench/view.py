@@ -1,6 +1,6 @@
 #!/usr/bin/env python3
 """view.py ECALL VIEW: measures `VIEW sets` beside `ECALL decode` over the same sets, over twice as many, over 10 million in little
-memory, and over all processors by GNU parallel, where that is there. Times are processor time, the least of some rounds in which
+memory, and over all processors by GNU parallel, where that is there; and `VIEW trace` beside `ECALL replay` over one trace. Times are processor time, the least of some rounds in which
 the programs take turns, but for the last, which are by the clock. The text is thrown away."""
 import os
 import resource
@@ -63,8 +63,26 @@ def by_clock(words, path):
     return time.monotonic() - began
 
 
+def measure_traces(ecall, view, folder):
+    """Measures the trace of a long script, and one of twice its entries, whose second half has later ticks."""
+    script, trace, twice = (os.path.join(folder, name) for name in ("script", "trace", "two traces"))
+    with open(script, "wb") as file:
+        subprocess.run([ecall, "make", "0"], stdout=file, check=True)
+    with open(trace, "wb") as file, open(script, "rb") as given:
+        subprocess.run([ecall, "run"], stdin=given, stdout=file, check=True)
+    with open(twice, "w", encoding="ascii") as file, open(trace, encoding="ascii") as once:
+        lines = once.readlines()
+        last = int(lines[-1].split(" ")[0])
+        file.writelines(lines)
+        file.writelines(f"{last + int(tick)} {item}" for tick, item in (line.split(" ", 1) for line in lines))
+    judged, told, double = least(([ecall, "replay"], trace), ([view, "trace"], trace), ([view, "trace"], twice))
+    print(f"a trace of {len(lines)} entries: ecall replay {judged:.3f} s, ecall_view trace {told:.3f} s, {told / judged:.2f} times")
+    print(f"a trace of {2 * len(lines)} entries: ecall_view trace {double:.3f} s, {double / told:.2f} times")
+
+
 def main(ecall, view):
     with tempfile.TemporaryDirectory() as folder:
+        measure_traces(ecall, view, folder)
         path, twice, eight = (os.path.join(folder, name) for name in ("sets", "twice", "eight"))
         write_sets(path, SETS)
         for name, times in ((twice, 2), (eight, 8)):
