@@ -3,6 +3,7 @@ pub mod Joint
 pub mod LastLine
 pub mod LiveCauses
 pub mod LiveCodes
+pub mod LiveOutcome
 pub mod LiveWords
 pub mod PointLive
 pub mod Runs

@@ -114,14 +114,26 @@ vehicle_run (Some known) script rounds =
     vehicle.run_from (vehicle.first_live known) (parts_in rounds.messages) rounds.stop script.refused
     (beats_of script.events)
 
--- the run of the vehicle's end over a script and over the octets from the point
-abbrev pub vehicle_live : (script octets : List ℕ) → Run
-vehicle_live script octets =
-    vehicle_run (script_of «end».Vehicle script).facts (script_of «end».Vehicle script) (rounds_of «end».Vehicle octets)
+-- the run of the vehicle's end over the lines of a script and over the octets from the point
+abbrev pub vehicle_over : (lines : List (List ℕ)) → (octets : List ℕ) → Run
+vehicle_over lines octets =
+    let s : Script = script_from «end».Vehicle nothing_said 1 lines in
+    vehicle_run s.facts s (rounds_of «end».Vehicle octets)
 
--- the run of the point's end over a script and over the octets from the vehicle
-abbrev pub point_live : (script octets : List ℕ) → Run
-point_live script octets =
-    let s : Script = script_of «end».Point script in
+abbrev pub vehicle_live : (script octets : List ℕ) → Run
+vehicle_live script octets = vehicle_over (lines_of script) octets
+
+-- the run of the point's end over the lines of a script and over the octets from the vehicle
+abbrev pub point_over : (lines : List (List ℕ)) → (octets : List ℕ) → Run
+point_over lines octets =
+    let s : Script = script_from «end».Point nothing_said 1 lines in
     let r : Rounds = rounds_of «end».Point octets in
     point.run_from point.first_live r.messages r.stop s.refused (beats_of s.events)
+
+abbrev pub point_live : (script octets : List ℕ) → Run
+point_live script octets = point_over (lines_of script) octets
+
+-- the run of either end over the lines of its script and over the octets from the other
+abbrev pub run_of : End → (lines : List (List ℕ)) → (octets : List ℕ) → Run
+run_of «end».Vehicle lines octets = vehicle_over lines octets
+run_of «end».Point lines octets = point_over lines octets

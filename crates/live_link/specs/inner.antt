@@ -1,6 +1,12 @@
+pub mod Brought
 pub mod Closing
+pub mod FrontGoes
 pub mod Going
 pub mod PointEnd
+pub mod PointGoes
 pub mod PointRun
+pub mod Receiving
+pub mod ScriptGoes
 pub mod VehicleEnd
+pub mod VehicleGoes
 pub mod VehicleRun
