@@ -1,8 +1,12 @@
 //! Reads the messages of the other end from the link.
 
-ghost use Rattle.std.specs.Prelude.{◌≡◌, ◌+◌, ◌≤◌, ◌++◌, ◌∷◌, [], OnOk, IfOk, IfErr};
+ghost use Rattle.std.specs.Prelude.{◌≡◌, ℕ, ◌+◌, ◌≤◌, ◌++◌, ◌∷◌, [], List, Option, OnOk, IfOk, IfErr};
 ghost use Rattle.line_input.specs.Lines.{most_bytes};
 ghost use Rattle.link_parts.specs.PartReading.{IsGoing};
+ghost use Rattle.link_parts.specs.PartReading.{kept_of};
+ghost use Rattle.link_parts.specs.Rounds.{take_octet};
+ghost use Rattle.link_parts.specs.declared.part.Part.{Part as PartOf};
+ghost use Rattle.live_link.specs.inner.Receiving.{Hears, StandsBehind, StandsWithin, TakesOctet};
 ghost use Rattle.live_link.specs.inner.Going.{Answers, IsOfLink, IsOfOctet, MayGoOn, MayReceive, MayTake, Notes, Unread, halt_of};
 
 use crate::answer::LiveStatus;
@@ -30,8 +34,10 @@ pub(crate) struct Receiver {
 
 impl Receiver {
     /// Before anything was read.
+    #[tactic(auto, using(crate::proofs::Received::nothing_taken))]
     pub(crate) fn new() -> Receiver
-        ensures { IsGoing result.reader.reader }
+        ensures going { IsGoing result.reader.reader }
+        ensures first { (start : Option (List ℕ)) → StandsBehind start start result [] }
     {
         Receiver {
             octets: Bytes::new(),
@@ -88,6 +94,9 @@ impl Receiver {
     fn take<I: Source>(&mut self, end: End, from: &mut I) -> Result<Taking, LiveStatus>
         requires { IsGoing self.old.reader.reader }
         ensures going { IfOk result (λ taking. MayTake taking end self.new) }
+        ensures takes { (start : Option (List ℕ)) (octets more : List ℕ) (parts : List PartOf) →
+            StandsWithin end start (I.left from.old) self.old octets more parts →
+            TakesOctet end start (I.left from.new) self.new octets parts result }
         ensures given { OnOk result (self.new.octets.given ≡ self.old.octets.given + 1) }
         ensures limit { OnOk result (self.new.octets.given ≤ most_bytes) }
         ensures answers { Answers IsOfLink result }
@@ -105,6 +114,8 @@ impl Receiver {
     fn hear(&mut self, end: End, octet: u8) -> Result<Taking, LiveStatus>
         requires { IsGoing self.old.reader.reader }
         ensures going { IfOk result (λ taking. MayTake taking end self.new) }
+        ensures hears { Hears (take_octet end self.old.reader.none (kept_of self.old.reader.reader) octet) octet
+            self.old self.new result }
         ensures octets { self.new.octets ≡ self.old.octets }
         ensures answers { Answers IsOfOctet result }
     {

@@ -3,6 +3,7 @@
 ghost use Rattle.std.specs.Prelude.{◌≡◌, ◌≤◌, false};
 ghost use Rattle.call_io.specs.Blocks.{held, sink, way};
 ghost use Rattle.call_io.specs.Ways.{Onward};
+ghost use Rattle.live_link.specs.inner.ScriptGoes.{ReadsNext};
 ghost use Rattle.live_link.specs.inner.Going.{Answers, FindsLine, IsOfScript, IsOfWriting, Unread, Unwritten};
 
 use crate::answer::LiveStatus;
@@ -20,6 +21,7 @@ pub(crate) fn next_line<S: Source, O: Sink>(
 ) -> Result<bool, LiveStatus>
     requires { lines.old.failed ≡ false }
     ensures finds { FindsLine lines.old lines.new result }
+    ensures reads { ReadsNext lines.old lines.new (S.left script.old) (S.left script.new) result }
     ensures answers { Answers IsOfScript result }
     ensures held { held O.held trace.new ≡ held O.held trace.old }
     ensures unread { Unread result (S.faults script.old) (S.faults script.new) }

@@ -1,7 +1,7 @@
 //! Messages to the other end.
 
-ghost use Rattle.std.specs.Prelude.{◌≡◌, ◌≤◌, ◌++◌, ◌∷◌, [], OnOk};
-ghost use Rattle.call_io.specs.Bytes.{Grew};
+ghost use Rattle.std.specs.Prelude.{◌≡◌, ◌≤◌, ◌++◌, ◌∷◌, [], OnOk, OnErr};
+ghost use Rattle.call_io.specs.Bytes.{Grew, GrewPartly};
 ghost use Rattle.link_parts.specs.Messages.{message_end};
 ghost use Rattle.live_link.specs.inner.Going.{Answers, IsOfSending, Unwritten, failed_of};
 
@@ -28,6 +28,7 @@ pub(crate) fn send<P: Sink>(
     to: &mut P,
 ) -> Result<(), LiveStatus>
     ensures sent { OnOk result (Grew (P.held to.old) (P.held to.new) (gathered.now ++ message_end ∷ [])) }
+    ensures partly { OnErr result (GrewPartly (P.held to.old) (P.held to.new) (gathered.now ++ message_end ∷ [])) }
     ensures answers { Answers IsOfSending result }
     ensures unwritten { Unwritten result (P.faults to.old) (P.faults to.new) }
     ensures counted { P.faults to.old ≤ P.faults to.new }
