@@ -368,3 +368,9 @@ notes_step e start now new octets parts parts' (taking.Part p) (Err status.PeerE
 notes_step e start now new octets parts parts' (taking.Part p) (Err status.LinkCut) s n = absurd n
 notes_step e start now new octets parts parts' (taking.Part p) (Err (status.LinkFault f)) s n = absurd n
 notes_step e start now new octets parts parts' (taking.Part p) (Err status.NoLink) s n = absurd n
+
+-- what came in a step is what the reading of the message comes to
+pub receives_came : (e : End) (start now : Option (List ℕ)) (new : Receiver) (octets : List ℕ) (parts : List Part)
+    (what : Came) → TakesStep e start now new octets parts (Ok (Some what)) → Receives e start now new octets parts (Ok what)
+receives_came e start now new octets parts came.Message h = h
+receives_came e start now new octets parts came.ScriptEnd h = h

@@ -6,7 +6,7 @@ ghost use Rattle.link_parts.specs.PartReading.{IsGoing};
 ghost use Rattle.link_parts.specs.PartReading.{kept_of};
 ghost use Rattle.link_parts.specs.Rounds.{take_octet};
 ghost use Rattle.link_parts.specs.declared.part.Part.{Part as PartOf};
-ghost use Rattle.live_link.specs.inner.Receiving.{Hears, StandsBehind, StandsWithin, TakesOctet};
+ghost use Rattle.live_link.specs.inner.Receiving.{Hears, Receives, StandsBehind, StandsWithin, TakesOctet, TakesStep};
 ghost use Rattle.live_link.specs.inner.Going.{Answers, IsOfLink, IsOfOctet, MayGoOn, MayReceive, MayTake, Notes, Unread, halt_of};
 
 use crate::answer::LiveStatus;
@@ -47,6 +47,7 @@ impl Receiver {
     }
 
     /// Reads one message, in place of the parts that stood in `parts`.
+    #[tactic(auto, using(crate::proofs::Received::begins))]
     pub(crate) fn receive<I: Source>(
         &mut self,
         end: End,
@@ -55,6 +56,9 @@ impl Receiver {
     ) -> Result<Came, LiveStatus>
         requires { IsGoing self.old.reader.reader }
         ensures going { IfOk result (λ came. MayReceive came end self.new) }
+        ensures receives { (start : Option (List ℕ)) (octets : List ℕ) →
+            StandsBehind start (I.left from.old) self.old octets →
+            Receives end start (I.left from.new) self.new octets parts.new.items result }
         ensures answers { Answers IsOfLink result }
         ensures unread { Unread result (I.faults from.old) (I.faults from.new) }
         ensures counted { I.faults from.old ≤ I.faults from.new }
@@ -69,7 +73,7 @@ impl Receiver {
     }
 
     /// Reads one octet; none is a message that goes on.
-    #[tactic(auto, using(crate::proofs::GoingLemmas::notes_on, crate::proofs::GoingLemmas::notes_fail))]
+    #[tactic(auto, using(crate::proofs::GoingLemmas::notes_on, crate::proofs::GoingLemmas::notes_fail, crate::proofs::Received::notes_step))]
     fn step<I: Source>(
         &mut self,
         end: End,
@@ -78,6 +82,9 @@ impl Receiver {
     ) -> Result<Option<Came>, LiveStatus>
         requires { IsGoing self.old.reader.reader }
         ensures going { IfOk result (λ came. MayGoOn came end self.new) }
+        ensures takes { (start : Option (List ℕ)) (octets more : List ℕ) →
+            StandsWithin end start (I.left from.old) self.old octets more parts.old.items →
+            TakesStep end start (I.left from.new) self.new octets parts.new.items result }
         ensures given { OnOk result (self.new.octets.given ≡ self.old.octets.given + 1) }
         ensures limit { OnOk result (self.new.octets.given ≤ most_bytes) }
         ensures answers { Answers IsOfLink result }
