@@ -1,0 +1,4 @@
+pub mod Inputs
+pub mod Keeping
+pub mod Parts
+pub mod Watched

@@ -1,0 +1,55 @@
+//! The parts of a text round each byte of one value: the lines of an input, the words of a line, the words of a choice.
+
+ghost use Rattle.std.specs.Prelude.{◌≡◌, ◌+◌, ◌∷◌, None, count_by, slice_get, IfSome};
+ghost use Rattle.std.specs.List.{position};
+ghost use Rattle.std.specs.Option.{option_copied};
+ghost use Rattle.memchr.specs.Find.{is_byte};
+ghost use Rattle.line_help.specs.Parts.{parts, parts_behind, IsOnePart, HasBehind};
+
+use memchr::{memchr, memchr_iter};
+
+/// The part of this number, from 0.
+pub fn part_at(separator: u8, text: &[u8], place: usize) -> Option<&[u8]>
+    ensures { option_copied result ≡ slice_get (parts separator text.now) place }
+{
+    let mut rest = text;
+    let mut left = place;
+    while left > 0 {
+        rest = part_rest(separator, rest)?;
+        left -= 1;
+    }
+    Some(split_part(separator, rest).0)
+}
+
+/// What stands behind the byte that ends the first part.
+fn part_rest(separator: u8, text: &[u8]) -> Option<&[u8]>
+    ensures none { result ≡ None → IsOnePart (parts separator text.now) }
+    ensures more { IfSome result (λ rest. HasBehind (parts separator text.now) (parts separator rest.now)) }
+{
+    split_part(separator, text).1
+}
+
+/// The first part, and what stands behind the byte that ends it.
+fn split_part(separator: u8, text: &[u8]) -> (&[u8], Option<&[u8]>)
+    ensures { parts separator text.now ≡ result.0.now ∷ parts_behind separator (option_copied result.1) }
+{
+    match find(separator, text) {
+        Some(at) => (&text[..at], Some(&text[at + 1..])),
+        None => (text, None),
+    }
+}
+
+/// Where the first such byte stands.
+fn find(separator: u8, text: &[u8]) -> Option<usize>
+    ensures { result ≡ position (is_byte separator) text.now }
+{
+    memchr(separator, text)
+}
+
+/// How many parts there are.
+#[tactic(auto, using(crate::proofs::PartsLemmas::count_places))]
+pub fn part_count(separator: u8, text: &[u8]) -> usize
+    ensures { result ≡ count_by (is_byte separator) text.now + 1 }
+{
+    memchr_iter(separator, text).count() + 1
+}
