@@ -1,4 +1,5 @@
-// What `ecall` says in a line that refuses an input or judges a trace, in the sentences of the native program.
+// What `ecall` says in a line that refuses an input or judges a trace, in sentences: of a set or a frame those of the native
+// program; of another line what its reason or rule says, where the native program looks at the line again and says more.
 
 const LINE_REASONS = {
   1: 'a word that is none of those that may stand there',

@@ -1,7 +1,8 @@
 //! What a person is told of how a call ended.
 
 use ecall_top::{Refused, Status};
-use line_input::{BadLine, Reason as LineReason};
+use line_help::{BreakSentence, Input, LineSentence, Seen};
+use line_input::BadLine;
 use link_frames::{Fault, FrameFault};
 use per_bits::{Reason as SetReason, Refusal};
 use std::fmt;
@@ -13,6 +14,8 @@ pub struct Explanation<'a> {
     pub status: Status,
     /// The first of the words that the call was given, if it was given any.
     pub word: Option<&'a str>,
+    /// The end of what was read.
+    pub seen: Seen<'a>,
 }
 
 impl fmt::Display for Explanation<'_> {
@@ -20,11 +23,11 @@ impl fmt::Display for Explanation<'_> {
         match self.status {
             Status::Done => write!(f, "all is done"),
             Status::Usage => write_usage(f, self.word),
-            Status::Refused(Refused::Line(bad)) => write_line(f, bad, self.word == Some("replay")),
+            Status::Refused(Refused::Line(bad)) => write_line(f, bad, self.word, self.seen),
             Status::Refused(Refused::Set { line, refusal }) => write_set(f, line, refusal),
             Status::Refused(Refused::Frame { line, fault }) => write_frame(f, line, fault),
-            Status::Broken { line, rule } => write_broken(f, line, rule),
-            Status::ReadFault => write!(f, "reading failed; {BEGINNING}"),
+            Status::Broken { line, rule } => write_broken(f, line, rule, self.seen),
+            Status::ReadFault => write_read_fault(f, self.seen),
             Status::WriteFault => write!(f, "writing failed; {BEGINNING}"),
             Status::Memory => write!(f, "no memory was left; {BEGINNING}"),
             Status::TooLong => write!(
@@ -78,92 +81,43 @@ fn write_usage<W: fmt::Write>(f: &mut fmt::Formatter<W>, word: Option<&str>) -> 
     }
 }
 
-/// What a line has that is refused for this reason.
-fn line_fault(reason: LineReason) -> &'static str {
-    match reason {
-        LineReason::Word => "a word that is none of those that may stand there",
-        LineReason::Number => "a number that isn't decimal, begins with 0, or is out of its range",
-        LineReason::Count => "too few or too many words",
-        LineReason::LineLong => "more than 512 bytes",
-        LineReason::Text => "a byte that is neither a printable character nor a space",
-        LineReason::Hex => {
-            "no even number of hexadecimal digits, too many octets, or no object identifier"
-        }
-        LineReason::Missing =>
-            "it wants a set of data, and the facts for one didn't come before it",
-        LineReason::Late => "a fact, with an event before it",
-        LineReason::Many => "a fifth candidate of additional data",
-    }
-}
-
-/// What a line of a trace has, where that says more than of any line.
-fn entry_fault(reason: LineReason) -> &'static str {
-    match reason {
-        LineReason::Word => {
-            "a word that is none of those that may stand there, or a summary that isn't that of its octets"
-        }
-        LineReason::Number => {
-            "a number that isn't decimal, begins with 0, or is out of its range, or a tick below that of the line before"
-        }
-        LineReason::Hex => "octets that aren't 280 hexadecimal digits, in lower case",
-        _ => line_fault(reason),
-    }
-}
-
-/// What helps against that, behind the reason's number.
-fn line_help(reason: LineReason) -> &'static str {
-    match reason {
-        LineReason::Count => "; one space stands between two words",
-        LineReason::Text => {
-            "; a tab, a carriage return (`tr -d '\\r'` takes it out) and a byte order mark are such bytes"
-        }
-        LineReason::Missing =>
-            "; put `vin`, `kind` and `time`, or in a script a `set` line, in front",
-        LineReason::Late => "; put it in front of the first event",
-        LineReason::Word
-        | LineReason::Number
-        | LineReason::LineLong
-        | LineReason::Hex
-        | LineReason::Many => "",
-    }
-}
-
-/// Why a line is refused, of a trace or of another input.
+/// Why a line is refused, of what the command reads.
 fn write_line<W: fmt::Write>(
     f: &mut fmt::Formatter<W>,
     bad: BadLine,
-    of_trace: bool,
+    word: Option<&str>,
+    seen: Seen<'_>,
 ) -> fmt::Result {
-    let line = bad.line;
-    let fault = if of_trace {
-        entry_fault(bad.reason)
-    } else {
-        line_fault(bad.reason)
+    let input = match word {
+        Some(word) => Input::of_command(word),
+        None => None,
     };
-    let code = bad.reason.code();
-    let help = line_help(bad.reason);
-    write!(f, "line {line}: {fault} (reason {code}){help}")
+    let sentence = LineSentence { bad, input, seen };
+    write!(f, "{sentence}")
 }
 
-/// What a trace has where it breaks this rule.
-fn rule_break(rule: Rule) -> &'static str {
-    match rule {
-        Rule::Agreed =>
-            "a set is acknowledged that was not shown before, octet for octet, for this call and request",
-        Rule::Opened => {
-            "a muted voice isn't opened, right behind the end of a wait for data or a fault"
-        }
-        Rule::Bounded => {
-            "a voice is muted for more than 320 ticks at the vehicle or 275 at the point, \
-            or within 20 ticks of its opening"
-        }
+/// Which rule a line of a trace breaks.
+fn write_broken<W: fmt::Write>(
+    f: &mut fmt::Formatter<W>,
+    line: u32,
+    rule: Rule,
+    seen: Seen<'_>,
+) -> fmt::Result {
+    let sentence = BreakSentence { line, rule, seen };
+    write!(f, "{sentence}")
+}
+
+/// That reading failed. Where nothing was read, nothing was written.
+fn write_read_fault<W: fmt::Write>(f: &mut fmt::Formatter<W>, seen: Seen<'_>) -> fmt::Result {
+    if seen.is_empty() {
+        write!(
+            f,
+            "standard input can't be read, as where it is a directory; nothing was written"
+        )
+    } else {
+        let line = seen.last_line();
+        write!(f, "reading failed in line {line}; {BEGINNING}")
     }
-}
-
-fn write_broken<W: fmt::Write>(f: &mut fmt::Formatter<W>, line: u32, rule: Rule) -> fmt::Result {
-    let fault = rule_break(rule);
-    let number = rule.number();
-    write!(f, "line {line}: {fault} (rule {number})")
 }
 
 fn write_set<W: fmt::Write>(f: &mut fmt::Formatter<W>, line: u32, refusal: Refusal) -> fmt::Result {

@@ -10,6 +10,7 @@ mod tests;
 use crate::explanation::Explanation;
 use call_io::{RealSink, RealSource, Sink, Source};
 use ecall_top::{Status, ecall};
+use line_help::{Seen, Watch};
 use link_frames::Steps;
 use std::alloc::Global;
 use std::env::{self, Env};
@@ -28,10 +29,17 @@ fn words(rt: &(impl Env + AllocGlobal)) -> Result<Vec<String>, Status> {
     }
 }
 
-/// Tells a person why the call didn't end with status 0. Where that can't be written, the exit status still says it.
-fn explain(rt: &impl Eprint, status: Status, word: Option<&str>) {
+/// What was read where nothing was.
+const NOTHING: Seen<'static> = Seen {
+    text: &[],
+    ended: 0,
+};
+
+/// Tells a person why the call didn't end with status 0, by a second look at the end of what was read. Where that can't
+/// be written, the exit status still says it.
+fn explain(rt: &impl Eprint, status: Status, word: Option<&str>, seen: Seen<'_>) {
     if status.code() != 0 {
-        let why = Explanation { status, word };
+        let why = Explanation { status, word, seen };
         let _ = eprintln!(rt; "ecall: {why}");
     }
 }
@@ -56,7 +64,7 @@ fn carry_out<I: Source, O: Sink, L: Ledger>(
 fn main(rt: HostRuntime) -> ExitCode {
     let status = match words(&rt) {
         Ok(words) => {
-            let mut input = RealSource::new(rt.reader());
+            let mut input = Watch::over(RealSource::new(rt.reader()));
             let mut output = RealSink::new(io::writer(&rt));
             let blank = Blank::new(1);
             let status = carry_out::<_, _, Brand>(
@@ -66,11 +74,16 @@ fn main(rt: HostRuntime) -> ExitCode {
                 &mut output,
                 blank,
             );
-            explain(&rt, status, words.first().map(|word| word.as_str()));
+            explain(
+                &rt,
+                status,
+                words.first().map(|word| word.as_str()),
+                input.seen(),
+            );
             status
         }
         Err(status) => {
-            explain(&rt, status, None);
+            explain(&rt, status, None, NOTHING);
             status
         }
     };

@@ -2,6 +2,7 @@
 
 use crate::explanation::Explanation;
 use ecall_top::{Refused, Status};
+use line_help::Seen;
 use line_input::{BadLine, Reason as LineReason};
 use link_frames::{Fault, FrameFault};
 use per_bits::{Reason as SetReason, Refusal};
@@ -10,46 +11,52 @@ use std::process::Abort;
 use std::test::Fail;
 use trace_audit::Rule;
 
-/// Checks what a person is told of line 3, where it is refused for this reason.
-fn expect_line(alloc: Global, rt: &impl Abort, reason: LineReason, text: &str) -> Result<(), Fail> {
+/// What was read where nothing was.
+const NOTHING: Seen<'static> = Seen {
+    text: &[],
+    ended: 0,
+};
+
+/// Two lines of an input.
+const TWO_LINES: Seen<'static> = Seen {
+    text: b"kind 14\n0 acked 3 4 00\n",
+    ended: 0,
+};
+
+/// Checks what a person is told of a status behind two lines.
+fn expect_seen(
+    alloc: Global,
+    rt: &impl Abort,
+    status: Status,
+    word: &str,
+    text: &str,
+) -> Result<(), Fail> {
     let why = Explanation {
-        status: Status::Refused(Refused::Line(BadLine { line: 3, reason })),
-        word: Some("run"),
+        status,
+        word: Some(word),
+        seen: TWO_LINES,
     };
-    let want = format!(in alloc; "line 3: {text}")?;
-    assert_eq!(rt; format!(in alloc; "{why}")?.as_str(), want.as_str());
+    assert_eq!(rt; format!(in alloc; "{why}")?.as_str(), text);
     Ok(())
 }
 
 #[test]
-fn explains_a_line_by_itself(rt: HostRuntime) -> Result<(), Fail> {
-    let alloc = rt.alloc();
-    let text = "a word that is none of those that may stand there (reason 1)";
-    expect_line(alloc, &rt, LineReason::Word, text)?;
-    let text = "a number that isn't decimal, begins with 0, or is out of its range (reason 2)";
-    expect_line(alloc, &rt, LineReason::Number, text)?;
-    let text = "too few or too many words (reason 3); one space stands between two words";
-    expect_line(alloc, &rt, LineReason::Count, text)?;
-    let text = "more than 512 bytes (reason 4)";
-    expect_line(alloc, &rt, LineReason::LineLong, text)?;
-    let text = "a byte that is neither a printable character nor a space (reason 5); \
-        a tab, a carriage return (`tr -d '\\r'` takes it out) and a byte order mark are such bytes";
-    expect_line(alloc, &rt, LineReason::Text, text)?;
-    let text = "no even number of hexadecimal digits, too many octets, or no object identifier \
-        (reason 6)";
-    expect_line(alloc, &rt, LineReason::Hex, text)
-}
-
-#[test]
-fn explains_a_line_by_those_before_it(rt: HostRuntime) -> Result<(), Fail> {
-    let alloc = rt.alloc();
-    let text = "it wants a set of data, and the facts for one didn't come before it (reason 7); \
-        put `vin`, `kind` and `time`, or in a script a `set` line, in front";
-    expect_line(alloc, &rt, LineReason::Missing, text)?;
-    let text = "a fact, with an event before it (reason 8); put it in front of the first event";
-    expect_line(alloc, &rt, LineReason::Late, text)?;
-    let text = "a fifth candidate of additional data (reason 9)";
-    expect_line(alloc, &rt, LineReason::Many, text)
+fn looks_at_the_line(rt: HostRuntime) -> Result<(), Fail> {
+    let reason = LineReason::Number;
+    let status = Status::Refused(Refused::Line(BadLine { line: 1, reason }));
+    let text = "line 1: word 2 is `14`, where a number from 1 to 13 may stand (reason 2)";
+    expect_seen(rt.alloc(), &rt, status, "run", text)?;
+    let reason = LineReason::Many;
+    let status = Status::Refused(Refused::Line(BadLine { line: 1, reason }));
+    let text = "line 1: a fifth candidate of additional data (reason 9)";
+    expect_seen(rt.alloc(), &rt, status, "conform", text)?;
+    let rule = Rule::Agreed;
+    let status = Status::Broken { line: 2, rule };
+    let text =
+        "line 2: the set that is acknowledged in call 3 for request 4 has no `shown` line in front (rule 1)";
+    expect_seen(rt.alloc(), &rt, status, "replay", text)?;
+    let text = "reading failed in line 3; what was written is the beginning of an answer";
+    expect_seen(rt.alloc(), &rt, Status::ReadFault, "run", text)
 }
 
 /// Checks what a person is told of a set that is refused at bit 237, for this reason and with this value.
@@ -68,6 +75,7 @@ fn expect_set(
     let why = Explanation {
         status: Status::Refused(Refused::Set { line: 3, refusal }),
         word: Some("decode"),
+        seen: NOTHING,
     };
     let want = format!(in alloc; "line 3: no set of data: {text}")?;
     assert_eq!(rt; format!(in alloc; "{why}")?.as_str(), want.as_str());
@@ -176,6 +184,7 @@ fn expect_frame(
     let why = Explanation {
         status: Status::Refused(Refused::Frame { line: 3, fault }),
         word: Some("frames"),
+        seen: NOTHING,
     };
     let want = format!(in alloc; "line 3: no frame goes on with the octet {text}")?;
     assert_eq!(rt; format!(in alloc; "{why}")?.as_str(), want.as_str());
@@ -193,38 +202,6 @@ fn explains_frames(rt: HostRuntime) -> Result<(), Fail> {
     expect_frame(alloc, &rt, Fault::Answer, 9, text)
 }
 
-#[test]
-fn explains_a_broken_rule(rt: HostRuntime) -> Result<(), Fail> {
-    let table = [
-        (
-            Rule::Agreed,
-            "line 13: a set is acknowledged that was not shown before, octet for octet, for this call and \
-            request (rule 1)",
-        ),
-        (
-            Rule::Opened,
-            "line 13: a muted voice isn't opened, right behind the end of a wait for data or a fault \
-            (rule 2)",
-        ),
-        (
-            Rule::Bounded,
-            "line 13: a voice is muted for more than 320 ticks at the vehicle or 275 at the point, \
-            or within 20 ticks of its opening (rule 3)",
-        ),
-    ];
-    for (rule, text) in &table {
-        let why = Explanation {
-            status: Status::Broken {
-                line: 13,
-                rule: *rule,
-            },
-            word: Some("replay"),
-        };
-        assert_eq!(rt; format!(in rt.alloc(); "{why}")?.as_str(), *text);
-    }
-    Ok(())
-}
-
 /// Checks with what the sentence of a status begins, after a command with this word.
 fn expect_start(
     alloc: Global,
@@ -233,7 +210,11 @@ fn expect_start(
     word: Option<&str>,
     text: &str,
 ) -> Result<(), Fail> {
-    let why = Explanation { status, word };
+    let why = Explanation {
+        status,
+        word,
+        seen: NOTHING,
+    };
     assert!(rt;
         format!(in alloc; "{why}")?.as_str().starts_with(text),
         "{text}"
@@ -277,12 +258,12 @@ fn explains_lines_and_faults(rt: HostRuntime) -> Result<(), Fail> {
                 reason: LineReason::Number,
             })),
             Some("replay"),
-            "line 2: a number that isn't decimal, begins with 0, or is out of its range, or a tick below",
+            "line 2: a number that isn't decimal, begins with 0, or is out of its range (reason 2)",
         ),
         (
             Status::ReadFault,
             Some("run"),
-            "reading failed; what was written is the beginning of an answer",
+            "standard input can't be read, as where it is a directory; nothing was written",
         ),
         (
             Status::WriteFault,

@@ -19,6 +19,8 @@ mod shown;
 mod slot;
 mod slot_fault;
 mod tables;
+#[cfg(test)]
+mod tests;
 mod wanting;
 mod watch;
 
