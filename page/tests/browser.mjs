@@ -8,6 +8,7 @@ import { readVerdict } from '../src/verdict.js';
 import { examplesOf } from '../pack.mjs';
 import { Browser, ROOT } from './chromium.mjs';
 import { longTrace } from './long.mjs';
+import { isSaid } from './sentences.mjs';
 
 const EXAMPLES = `${ROOT}examples/`;
 const ANSWERS = { run: 'trace', tones: 'trace', relay: 'trace', floor: 'trace', register: 'register', replay: 'verdict', decode: 'description', encode: 'sets', frames: 'told' };
@@ -34,9 +35,10 @@ const native = (program, words, input) => spawnSync(program, words, { input, enc
 async function checkAnswer(browser, what, { stdout, stderr, status }) {
   expect(`${what}: text`, await browser.value(offered('save')), stdout);
   expect(`${what}: status`, /\(status (\d)\)/.exec(await browser.value(STATUS))?.[1], String(status));
-  const said = status === 2 || status === 3 ? stderr.trim().replace('ecall: ', '') : '';
-  expect(`${what}: sentence`, await browser.value("document.querySelector('#judged:not([hidden]) span')?.textContent ?? ''"), said);
-  expect(`${what}: marked line`, await browser.value("document.getElementById('refused').hidden"), said === '');
+  const judged = status === 2 || status === 3;
+  const [, line, why] = /^line (\d+): (.*)$/s.exec(await browser.value("document.querySelector('#judged:not([hidden]) span')?.textContent ?? ''")) ?? [];
+  expect(`${what}: sentence`, judged ? isSaid(line, why, stderr) : line === undefined, true);
+  expect(`${what}: marked line`, await browser.value("document.getElementById('refused').hidden"), !judged);
 }
 
 async function checkAnswers(browser, program) {

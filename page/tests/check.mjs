@@ -10,6 +10,7 @@ import { layOut } from '../src/layout.js';
 import { readTrace } from '../src/trace.js';
 import { readVerdict, verdictOf } from '../src/verdict.js';
 import { longTrace } from './long.mjs';
+import { isSaid } from './sentences.mjs';
 
 const ROOT = fileURLToPath(new URL('../../', import.meta.url)), EXAMPLES = `${ROOT}examples/`;
 const ANSWERS = { recorded: 'verdict', hex: 'description', facts: 'sets', frames: 'told', script: 'trace' };
@@ -55,9 +56,7 @@ function checkSentence(name, kind) {
   const said = stored(`${name}.said`), answer = stored(`${name}.${ANSWERS[kind]}`);
   if (said === null || answer === null) return;
   const { line, why } = verdictOf(answer, COMMANDS[kind]);
-  const whole = `ecall: line ${line}: ${why}\n`, [number] = /\(\w+ \d+\)$/.exec(why);
-  const alike = /^no (set|frame)/.test(why) ? said === whole : said.startsWith(`ecall: line ${line}: `) && said.includes(number);
-  expect(`${name}: sentence`, alike, true);
+  expect(`${name}: sentence`, isSaid(line, why, said), true);
 }
 
 /** The windows of a picture hold each mark of the whole one, and each at the same height. */

@@ -9,6 +9,7 @@ import { setFlagsFromString } from 'node:v8';
 import { PAGE, ROOM, isSupported, loadModule } from '../src/module.js';
 import { verdictOf } from '../src/verdict.js';
 import { examplesOf } from '../pack.mjs';
+import { isSaid } from './sentences.mjs';
 
 const OUT = new URL('../out/', import.meta.url), EXAMPLES = new URL('../../examples/', import.meta.url);
 const MOST_INPUT = 16_777_216, MOST_NATIVE = 1 << 29;
@@ -37,7 +38,7 @@ const native = (program, words, input) => spawnSync(program, words, { input, max
 function compare(program, modules, words, input, name) {
   const ran = native(program, words, bytesOf(input)), what = `${words.join(' ')} < ${name}`;
   const text = ran.stdout.toString(), verdict = ran.status === 2 || ran.status === 3 ? verdictOf(text, words[0]) : null;
-  if (verdict) expect(`${what}: sentence`, `ecall: line ${verdict.line}: ${verdict.why}\n`, ran.stderr.toString());
+  if (verdict) expect(`${what}: sentence`, isSaid(verdict.line, verdict.why, ran.stderr.toString()), true);
   for (const module of modules.filter(one => one.takes(words))) {
     const { status, bytes } = module.run(words, bytesOf(input));
     expect(`${what}: status ${module.isWhole ? 'of the whole' : 'of the plain'} module`, status, ran.status);
