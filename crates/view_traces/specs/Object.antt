@@ -1,6 +1,6 @@
 -- The object of an entry of a trace: one line of JSON, with the number of its line, its tick, the first word of its
--- item and then what the item has. This project's profile. Words are those of the entry's line. Cited by what is told of a
--- line of a trace.
+-- item and then what the item has. This project's profile. Words are those of the entry's line. Cited by what is told
+-- of a line of a trace.
 use Rattle.std.specs.Prelude.{ℕ, Bool, List, [], ◌∷◌, codes, decimal}
 use Rattle.std.specs.List.{concat}
 use Rattle.hex.specs.Hex.{encode_lower}
