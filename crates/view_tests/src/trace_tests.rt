@@ -59,8 +59,25 @@ fn expect(
     Ok(())
 }
 
+/// Checks what is told of an entry at the last tick that has this item.
+fn expect_item(rt: &(impl Abort + AllocGlobal), (item, fields): (&str, &str)) -> Result<(), Fail> {
+    let line = format!(in rt.alloc(); "18446744073709551615 {item}")?;
+    let told = format!(in rt.alloc();
+        "{{\"line\":1,\"tick\":18446744073709551615,\"item\":\"{fields}}}\n"
+    )?;
+    expect(
+        rt,
+        line.as_str(),
+        100,
+        None,
+        None,
+        Answer::Done,
+        told.as_str(),
+    )
+}
+
 #[test]
-fn each_item_has_its_fields(rt: HostRuntime) -> Result<(), Fail> {
+fn items_of_no_call_have_their_fields(rt: HostRuntime) -> Result<(), Fail> {
     let rows = [
         ("dial 1", "dial\",\"attempt\":1"),
         ("failed 10", "failed\",\"attempt\":10"),
@@ -73,6 +90,17 @@ fn each_item_has_its_fields(rt: HostRuntime) -> Result<(), Fail> {
         ("nothing", "nothing\""),
         ("net up", "net\",\"state\":\"up\""),
         ("net down", "net\",\"state\":\"down\""),
+        ("restart vehicle", "restart\",\"end\":\"vehicle\""),
+    ];
+    for row in rows {
+        expect_item(&rt, row)?;
+    }
+    Ok(())
+}
+
+#[test]
+fn items_of_calls_have_their_fields(rt: HostRuntime) -> Result<(), Fail> {
+    let rows = [
         ("up vehicle 1", "up\",\"end\":\"vehicle\",\"call\":1"),
         (
             "down point 4294967295 hangup",
@@ -81,14 +109,6 @@ fn each_item_has_its_fields(rt: HostRuntime) -> Result<(), Fail> {
         (
             "voice point 2 open muted",
             "voice\",\"end\":\"point\",\"call\":2,\"up\":\"open\",\"down\":\"muted\"",
-        ),
-        (
-            "acked 3 255 H",
-            "acked\",\"call\":3,\"request\":255,\"octets\":\"H\"",
-        ),
-        (
-            "shown 1 2 H ok 1 WM9VDSVDSYA123456 1577836800 173880000 41700000",
-            "shown\",\"call\":1,\"request\":2,\"octets\":\"H\"",
         ),
         (
             "ended vehicle 0 T10",
@@ -102,22 +122,27 @@ fn each_item_has_its_fields(rt: HostRuntime) -> Result<(), Fail> {
         ("busy 1", "busy\",\"call\":1"),
         ("spent 1", "spent\",\"call\":1"),
         ("unshown 1", "unshown\",\"call\":1"),
-        ("restart vehicle", "restart\",\"end\":\"vehicle\""),
     ];
-    for (item, fields) in rows {
-        let line = format!(in rt.alloc(); "18446744073709551615 {item}")?;
-        let told = format!(in rt.alloc();
-            "{{\"line\":1,\"tick\":18446744073709551615,\"item\":\"{fields}}}\n"
-        )?;
-        expect(
-            &rt,
-            line.as_str(),
-            100,
-            None,
-            None,
-            Answer::Done,
-            told.as_str(),
-        )?;
+    for row in rows {
+        expect_item(&rt, row)?;
+    }
+    Ok(())
+}
+
+#[test]
+fn items_with_a_set_have_their_fields(rt: HostRuntime) -> Result<(), Fail> {
+    let rows = [
+        (
+            "acked 3 255 H",
+            "acked\",\"call\":3,\"request\":255,\"octets\":\"H\"",
+        ),
+        (
+            "shown 1 2 H ok 1 WM9VDSVDSYA123456 1577836800 173880000 41700000",
+            "shown\",\"call\":1,\"request\":2,\"octets\":\"H\"",
+        ),
+    ];
+    for row in rows {
+        expect_item(&rt, row)?;
     }
     Ok(())
 }
