@@ -9,16 +9,10 @@ import { examplesOf } from '../pack.mjs';
 import { Browser, ROOT } from './chromium.mjs';
 import { longTrace } from './long.mjs';
 import { isSaid } from './sentences.mjs';
+import { expect, tallyOver } from './tally.mjs';
 
 const EXAMPLES = `${ROOT}examples/`;
 const ANSWERS = { run: 'trace', tones: 'trace', relay: 'trace', floor: 'trace', register: 'register', replay: 'verdict', decode: 'description', encode: 'sets', frames: 'told' };
-const faults = [];
-let tried = 0;
-
-function expect(what, got, wanted) {
-  tried += 1;
-  if (got !== wanted) faults.push(`${what}: ${String(got).slice(0, 200)}, and not ${String(wanted).slice(0, 200)}`);
-}
 
 /** Chooses on the page as a person does. */
 const chose = (id, value) => `(() => { const box = document.getElementById('${id}'); box.value = ${JSON.stringify(value)}; box.dispatchEvent(new Event('change')); })()`;
@@ -176,13 +170,6 @@ async function main(program) {
   } finally {
     await browser.end();
   }
-  faults.forEach(fault => process.stdout.write(`browser: ${fault}\n`));
-  process.stdout.write(`browser: ${tried} tried in Chromium, ${faults.length} failed\n`);
-  process.exitCode = faults.length ? 1 : 0;
 }
 
-if (existsSync(process.argv[2] ?? '')) await main(process.argv[2]);
-else {
-  process.stdout.write('browser: the native program is missing: `make build` makes crates/ecall/out/ecall\n');
-  process.exitCode = 1;
-}
+await tallyOver(process.argv[2], 'browser', 'Chromium', main);

@@ -11,19 +11,13 @@ import { readTrace } from '../src/trace.js';
 import { readVerdict, verdictOf } from '../src/verdict.js';
 import { longTrace } from './long.mjs';
 import { isSaid } from './sentences.mjs';
+import { expect, tellTally } from './tally.mjs';
 
 const ROOT = fileURLToPath(new URL('../../', import.meta.url)), EXAMPLES = `${ROOT}examples/`;
 const ANSWERS = { recorded: 'verdict', hex: 'description', facts: 'sets', frames: 'told', script: 'trace' };
 const COMMANDS = { recorded: 'replay', hex: 'decode', facts: 'encode', frames: 'frames', script: 'run' };
 const stored = name => (existsSync(EXAMPLES + name) ? readFileSync(EXAMPLES + name, 'utf8') : null);
 const count = (text, part) => text.split(part).length - 1;
-const faults = [];
-let tried = 0;
-
-function expect(what, got, wanted) {
-  tried += 1;
-  if (got !== wanted) faults.push(`${what}: ${got}, and not ${wanted}`);
-}
 
 /** How often each item stands in a trace, counted from its lines alone. Items of a relay desk have no mark. */
 function itemsOf(trace) {
@@ -129,6 +123,4 @@ checkProgram();
 checkReadme();
 checkDesk();
 checkEscapes();
-faults.forEach(fault => process.stdout.write(`check: ${fault.slice(0, 300)}\n`));
-process.stdout.write(`check: ${tried} tried in Node, ${faults.length} failed\n`);
-process.exitCode = faults.length ? 1 : 0;
+tellTally('check', 'Node');

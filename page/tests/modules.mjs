@@ -4,22 +4,16 @@
 // ends.
 
 import { spawnSync } from 'node:child_process';
-import { existsSync, readFileSync, readdirSync } from 'node:fs';
+import { readFileSync, readdirSync } from 'node:fs';
 import { setFlagsFromString } from 'node:v8';
 import { PAGE, ROOM, isSupported, loadModule } from '../src/module.js';
 import { verdictOf } from '../src/verdict.js';
 import { examplesOf } from '../pack.mjs';
 import { isSaid } from './sentences.mjs';
+import { expect, tallyOver } from './tally.mjs';
 
 const OUT = new URL('../out/', import.meta.url), EXAMPLES = new URL('../../examples/', import.meta.url);
 const MOST_INPUT = 16_777_216, MOST_NATIVE = 1 << 29;
-const faults = [];
-let tried = 0;
-
-function expect(what, got, wanted) {
-  tried += 1;
-  if (got !== wanted) faults.push(`${what}: ${String(got).slice(0, 160)}, and not ${String(wanted).slice(0, 160)}`);
-}
 
 const bytesOf = text => (typeof text === 'string' ? new TextEncoder().encode(text) : text);
 
@@ -166,13 +160,6 @@ async function main(program) {
   const modules = await Promise.all(files.map(loadModule));
   [compareExamples, compareMade, compareChanged, compareRefused, compareFull].forEach(check => check(program, modules));
   await compareStarved(program, files[1]);
-  faults.slice(0, 20).forEach(fault => process.stdout.write(`modules: ${fault}\n`));
-  process.stdout.write(`modules: ${tried} tried in Node, ${faults.length} failed\n`);
-  process.exitCode = faults.length ? 1 : 0;
 }
 
-if (existsSync(process.argv[2] ?? '')) await main(process.argv[2]);
-else {
-  process.stdout.write('modules: the native program is missing: `make build` makes crates/ecall/out/ecall\n');
-  process.exitCode = 1;
-}
+await tallyOver(process.argv[2], 'modules', 'Node', main);
