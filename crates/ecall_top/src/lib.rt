@@ -25,8 +25,6 @@ ghost use Rattle.relay_command.specs.OfRun.{of_world, script_without_orders};
 ghost use Rattle.relay_command.specs.Relay.{relay_trace};
 ghost use Rattle.ecall_top.specs.inner.Ends.{CommandEnds, HandsOver};
 
-#[cfg(test)]
-mod block_tests;
 mod command;
 mod laws;
 #[cfg(test)]

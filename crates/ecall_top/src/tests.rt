@@ -1,12 +1,13 @@
-//! What no clause says: which words name no command, and what is written for them; and that a command that is named by
-//! its words is carried out.
+//! What no clause says, and no built program shows: when the lines that were written are handed to the sink, and in how
+//! many writes.
 
-ghost use Rattle.std.specs.Prelude.{◌≡◌, ◌<◌};
+ghost use Rattle.std.specs.Prelude.{None, ◌≡◌, ◌<◌};
 
 use crate::{Status, ecall};
-use call_io::{MemSink, MemSource, Sink, Source};
+use call_io::{Failed, MemSource, Sink, Source};
 use link_frames::Steps;
 use std::alloc::{AllocError, Global};
+use std::cell::Cell;
 use std::marker::Brand;
 use std::process::Abort;
 use std::sync::ledger::{Blank, Ledger};
@@ -28,116 +29,125 @@ fn carry_out<I: Source, O: Sink, L: Ledger>(
     ecall(alloc, words, input, output, &mut moments)
 }
 
-/// These words, one by one behind single spaces.
-fn listed(alloc: Global, words: &str) -> Result<Vec<String>, AllocError> {
-    let mut list = Vec::new(alloc);
-    for word in words.split(' ') {
-        list.push(String::from_str(alloc, word)?)?;
-    }
-    Ok(list)
-}
-
-/// Carries out these words, one by one behind single spaces.
-pub(crate) fn call<I: Source, O: Sink>(
+/// Carries out the command of this word.
+fn call<I: Source, O: Sink>(
     alloc: Global,
-    words: &str,
+    word: &str,
     input: &mut I,
     output: &mut O,
 ) -> Result<Status, AllocError> {
-    let list = listed(alloc, words)?;
+    let mut list = Vec::new(alloc);
+    list.push(String::from_str(alloc, word)?)?;
     Ok(carry_out::<I, O, Brand>(alloc, &list, input, output, Blank::new(1)))
 }
 
-/// Checks a status, in the row of this name.
-pub(crate) fn same_status(rt: &impl Abort, row: &str, answer: Status, status: Status) {
-    assert_eq!(rt; answer, status, "{row}");
+/// Takes all that is written, and counts the bytes and the writes.
+#[derive(Drop)]
+struct Screen<'a> {
+    shown: &'a Cell<usize>,
+    writes: &'a Cell<usize>,
 }
 
-/// Checks what was written, in the row of this name.
-fn same_text(rt: &impl Abort, row: &str, written: &[u8], text: &str) {
-    assert_eq!(rt; written, text.as_bytes(), "{row}");
+impl<'a> Sink for Screen<'a> {
+    ghost held = { λ _. None };
+
+    ghost faults = { λ _. 0 };
+
+    fn write(&mut self, piece: &[u8]) -> Result<usize, Failed> {
+        self.shown.set(self.shown.get().saturating_add(piece.len()));
+        self.writes.set(self.writes.get().saturating_add(1));
+        Ok(piece.len())
+    }
 }
 
-/// A source of this text, so many times.
-pub(crate) fn source(alloc: Global, text: &str, count: usize) -> Result<MemSource, AllocError> {
+/// Types a line at each read, and remembers how many bytes the screen showed before it.
+#[derive(Drop)]
+struct Person<'a> {
+    lines: &'a [&'a str],
+    typed: usize,
+    shown: &'a Cell<usize>,
+    saw: [usize; 8],
+}
+
+impl<'a> Source for Person<'a> {
+    ghost left = { λ _. None };
+
+    ghost faults = { λ _. 0 };
+
+    fn read(&mut self, into: &mut [u8]) -> Result<usize, Failed> {
+        if let Some(saw) = self.saw.get_mut(self.typed) {
+            *saw = self.shown.get();
+        }
+        let line = match self.lines.get(self.typed) {
+            Some(line) => line.as_bytes(),
+            None => b"",
+        };
+        self.typed = self.typed.saturating_add(1);
+        let count = line.len().min(into.len());
+        into[..count].copy_from_slice(&line[..count]);
+        Ok(count)
+    }
+}
+
+/// What a person types.
+const LINES: [&str; 6] = [
+    "set 02\n",
+    "trigger auto\n",
+    "# well\n",
+    "trig",
+    "ger auto\n",
+    "hello\n",
+];
+
+/// What a person who types those lines to `run` sees before each read, and how many writes there were.
+fn typed(alloc: Global) -> Result<([usize; 8], usize), Fail> {
+    let shown = Cell::new(0);
+    let writes = Cell::new(0);
+    let mut screen = Screen {
+        shown: &shown,
+        writes: &writes,
+    };
+    let mut person = Person {
+        lines: &LINES,
+        typed: 0,
+        shown: &shown,
+        saw: [0; 8],
+    };
+    let _ = call(alloc, "run", &mut person, &mut screen)?;
+    Ok((person.saw, writes.get()))
+}
+
+/// `0 dial 1` and `0 nothing`, each with its newline, stand there before the line behind them is read.
+#[test]
+fn answers_each_line_before_the_next_is_read(rt: HostRuntime) -> Result<(), Fail> {
+    let seen = typed(rt.alloc())?;
+    assert_eq!(rt; seen, ([0, 0, 9, 9, 9, 19, 0, 0], 3));
+    Ok(())
+}
+
+/// How many bytes `frames` shows in how many writes, over 585 lines of ten octets.
+fn framed(alloc: Global) -> Result<(usize, usize), Fail> {
     let mut bytes = Vec::new(alloc);
-    for _ in 0..count {
-        bytes.extend_from_slice(text.as_bytes())?;
+    for _ in 0..585 {
+        bytes.extend_from_slice(b"01010101010101010101\n".as_slice())?;
     }
-    Ok(MemSource::new(bytes, 4096, Vec::new(alloc)))
+    let shown = Cell::new(0);
+    let writes = Cell::new(0);
+    let mut screen = Screen {
+        shown: &shown,
+        writes: &writes,
+    };
+    let mut input = MemSource::new(bytes, 4096, Vec::new(alloc));
+    let _ = call(alloc, "frames", &mut input, &mut screen)?;
+    Ok((shown.get(), writes.get()))
 }
 
-/// How these words end over this input, and a sink that holds what they wrote.
-fn told(alloc: Global, words: &str, input: &str) -> Result<(Status, MemSink), Fail> {
-    let mut source = source(alloc, input, 1)?;
-    let mut output = MemSink::new(alloc, 20_000, Vec::new(alloc))?;
-    let answer = call(alloc, words, &mut source, &mut output)?;
-    Ok((answer, output))
-}
-
-/// Checks how these words end over this input, and all that they write.
-fn expect(
-    rt: &impl Abort,
-    alloc: Global,
-    words: &str,
-    input: &str,
-    status: Status,
-    text: &str,
-) -> Result<(), Fail> {
-    let (answer, output) = told(alloc, words, input)?;
-    same_status(rt, words, answer, status);
-    same_text(rt, words, output.bytes(), text);
-    Ok(())
-}
-
-/// Words that name no command.
-const OTHER_WORDS: [&str; 13] = [
-    "run fast",
-    "decode all",
-    "conform 1",
-    "make",
-    "make 01",
-    "trial 4294967296",
-    "tones 500",
-    "tones 1500 1",
-    "tones 01 1",
-    "floor 2",
-    "relay 1",
-    "--help",
-    "",
-];
-
+/// Each line has 21 bytes and gives `init` ten times, and the end gives `rest 0`, each with its newline. Three reads of
+/// 4096 bytes give 195 lines each, and so a full block of 8192 bytes and a part of one, which is written before the next
+/// read.
 #[test]
-fn refuses_other_words(rt: HostRuntime) -> Result<(), Fail> {
-    let usage =
-        "usage: ecall run|register|decode|encode|frames|replay|trial N|make N|conform|tones L N|floor|relay\n";
-    for words in &OTHER_WORDS {
-        expect(&rt, rt.alloc(), words, "", Status::Usage, usage)?;
-    }
-    Ok(())
-}
-
-/// Words that name commands, an input, and what is written.
-const COMMANDS: [(&str, &str, &str); 9] = [
-    ("run", "set 02\ntrigger auto\n", "0 dial 1\n"),
-    ("register", "set 02\ntrigger auto\n", "[]\n"),
-    ("decode", "\n", ""),
-    ("encode", "# none\n", ""),
-    ("frames", "01\n", "init\nrest 0\n"),
-    ("replay", "0 dial 1\n", "sound 1\n"),
-    ("tones 500 1", "set 02\ntrigger auto\n", "0 dial 1\n"),
-    ("floor", "7 set 02\n7 trigger auto\n", "0 7 dial 1\n"),
-    (
-        "relay",
-        "set 02\ntrigger auto\npass 1\n",
-        "0 dial 1\n0 relay unshown 1\n",
-    ),
-];
-
-#[test]
-fn carries_out_what_words_name(rt: HostRuntime) -> Result<(), Fail> {
-    for (words, input, text) in &COMMANDS {
-        expect(&rt, rt.alloc(), words, input, Status::Done, text)?;
-    }
+fn writes_in_blocks(rt: HostRuntime) -> Result<(), Fail> {
+    let seen = framed(rt.alloc())?;
+    assert_eq!(rt; seen, (585 * 50 + 7, 7));
     Ok(())
 }
