@@ -3,8 +3,6 @@
 
 mod laws;
 mod play;
-#[cfg(test)]
-mod tests;
 
 pub use laws::relay_laws;
 pub use play::play_relay;

@@ -3,8 +3,6 @@
 
 mod item_text;
 mod line;
-#[cfg(test)]
-mod tests;
 
 pub use item_text::write_item;
 pub use line::{RelayLine, RelayOrder, read_relay_line};
