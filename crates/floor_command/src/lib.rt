@@ -1,8 +1,6 @@
 //! The command `floor`: a script of up to 64 vehicles at one point in, their trace out.
 #![tactic(auto)]
 
-#[cfg(test)]
-mod floor_tests;
 mod laws;
 mod listener;
 mod play;

@@ -3,8 +3,6 @@
 
 mod drafts;
 mod line;
-#[cfg(test)]
-mod line_tests;
 mod vehicle;
 mod write;
 
