@@ -6,8 +6,6 @@ mod laws;
 mod modem;
 mod noise;
 mod sent;
-#[cfg(test)]
-mod tests;
 mod tones;
 
 pub use laws::{loss_laws, tones_laws};
