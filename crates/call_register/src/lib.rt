@@ -4,8 +4,6 @@
 mod laws;
 mod record;
 mod register;
-#[cfg(test)]
-mod tests;
 mod text;
 
 pub use laws::register_laws;

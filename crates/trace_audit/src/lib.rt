@@ -2,12 +2,8 @@
 #![tactic(auto)]
 
 mod audit_lines;
-#[cfg(test)]
-mod audit_tests;
 mod laws;
 mod rules;
-#[cfg(test)]
-mod rules_tests;
 mod shown;
 mod verdict;
 
