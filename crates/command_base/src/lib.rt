@@ -6,8 +6,6 @@ mod lines;
 mod reading;
 mod refusal;
 mod status;
-#[cfg(test)]
-mod tests;
 
 pub use lines::{LineCommand, carry_out_lines};
 pub use refusal::{Refused, refuse, refuse_line};
