@@ -3,7 +3,5 @@
 #![tactic(auto)]
 
 mod switch;
-#[cfg(test)]
-mod tests;
 
 pub use switch::{Switch, Voice};

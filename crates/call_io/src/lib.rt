@@ -11,8 +11,6 @@ mod plan;
 mod real;
 mod sink;
 mod source;
-#[cfg(test)]
-mod tests;
 
 pub use block::Block;
 pub use calm::{CalmSink, CalmSource};

@@ -3,7 +3,5 @@
 #![tactic(auto)]
 
 mod rest;
-#[cfg(test)]
-mod tests;
 
 pub use rest::{LEAST_STANDBY, LONGEST_STANDBY, Rest};

@@ -8,13 +8,9 @@ mod laws;
 mod note;
 mod number;
 mod reader;
-#[cfg(test)]
-mod reader_tests;
 mod requests;
 mod stage;
 mod steps;
-#[cfg(test)]
-mod tests;
 mod writing;
 
 pub use fault::{Fault, FrameFault};

@@ -7,8 +7,6 @@ mod cause;
 mod facts;
 mod fitting;
 mod octets;
-#[cfg(test)]
-mod tests;
 
 pub use candidate::{Candidate, MOST_TOGETHER};
 pub use cause::Cause;

@@ -13,8 +13,6 @@ mod msd;
 mod octets;
 mod page;
 mod remarks;
-#[cfg(test)]
-mod tests;
 mod vin;
 
 pub use description::describe;

@@ -17,6 +17,3 @@ pub use refusals::{Reason, Refusal};
 pub use sections::{Additions, AdditionsIter};
 pub use strings::{Octs, Oid};
 pub use writing::{BitBuf, Full, ROOM_BITS};
-
-#[cfg(test)]
-mod tests;

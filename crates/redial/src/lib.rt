@@ -4,8 +4,6 @@
 
 mod redial;
 mod series;
-#[cfg(test)]
-mod tests;
 
 pub use redial::Redial;
 pub use series::{LONGEST_ATTEMPT, MOST_ATTEMPTS, Next, PAUSE, Turn, WINDOW};

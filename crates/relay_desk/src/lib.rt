@@ -6,8 +6,6 @@ mod event;
 mod pending;
 mod relay;
 mod sets;
-#[cfg(test)]
-mod tests;
 mod turn;
 
 pub use event::{RelayEvent, RelayNote};

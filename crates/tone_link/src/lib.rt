@@ -5,8 +5,6 @@ mod fault;
 mod laws;
 mod reading;
 mod sums;
-#[cfg(test)]
-mod tests;
 mod writing;
 
 pub use fault::ToneFault;
