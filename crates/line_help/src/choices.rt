@@ -12,13 +12,13 @@ const MOST_APART: usize = 12;
 
 /// What may stand in one place of a line, as the words of forms, each once.
 #[derive(Drop)]
-pub struct Choices {
+pub(crate) struct Choices {
     slots: ArrayVec<&'static [u8], MOST_FORMS>,
 }
 
 impl Choices {
     /// What these forms have in that place.
-    pub fn at(forms: &Forms, place: usize) -> Choices {
+    pub(crate) fn at(forms: &Forms, place: usize) -> Choices {
         let mut slots = ArrayVec::new();
         for form in forms.as_slice() {
             add_slot(&mut slots, form, place);
@@ -27,12 +27,12 @@ impl Choices {
     }
 
     /// Whether there is none.
-    pub fn is_empty(&self) -> bool {
+    pub(crate) fn is_empty(&self) -> bool {
         self.slots.is_empty()
     }
 
     /// The only one of them, unless there are more, or none.
-    pub fn only(&self) -> Option<Slot<'static>> {
+    pub(crate) fn only(&self) -> Option<Slot<'static>> {
         match self.slots.as_slice() {
             [slot] => Some(Slot::of(slot)),
             _ => None,

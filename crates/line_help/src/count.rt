@@ -7,7 +7,7 @@ use std::fmt;
 
 /// How many words a line has, and how many its form.
 #[derive(Clone, Copy)]
-pub struct Miscount<'a> {
+pub(crate) struct Miscount<'a> {
     pub input: Input,
     pub line: &'a [u8],
 }

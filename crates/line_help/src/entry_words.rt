@@ -5,7 +5,7 @@ use line_input::{is_word, read_u64};
 
 /// The first words of an entry. Where a word isn't there, it is empty.
 #[derive(Clone, Copy)]
-pub struct EntryWords<'a> {
+pub(crate) struct EntryWords<'a> {
     /// The number of the line, from 1.
     pub number: u64,
     pub tick: u64,
@@ -19,7 +19,7 @@ pub struct EntryWords<'a> {
 
 impl<'a> EntryWords<'a> {
     /// The words of this line; none where it begins with no tick.
-    pub fn of(number: u64, line: &'a [u8]) -> Option<EntryWords<'a>> {
+    pub(crate) fn of(number: u64, line: &'a [u8]) -> Option<EntryWords<'a>> {
         let tick = read_u64(part_at(b' ', line, 0)?)?;
         Some(EntryWords {
             number,
@@ -33,12 +33,12 @@ impl<'a> EntryWords<'a> {
     }
 
     /// Whether its item begins with this word.
-    pub fn is(&self, item: &str) -> bool {
+    pub(crate) fn is(&self, item: &str) -> bool {
         is_word(self.item, item)
     }
 
     /// Whether it turns a voice open both ways.
-    pub fn opens(&self) -> bool {
+    pub(crate) fn opens(&self) -> bool {
         is_word(self.third, "open") && is_word(self.fourth, "open")
     }
 }

@@ -9,13 +9,13 @@ use arrayvec::ArrayVec;
 const MOST_WORDS: usize = 16;
 
 /// More forms than any input has.
-pub const MOST_FORMS: usize = 48;
+pub(crate) const MOST_FORMS: usize = 48;
 
 /// Some forms.
-pub type Forms = ArrayVec<&'static str, MOST_FORMS>;
+pub(crate) type Forms = ArrayVec<&'static str, MOST_FORMS>;
 
 /// How many words of a line go along a form, from its front on.
-pub fn reach(form: &str, line: &[u8]) -> usize {
+pub(crate) fn reach(form: &str, line: &[u8]) -> usize {
     for place in 0..MOST_WORDS {
         if !goes_on(form, line, place) {
             return place;
@@ -33,12 +33,12 @@ fn goes_on(form: &str, line: &[u8], place: usize) -> bool {
 }
 
 /// What may stand at a place of a form.
-pub fn slot_at(form: &str, place: usize) -> Option<Slot<'_>> {
+pub(crate) fn slot_at(form: &str, place: usize) -> Option<Slot<'_>> {
     Some(Slot::of(part_at(b' ', form.as_bytes(), place)?))
 }
 
 /// How many words of a line go along the form with which most do.
-pub fn furthest(input: Input, line: &[u8]) -> usize {
+pub(crate) fn furthest(input: Input, line: &[u8]) -> usize {
     let mut most = 0;
     for forms in &input.groups() {
         most = most.max(furthest_of(forms, line));
@@ -56,7 +56,7 @@ fn furthest_of(forms: &[&str], line: &[u8]) -> usize {
 }
 
 /// The forms along which as many words of a line go.
-pub fn candidates(input: Input, line: &[u8], words: usize) -> Forms {
+pub(crate) fn candidates(input: Input, line: &[u8], words: usize) -> Forms {
     let mut found = Forms::new();
     for forms in &input.groups() {
         add_candidates(&mut found, forms, line, words);

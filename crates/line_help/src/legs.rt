@@ -9,7 +9,7 @@ const MOST_LEGS: usize = 64;
 
 /// A leg that is up.
 #[derive(Clone, Copy, Default)]
-pub struct Leg<'a> {
+pub(crate) struct Leg<'a> {
     pub end: &'a [u8],
     pub call: &'a [u8],
     pub is_open: bool,
@@ -20,7 +20,7 @@ pub struct Leg<'a> {
 
 impl Leg<'_> {
     /// How many ticks it may be muted.
-    pub fn limit(&self) -> u64 {
+    pub(crate) fn limit(&self) -> u64 {
         if is_word(self.end, "vehicle") {
             320
         } else {
@@ -34,37 +34,37 @@ impl Leg<'_> {
     }
 
     /// Whether it is muted for too long at a tick.
-    pub fn is_over(&self, tick: u64) -> bool {
+    pub(crate) fn is_over(&self, tick: u64) -> bool {
         !self.is_open && tick.saturating_sub(self.since) > self.limit()
     }
 }
 
 /// The legs that are up, one a call of each end.
 #[derive(Drop)]
-pub struct Legs<'a> {
+pub(crate) struct Legs<'a> {
     legs: ArrayVec<Leg<'a>, MOST_LEGS>,
 }
 
 impl<'a> Legs<'a> {
     /// None is up.
-    pub fn new() -> Legs<'a> {
+    pub(crate) fn new() -> Legs<'a> {
         Legs {
             legs: ArrayVec::new(),
         }
     }
 
     /// The first that is muted for too long at a tick.
-    pub fn over(&self, tick: u64) -> Option<Leg<'a>> {
+    pub(crate) fn over(&self, tick: u64) -> Option<Leg<'a>> {
         self.legs.iter().find(|leg| leg.is_over(tick)).copied()
     }
 
     /// The leg of an entry, where it is up.
-    pub fn of_entry(&self, entry: &EntryWords<'a>) -> Option<Leg<'a>> {
+    pub(crate) fn of_entry(&self, entry: &EntryWords<'a>) -> Option<Leg<'a>> {
         self.legs.iter().find(|leg| leg.is_of(entry)).copied()
     }
 
     /// Takes an entry.
-    pub fn hear(&mut self, entry: &EntryWords<'a>) {
+    pub(crate) fn hear(&mut self, entry: &EntryWords<'a>) {
         if entry.is("up") {
             self.raise(entry);
         } else if entry.is("down") {

@@ -10,7 +10,7 @@ use memchr::memchr;
 
 /// What is looked at of a line: all of it, or what stands behind a vehicle's number.
 #[derive(Clone, Copy)]
-pub struct Look<'a> {
+pub(crate) struct Look<'a> {
     pub input: Input,
     pub text: &'a [u8],
     /// How many words stand in front of it.
@@ -19,7 +19,7 @@ pub struct Look<'a> {
 
 impl<'a> Look<'a> {
     /// A look at a line of an input.
-    pub fn at(input: Input, text: &'a [u8]) -> Look<'a> {
+    pub(crate) fn at(input: Input, text: &'a [u8]) -> Look<'a> {
         match input {
             Input::Floor => look_at_floor(text),
             _ => Look {
@@ -31,27 +31,27 @@ impl<'a> Look<'a> {
     }
 
     /// How many words go along a form.
-    pub fn furthest(&self) -> usize {
+    pub(crate) fn furthest(&self) -> usize {
         furthest(self.input, self.text)
     }
 
     /// How many words there are.
-    pub fn count(&self) -> usize {
+    pub(crate) fn count(&self) -> usize {
         part_count(b' ', self.text)
     }
 
     /// What may stand behind the words that go along a form.
-    pub fn choices(&self, furthest: usize) -> Choices {
+    pub(crate) fn choices(&self, furthest: usize) -> Choices {
         Choices::at(&candidates(self.input, self.text, furthest), furthest)
     }
 
     /// The word of this place, from 0.
-    pub fn word(&self, place: usize) -> Option<&'a [u8]> {
+    pub(crate) fn word(&self, place: usize) -> Option<&'a [u8]> {
         part_at(b' ', self.text, place)
     }
 
     /// The place of the first empty word, from 1 and in the whole line.
-    pub fn empty_word(&self) -> Option<usize> {
+    pub(crate) fn empty_word(&self) -> Option<usize> {
         let at = self
             .text
             .split(|byte| *byte == b' ')
@@ -60,7 +60,7 @@ impl<'a> Look<'a> {
     }
 
     /// The first form along which so many words go.
-    pub fn form(&self, furthest: usize) -> Option<&'static str> {
+    pub(crate) fn form(&self, furthest: usize) -> Option<&'static str> {
         candidates(self.input, self.text, furthest).first().copied()
     }
 }

@@ -30,7 +30,7 @@ fn part_rest(separator: u8, text: &[u8]) -> Option<&[u8]>
 }
 
 /// The first part, and what stands behind the byte that ends it.
-fn split_part(separator: u8, text: &[u8]) -> (&[u8], Option<&[u8]>)
+pub(crate) fn split_part(separator: u8, text: &[u8]) -> (&[u8], Option<&[u8]>)
     ensures { parts separator text.now ≡ result.0.now ∷ parts_behind separator (option_copied result.1) }
 {
     match find(separator, text) {

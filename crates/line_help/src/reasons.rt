@@ -8,7 +8,7 @@ use line_input::Reason;
 use std::fmt;
 
 /// What a line has that is refused for this reason, where its words don't say more.
-pub fn unseen_fault(reason: Reason) -> &'static str {
+pub(crate) fn unseen_fault(reason: Reason) -> &'static str {
     match reason {
         Reason::Word => "a word that is none of those that may stand there",
         Reason::Number => "a number that isn't decimal, begins with 0, or is out of its range",
@@ -25,7 +25,7 @@ pub fn unseen_fault(reason: Reason) -> &'static str {
 }
 
 /// What helps against that, behind the reason's number.
-pub fn help(reason: Reason) -> &'static str {
+pub(crate) fn help(reason: Reason) -> &'static str {
     match reason {
         Reason::Count => "; one space stands between two words",
         Reason::Missing => "; put `vin`, `kind` and `time`, or in a script a `set` line, in front",
@@ -40,7 +40,7 @@ pub fn help(reason: Reason) -> &'static str {
 }
 
 /// What a line has whose words all go along a form, and that is refused all the same for this reason.
-pub fn write_rest<W: fmt::Write>(
+pub(crate) fn write_rest<W: fmt::Write>(
     f: &mut fmt::Formatter<W>,
     input: Input,
     reason: Reason,
@@ -89,7 +89,7 @@ fn write_tick<W: fmt::Write>(f: &mut fmt::Formatter<W>, before: Numbered<'_>) ->
 }
 
 /// Which byte of a line is no printable character, and where it stands.
-pub fn write_byte_fault<W: fmt::Write>(f: &mut fmt::Formatter<W>, line: &[u8]) -> fmt::Result {
+pub(crate) fn write_byte_fault<W: fmt::Write>(f: &mut fmt::Formatter<W>, line: &[u8]) -> fmt::Result {
     match line.iter().position(|byte| !matches!(*byte, b' '..=b'~')) {
         Some(at) if at < line.len() => {
             let byte = line[at];

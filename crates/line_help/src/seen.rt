@@ -5,8 +5,9 @@ ghost use Rattle.std.specs.Option.{option_copied};
 ghost use Rattle.line_input.specs.Characters.{newline};
 ghost use Rattle.memchr.specs.Find.{is_byte};
 ghost use Rattle.line_help.specs.Parts.{parts};
+ghost use Rattle.line_help.specs.Lines.{IsKept};
 
-use crate::parts::{part_at, part_count};
+use crate::parts::{part_at, part_count, split_part};
 
 /// The last bytes of an input that were kept, and how many lines ended in front of them.
 #[derive(Clone, Copy, Debug)]
@@ -53,17 +54,21 @@ impl<'a> Seen<'a> {
 
     /// The last line in front of the one of this number that says something, where it is kept whole.
     pub fn before(&self, number: u64) -> Option<Numbered<'a>>
-        ensures { IfSome result (λ line. line.number < number) }
+        ensures {
+            IfSome result (λ line. (line.number < number) × IsKept self.now.ended self.now.text.now line.number line.text.now) }
     {
         let mut found = None;
         let mut here = self.ended;
-        for text in self.text.split(|byte| *byte == b'\n') {
-            here = here.saturating_add(1);
-            if here >= number {
-                break;
-            }
+        let mut rest = self.text;
+        while number.saturating_sub(here) > 1 {
+            let (text, behind) = split_part(b'\n', rest);
+            here += 1;
             if says_something(text) && self.is_whole(here) {
                 found = Some(Numbered { number: here, text });
+            }
+            match behind {
+                Some(more) => rest = more,
+                None => break,
             }
         }
         found

@@ -8,7 +8,7 @@ const MOST_SHOWN: usize = 40;
 /// A text between backquotes, where a byte that is no printable character is shown by its number, and dots stand for
 /// what is too long.
 #[derive(Clone, Copy)]
-pub struct Shown<'a>(pub &'a [u8]);
+pub(crate) struct Shown<'a>(pub &'a [u8]);
 
 impl fmt::Display for Shown<'_> {
     fn fmt<W: fmt::Write>(&self, f: &mut fmt::Formatter<W>) -> fmt::Result {
@@ -37,7 +37,7 @@ fn write_byte<W: fmt::Write>(f: &mut fmt::Formatter<W>, byte: u8) -> fmt::Result
 
 /// The characters of a printable text, as they are.
 #[derive(Clone, Copy)]
-pub struct Plain<'a>(pub &'a [u8]);
+pub(crate) struct Plain<'a>(pub &'a [u8]);
 
 impl fmt::Display for Plain<'_> {
     fn fmt<W: fmt::Write>(&self, f: &mut fmt::Formatter<W>) -> fmt::Result {

@@ -9,20 +9,20 @@ use memchr::memchr;
 use std::fmt;
 
 /// The most octets of additional data, its identifier's and its content's together.
-pub const MOST_TOGETHER: usize = 110;
+pub(crate) const MOST_TOGETHER: usize = 110;
 
 /// The most octets of a set.
-pub const MOST_IN_SET: usize = 140;
+pub(crate) const MOST_IN_SET: usize = 140;
 
 /// How many characters an identification number has.
-pub const IN_VIN: usize = 17;
+pub(crate) const IN_VIN: usize = 17;
 
 /// How many digits a list of energies has.
-pub const IN_FUEL: usize = 7;
+pub(crate) const IN_FUEL: usize = 7;
 
 /// What may stand in one place of a form.
 #[derive(Clone, Copy)]
-pub enum Slot<'a> {
+pub(crate) enum Slot<'a> {
     /// One of the words that `|` separates.
     Choice(&'a [u8]),
     /// A number from one to another, each in decimal digits.
@@ -49,7 +49,7 @@ pub enum Slot<'a> {
 
 impl<'a> Slot<'a> {
     /// The slot that a word of a form stands for.
-    pub fn of(text: &'a [u8]) -> Slot<'a> {
+    pub(crate) fn of(text: &'a [u8]) -> Slot<'a> {
         match text {
             [b'<', inner @ .., b'>'] => Slot::named(inner),
             _ => Slot::Choice(text),
@@ -84,7 +84,7 @@ impl<'a> Slot<'a> {
     }
 
     /// Whether a word may stand there.
-    pub fn takes(self, word: &[u8]) -> bool {
+    pub(crate) fn takes(self, word: &[u8]) -> bool {
         match self {
             Slot::Choice(words) => is_among(words, word),
             Slot::Range { low, high } => is_within(low, high, word),
@@ -102,7 +102,7 @@ impl<'a> Slot<'a> {
     }
 
     /// How many alternatives a sentence has for it.
-    pub fn alternatives(self) -> usize {
+    pub(crate) fn alternatives(self) -> usize {
         match self {
             Slot::Choice(words) => part_count(b'|', words),
             _ => 1,
@@ -143,22 +143,22 @@ fn are_octets(word: &[u8], most: usize) -> bool {
 }
 
 /// Whether a byte may stand in an identification number.
-pub fn is_of_vin(byte: u8) -> bool {
+pub(crate) fn is_of_vin(byte: u8) -> bool {
     matches!(byte, b'0'..=b'9' | b'A'..=b'H' | b'J'..=b'N' | b'P' | b'R'..=b'Z')
 }
 
 /// Whether a byte is the digit 0 or 1.
-pub fn is_mark(byte: u8) -> bool {
+pub(crate) fn is_mark(byte: u8) -> bool {
     byte == b'0' || byte == b'1'
 }
 
 /// Whether a byte is a hexadecimal digit in upper case.
-pub fn is_upper(byte: u8) -> bool {
+pub(crate) fn is_upper(byte: u8) -> bool {
     matches!(byte, b'A'..=b'F')
 }
 
 /// Whether a byte is a hexadecimal digit.
-pub fn is_digit(byte: u8) -> bool {
+pub(crate) fn is_digit(byte: u8) -> bool {
     matches!(byte, b'0'..=b'9' | b'a'..=b'f' | b'A'..=b'F')
 }
 

@@ -6,7 +6,7 @@ use std::fmt;
 
 /// What keeps a word from a place of a form. Where there is nothing to say, nothing is written.
 #[derive(Clone, Copy)]
-pub struct SlotFault<'a> {
+pub(crate) struct SlotFault<'a> {
     pub slot: Slot<'a>,
     pub word: &'a [u8],
 }

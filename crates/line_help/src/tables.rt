@@ -2,7 +2,7 @@
 //! a range, or for another text of a kind.
 
 /// The facts that a vehicle knows of itself.
-pub const FACTS: [&str; 12] = [
+pub(crate) const FACTS: [&str; 12] = [
     "vin <vin>",
     "kind <1..13>",
     "format 1|2",
@@ -18,7 +18,7 @@ pub const FACTS: [&str; 12] = [
 ];
 
 /// A ready set, and what happens at one vehicle.
-pub const VEHICLE: [&str; 11] = [
+pub(crate) const VEHICLE: [&str; 11] = [
     "set <set>",
     "trigger auto|manual|test",
     "cancel",
@@ -33,7 +33,7 @@ pub const VEHICLE: [&str; 11] = [
 ];
 
 /// What happens in a call, on the way between the ends, and to time.
-pub const SHARED: [&str; 10] = [
+pub(crate) const SHARED: [&str; 10] = [
     "fault point <1..4294967295>",
     "drop point <1..4294967295>",
     "drop both <1..4294967295>",
@@ -47,25 +47,25 @@ pub const SHARED: [&str; 10] = [
 ];
 
 /// What happens to the point.
-pub const POINT: [&str; 1] = ["reset point"];
+pub(crate) const POINT: [&str; 1] = ["reset point"];
 
 /// What a relay desk, or its link, is to do.
-pub const DESK: [&str; 2] = ["pass <1..4294967295>", "hand forth|back <1..4294967295>"];
+pub(crate) const DESK: [&str; 2] = ["pass <1..4294967295>", "hand forth|back <1..4294967295>"];
 
 /// What asks for a set of the facts so far.
-pub const WRITE: [&str; 1] = ["write auto|manual|test <0..255>"];
+pub(crate) const WRITE: [&str; 1] = ["write auto|manual|test <0..255>"];
 
 /// Octets alone.
-pub const OCTETS: [&str; 1] = ["<hexadecimal>"];
+pub(crate) const OCTETS: [&str; 1] = ["<hexadecimal>"];
 
 /// The number of a vehicle on a floor.
-pub const VEHICLE_NUMBER: &str = "<1..64>";
+pub(crate) const VEHICLE_NUMBER: &str = "<1..64>";
 
 /// The lines of vehicles on a floor.
-pub const NUMBERED: [&str; 1] = ["<1..64> <line>"];
+pub(crate) const NUMBERED: [&str; 1] = ["<1..64> <line>"];
 
 /// The entries of a trace.
-pub const ENTRIES: [&str; 18] = [
+pub(crate) const ENTRIES: [&str; 18] = [
     "<0..18446744073709551615> dial|failed <1..10>",
     "<0..18446744073709551615> gaveup|seeking|arming|cancelled|standby|idle|nothing",
     "<0..18446744073709551615> net up|down",

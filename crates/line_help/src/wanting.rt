@@ -18,7 +18,7 @@ struct Came {
 }
 
 /// Tells which facts didn't come before a line that wants a set of data, as far as that is known.
-pub fn write_missing<W: fmt::Write>(
+pub(crate) fn write_missing<W: fmt::Write>(
     f: &mut fmt::Formatter<W>,
     input: Input,
     line: Numbered<'_>,
