@@ -4,8 +4,6 @@
 ghost use Rattle.std.specs.Prelude.{◌≡◌, ◌<◌};
 
 mod explanation;
-#[cfg(test)]
-mod tests;
 
 use crate::explanation::Explanation;
 use call_io::{RealSink, RealSource, Sink, Source};

@@ -22,7 +22,7 @@ pub enum Input {
 }
 
 /// The forms of an input's lines, by groups.
-pub type Groups = [&'static [&'static str]; 5];
+pub(crate) type Groups = [&'static [&'static str]; 5];
 
 impl Input {
     ghost use Rattle.std.specs.Prelude.{◌≡◌};
@@ -56,7 +56,7 @@ impl Input {
     }
 
     /// The forms of its lines.
-    pub fn groups(self) -> Groups {
+    pub(crate) fn groups(self) -> Groups {
         match self {
             Input::Script => [&FACTS, &VEHICLE, &SHARED, &POINT, &[]],
             Input::RelayScript => [&FACTS, &VEHICLE, &SHARED, &POINT, &DESK],

@@ -19,15 +19,12 @@ mod shown;
 mod slot;
 mod slot_fault;
 mod tables;
-#[cfg(test)]
-mod tests;
 mod wanting;
 mod watch;
 
 pub use breaks::BreakSentence;
 pub use input::Input;
 pub use misfit::{Misfit, first_misfit};
-pub use parts::{part_at, part_count};
 pub use seen::{Numbered, Seen};
 pub use sentence::LineSentence;
 pub use watch::Watch;

@@ -9,7 +9,7 @@ ghost use Rattle.line_help.specs.Parts.{parts, parts_behind, IsOnePart, HasBehin
 use memchr::{memchr, memchr_iter};
 
 /// The part of this number, from 0.
-pub fn part_at(separator: u8, text: &[u8], place: usize) -> Option<&[u8]>
+pub(crate) fn part_at(separator: u8, text: &[u8], place: usize) -> Option<&[u8]>
     ensures { option_copied result ≡ slice_get (parts separator text.now) place }
 {
     let mut rest = text;
@@ -48,7 +48,7 @@ fn find(separator: u8, text: &[u8]) -> Option<usize>
 
 /// How many parts there are.
 #[tactic(auto, using(crate::proofs::PartsLemmas::count_places))]
-pub fn part_count(separator: u8, text: &[u8]) -> usize
+pub(crate) fn part_count(separator: u8, text: &[u8]) -> usize
     ensures { result ≡ count_by (is_byte separator) text.now + 1 }
 {
     memchr_iter(separator, text).count() + 1

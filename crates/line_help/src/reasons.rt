@@ -89,7 +89,10 @@ fn write_tick<W: fmt::Write>(f: &mut fmt::Formatter<W>, before: Numbered<'_>) ->
 }
 
 /// Which byte of a line is no printable character, and where it stands.
-pub(crate) fn write_byte_fault<W: fmt::Write>(f: &mut fmt::Formatter<W>, line: &[u8]) -> fmt::Result {
+pub(crate) fn write_byte_fault<W: fmt::Write>(
+    f: &mut fmt::Formatter<W>,
+    line: &[u8],
+) -> fmt::Result {
     match line.iter().position(|byte| !matches!(*byte, b' '..=b'~')) {
         Some(at) if at < line.len() => {
             let byte = line[at];

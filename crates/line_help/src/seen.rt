@@ -54,8 +54,7 @@ impl<'a> Seen<'a> {
 
     /// The last line in front of the one of this number that says something, where it is kept whole.
     pub fn before(&self, number: u64) -> Option<Numbered<'a>>
-        ensures {
-            IfSome result (λ line. (line.number < number) × IsKept self.now.ended self.now.text.now line.number line.text.now) }
+        ensures { IfSome result (λ line. (line.number < number) × IsKept self.now.ended self.now.text.now line.number line.text.now) }
     {
         let mut found = None;
         let mut here = self.ended;

@@ -1,4 +1,4 @@
-use Rattle.std.proofs.Common.{◌≡◌, ◌+◌, ◌-◌, ◌<◌, ◌∷◌, sym, ap, subst, ◌∙◌, arith}
+use Rattle.std.proofs.Common.{◌<◌, ◌∷◌, sym, ap, subst, ◌∙◌, arith}
 use Rattle.std.specs.Prelude.{IfSome}
 use Rattle.std.specs.Option.{option_copied}
 use Rattle.line_input.specs.Characters.{newline}
@@ -15,11 +15,13 @@ loop-rest-preserved c = (
   elim c.if-says_something.branch [
     | then-says_something+then-is_whole w ↦
         subst (λ found. IfSome found (λ line. (line.number < c.args.number) × IsKept c.args.self.now.ended c.args.self.now.text.now line.number line.text.now))
-        (sym w.found-is)
-        (omega (arith, c.loop-rest-test.true, c.saturating_sub.ensures), record {
-          behind = omega (arith, c.loop-rest.invariant.0);
-          there = next_one _ _ _ _ _ _ c.split_part.ensures c.loop-rest.invariant.0 c.loop-rest.invariant.1;
-        })
+        (sym w.found-is) (
+          omega (arith, c.loop-rest-test.true, c.saturating_sub.ensures),
+          record {
+            behind = omega (arith, c.loop-rest.invariant.0);
+            there = next_one _ _ _ _ _ _ c.split_part.ensures c.loop-rest.invariant.0 c.loop-rest.invariant.1;
+          },
+        )
     | else-says_something w ↦
         subst (λ found. IfSome found (λ line. (line.number < c.args.number) × IsKept c.args.self.now.ended c.args.self.now.text.now line.number line.text.now))
         (sym w.found-is) c.loop-rest.invariant.2
@@ -28,14 +30,16 @@ loop-rest-preserved c = (
 
 pub returns-in-None : goal.returns-in-None
 returns-in-None c = elim c.if-says_something.branch [
-    | then-says_something+then-is_whole w ↦
-        subst (λ found. IfSome found (λ line. (line.number < c.args.number) × IsKept c.args.self.now.ended c.args.self.now.text.now line.number line.text.now))
-        (sym w.found-is)
-        (omega (arith, c.loop-rest-test.true, c.saturating_sub.ensures), record {
+  | then-says_something+then-is_whole w ↦
+      subst (λ found. IfSome found (λ line. (line.number < c.args.number) × IsKept c.args.self.now.ended c.args.self.now.text.now line.number line.text.now))
+      (sym w.found-is) (
+        omega (arith, c.loop-rest-test.true, c.saturating_sub.ensures),
+        record {
           behind = omega (arith, c.loop-rest.invariant.0);
           there = next_one _ _ _ _ _ _ c.split_part.ensures c.loop-rest.invariant.0 c.loop-rest.invariant.1;
-        })
-    | else-says_something w ↦
-        subst (λ found. IfSome found (λ line. (line.number < c.args.number) × IsKept c.args.self.now.ended c.args.self.now.text.now line.number line.text.now))
-        (sym w.found-is) c.loop-rest.invariant.2
-  ]
+        },
+      )
+  | else-says_something w ↦
+      subst (λ found. IfSome found (λ line. (line.number < c.args.number) × IsKept c.args.self.now.ended c.args.self.now.text.now line.number line.text.now))
+      (sym w.found-is) c.loop-rest.invariant.2
+]
