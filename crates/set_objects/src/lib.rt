@@ -12,6 +12,3 @@ mod text;
 mod vehicle;
 
 pub use line::put_line;
-
-#[cfg(test)]
-mod tests;

@@ -5,6 +5,3 @@ mod telling;
 
 pub use telling::tell_sets;
 pub use view_lines::Answer;
-
-#[cfg(test)]
-mod tests;
