@@ -6,8 +6,6 @@ mod fault;
 mod gather;
 mod kind;
 mod line;
-#[cfg(test)]
-mod line_tests;
 mod lines;
 mod numbers;
 mod push;
