@@ -8,7 +8,6 @@ ghost use Rattle.line_help.specs.Keeping.{Keeps, lines_behind};
 use crate::seen::Seen;
 use arrayvec::ArrayVec;
 use call_io::{Failed, Source};
-use memchr::memchr_iter;
 
 /// How many bytes are kept at most.
 const ROOM: usize = 65_536;
@@ -175,9 +174,8 @@ fn shift(text: &mut [u8], count: usize)
 }
 
 /// How many newlines there are.
-#[tactic(auto, using(crate::proofs::PartsLemmas::count_places))]
 fn newlines(bytes: &[u8]) -> u64
     ensures { result ≡ count_by is_newline bytes.now }
 {
-    memchr_iter(b'\n', bytes).count() as u64
+    bytes.iter().filter(|byte| **byte == b'\n').count() as u64
 }
