@@ -47,6 +47,14 @@ OTHERS = [
     (["make", "0"], None, [], None),
     (["trial", "0"], None, [], None),
 ]
+# what of the plain program's files gives way to digits.rs
+LIBRARY_DIGITS = [
+    ("main.rs", r"(?m)^mod hex;", "mod digits;\nmod hex;"),
+    ("hex.rs", r"    let mut seen = 0;\n.*?(?=    Ok\(&into\[\.\.n\]\))", "    if !crate::digits::decode_to_slice(word, &mut into[..n]) {\n        return Err(Reason::Hex);\n    }\n"),
+    ("io.rs", r"        for \(digits, octet\) in .*?\n        }\n", "        crate::digits::encode_to_slice(octets, &mut self.text[start..]);\n"),
+]
+# the commands that read or write many of these digits, as in OTHERS
+DIGITS = [(["run"], "scripts.py", ["mixed"], 2_000), (["register"], "scripts.py", ["mixed"], 2_000), (["frames"], "stream.py", [], 20_000)]
 # vehicles on the floor that is measured, and the calls of each, which are doubled then
 FLOOR = (64, 200)
 
@@ -99,16 +107,34 @@ def rates(program, folder):
         print(f"{count:>8} {size:>10} {seconds:>9.3f} {count / seconds:>10.0f} {size / seconds / 1e6:>8.1f}")
 
 
-def plain_program(folder):
+def plain_program(folder, source=PLAIN):
     """Builds the plain program, outside this repository and outside its own folder."""
-    if not os.path.isdir(PLAIN):
+    if not os.path.isdir(source):
         raise Skipped("its folder is not here")
     need("cargo")
     build = ["cargo", "build", "--release", "--quiet", "--target-dir", folder]
-    if subprocess.run(build, cwd=PLAIN, capture_output=True).returncode:
+    if subprocess.run(build, cwd=source, capture_output=True).returncode:
         raise Skipped("it does not build")
     [built] = [path for path in glob.glob(os.path.join(folder, "release", "*")) if os.path.isfile(path) and os.access(path, os.X_OK)]
     return built
+
+
+def with_library_digits(folder):
+    """Builds the plain program with the library's reading and writing of hexadecimal digits in the place of its own tables."""
+    source = os.path.join(folder, "source")
+    if not os.path.isdir(PLAIN):
+        raise Skipped("its folder is not here")
+    shutil.copytree(PLAIN, source, ignore=shutil.ignore_patterns("target"))
+    shutil.copy(os.path.join(HERE, "digits.rs"), os.path.join(source, "src"))
+    for name, pattern, other in LIBRARY_DIGITS:
+        path = os.path.join(source, "src", name)
+        with open(path) as file:
+            text, changes = re.subn(pattern, other, file.read(), flags=re.DOTALL)
+        if changes != 1:
+            raise Skipped(f"its {name} has another form than the one that is known")
+        with open(path, "w") as file:
+            file.write(text)
+    return plain_program(os.path.join(folder, "built"), source)
 
 
 def generated_codec(folder, module="format2"):
@@ -259,6 +285,20 @@ def others(program, plain, folder):
         print(f"{what} {beside_plain} {doubled}")
     [played] = least([[program, "run"]], write_script(folder, "mixed", 2_000))
     print(f"  (`make 0` writes the script of kind mixed, which `trial 0` plays; `run` takes {played:.3f} s for it)")
+
+
+def beside_library_digits(program, plain, library, known, folder):
+    """The processor time of commands over many hexadecimal digits, beside the plain program's, and that of the plain program with the
+    library's digits."""
+    print("\nHexadecimal digits: processor time of `ecall`, of the plain program, and of the plain program with the digits of the library `hex`")
+    print(f"{'command':>10} {'input':>8} {'ecall':>8} {'plain':>8} {'ratio':>6} {'library':>8} {'ratio':>6}")
+    for words, maker, kind, count in [(["decode"], None, ["known"], None), *DIGITS]:
+        path = inputs(program, folder, maker, kind, count) if maker else known
+        commands = [[which, *words] for which in (program, plain, library)]
+        same_text(commands, path)
+        ours, own, theirs = least(commands, path)
+        what = f"{' '.join(words):>10} {(kind or ['-'])[0]:>8}"
+        print(f"{what} {ours:8.3f} {own:8.3f} {ours / own:6.2f} {theirs:8.3f} {ours / theirs:6.2f}")
 
 
 def frames_alone(modem, folder):
@@ -433,6 +473,9 @@ def main(program):
         encodes(program, plain, folder)
         plays(program, plain, folder)
         others(program, plain, folder)
+        library = attempt("plain program with the library's digits", with_library_digits, os.path.join(folder, "library"))
+        if plain and library:
+            beside_library_digits(program, plain, library, known, folder)
         relays(program, folder)
         modem = attempt("the modem as a plain loop", plain_modem, os.path.join(folder, "plain_modem"))
         if modem:
