@@ -9,6 +9,7 @@ ghost use Rattle.ecall_c.specs.Items.{IsFrame, frame_of};
 ghost use Rattle.ecall_c.specs.Flat.{or_zero};
 ghost use Rattle.ecall_c.specs.Ticks.{IsPassable};
 ghost use Rattle.ecall_c.specs.Sessions.{IsPointEvent, Steps, heard_of};
+ghost use Rattle.ecall_c.specs.declared.point.TheConstants.{POINT_SIZE};
 
 use crate::frame::{EcallFrame, EcallItems, lift_frame, put_items};
 use crate::place::EcallPoint;
@@ -17,6 +18,9 @@ use link_frames::Why;
 use psap_machine::{PointEvent, Session};
 use std::marker::Brand;
 use std::sync::ledger::{Blank, Ledger};
+
+/// How many bytes a session has.
+const POINT_SIZE: usize = std::mem::size_of::<Session>();
 
 /// A call of this number comes in that the vehicle placed: its session, in the room, and what the point does.
 #[unsafe(no_mangle)]
@@ -102,8 +106,10 @@ pub extern "C" fn ecall_point_hear(
 
 /// How many bytes the room of a session has; it is aligned to 8.
 #[unsafe(no_mangle)]
-pub extern "C" fn ecall_point_size() -> usize {
-    std::mem::size_of::<Session>()
+pub extern "C" fn ecall_point_size() -> usize
+    ensures { result ≡ POINT_SIZE }
+{
+    POINT_SIZE
 }
 
 // After how many ticks it does something.

@@ -11,6 +11,7 @@ ghost use Rattle.ecall_c.specs.Flat.{or_zero};
 ghost use Rattle.ecall_c.specs.Facts.{AreFacts, own_of};
 ghost use Rattle.ecall_c.specs.Ticks.{IsPassable};
 ghost use Rattle.ecall_c.specs.Vehicles.{IsVehicleEvent, Stands, Steps, heard_of};
+ghost use Rattle.ecall_c.specs.declared.vehicle.TheConstants.{VEHICLE_SIZE};
 
 use crate::facts::{EcallFacts, own};
 use crate::frame::{EcallFrame, EcallItems, lift_frame, put_items};
@@ -20,6 +21,9 @@ use ivs_machine::{Ivs, VehicleEvent};
 use msd_fit::{Cause, Facts};
 use std::marker::Brand;
 use std::sync::ledger::{Blank, Ledger};
+
+/// How many bytes a vehicle has.
+const VEHICLE_SIZE: usize = std::mem::size_of::<Ivs>();
 
 /// A vehicle that is to send this set, in the room, before anything happened.
 #[unsafe(no_mangle)]
@@ -115,8 +119,10 @@ pub extern "C" fn ecall_vehicle_hear(
 
 /// How many bytes the room of a vehicle has; it is aligned to 8.
 #[unsafe(no_mangle)]
-pub extern "C" fn ecall_vehicle_size() -> usize {
-    std::mem::size_of::<Ivs>()
+pub extern "C" fn ecall_vehicle_size() -> usize
+    ensures { result ≡ VEHICLE_SIZE }
+{
+    VEHICLE_SIZE
 }
 
 // After how many ticks it does something.
