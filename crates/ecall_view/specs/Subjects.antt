@@ -2,6 +2,7 @@
 use Rattle.std.specs.Prelude.{ℕ, List, Option}
 use Rattle.view_lines.specs.Outcome.{Outcome}
 use Rattle.view_lines.specs.declared.answer.Answer.{Answer}
+use Rattle.view_reports.specs.Told as reports
 use Rattle.view_sets.specs.Told as sets
 use Rattle.view_traces.specs.Told as traces
 use Rattle.ecall_view.specs.declared.subject.Subject.{Subject}
@@ -11,3 +12,5 @@ abbrev pub OutcomeOf : Subject → (left left' held held' : Option (List ℕ)) �
 OutcomeOf subject.Sets left left' held held' a = Outcome sets.IsSetTold sets.IsEndTold left left' held held' a
 OutcomeOf subject.Traces left left' held held' a =
     Outcome traces.IsLineTold traces.IsEndTold left left' held held' a
+OutcomeOf (subject.Reports m) left left' held held' a =
+    Outcome (reports.IsReported m) (reports.IsEndReported m) left left' held held' a

@@ -1,14 +1,16 @@
-//! The program `ecall_view`: sets of data and traces in JSON, one object for each line, for other tools.
+//! The program `ecall_view`: sets of data and traces in JSON, one object for each line, for other tools; and reports on traces.
 #![tactic(auto)]
 
 mod ending;
+mod manner;
 mod pipe;
 mod program;
 mod sets;
 mod subject;
 
 use crate::ending::{Ending, complain};
-use crate::program::{SETS, TRACE, command_line};
+use crate::manner::manner_of;
+use crate::program::{REPORT, SETS, TRACE, command_line};
 use crate::sets::tell_files;
 use crate::subject::Subject;
 use clap::error::ErrorKind;
@@ -31,8 +33,11 @@ fn carry_out(
     if let Some(words) = matches.subcommand_matches(SETS) {
         return tell_files(rt, Subject::Sets, words);
     }
-    match matches.subcommand_matches(TRACE) {
-        Some(words) => tell_files(rt, Subject::Traces, words),
+    if let Some(words) = matches.subcommand_matches(TRACE) {
+        return tell_files(rt, Subject::Traces, words);
+    }
+    match matches.subcommand_matches(REPORT) {
+        Some(words) => tell_files(rt, Subject::Reports(manner_of(words)), words),
         None => Ending::Failed,
     }
 }

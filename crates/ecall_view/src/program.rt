@@ -3,7 +3,7 @@ ghost use Rattle.std.specs.Prelude.{◌≡◌, [], ◌∷◌, codes, IfOk};
 ghost use Rattle.clap.specs.Words.{subcommand_names};
 ghost use Rattle.ecall_view.specs.Words.{name_of};
 
-use clap::{Arg, Command};
+use clap::{Arg, ArgAction, Command};
 use std::alloc::{AllocError, Global};
 
 /// The name of the command that tells sets of data.
@@ -11,6 +11,18 @@ pub const SETS: &str = "sets";
 
 /// The name of the command that tells traces.
 pub const TRACE: &str = "trace";
+
+/// The name of the command that reports on traces.
+pub const REPORT: &str = "report";
+
+/// The flag for a report as data.
+pub const JSON: &str = "json";
+
+/// The option that names the end that is judged alone.
+pub const END: &str = "end";
+
+/// The ends that it names.
+static ENDS: [&str; 2] = ["vehicle", "point"];
 
 /// The files that a command reads.
 pub const FILES: &str = "FILE";
@@ -22,6 +34,11 @@ const VERSION: &str = "0.1.0";
 const STATUSES: &str = "\
 Exit status: 0 where all was told, 1 where a file, a read, a write or memory failed, 2 where a line was refused or the \
 words are wrong.";
+
+/// The same below the help of `report`.
+const REPORT_STATUSES: &str = "\
+Exit status: 0 where no line breaks a rule, 1 where a file, a read, a write or memory failed, 2 where a line breaks a rule or \
+was refused, or the words are wrong.";
 
 /// The files of a command; without any it reads standard input.
 fn files<'a>(alloc: Global) -> Arg<'a> {
@@ -51,8 +68,37 @@ fn trace<'a>(alloc: Global) -> Result<Command<'a>, AllocError>
         .arg(files(alloc))
 }
 
-/// All that the program takes.
-pub fn command_line<'a>(alloc: Global) -> Result<Command<'a>, AllocError>
+/// The flag for a report as data.
+fn json<'a>(alloc: Global) -> Arg<'a> {
+    Arg::new(alloc, JSON)
+        .long(JSON)
+        .action(ArgAction::SetTrue)
+        .help("Report in JSON Lines: one object a line")
+}
+
+/// The option that names an end.
+fn end<'a>(alloc: Global) -> Arg<'a> {
+    Arg::new(alloc, END)
+        .long(END)
+        .value_name("END")
+        .value_parser(ENDS.as_slice())
+        .help("Judge rules 2 and 3 of this end alone, for a log of one side")
+}
+
+/// The command for reports.
+fn report<'a>(alloc: Global) -> Result<Command<'a>, AllocError>
+    ensures { IfOk result (λ command. name_of command ≡ codes "report") }
+{
+    Command::new(alloc, REPORT)
+        .about("Reports on a trace: each line that breaks a rule, and what its calls came to")
+        .after_help(REPORT_STATUSES)
+        .arg(json(alloc))?
+        .arg(end(alloc))?
+        .arg(files(alloc))
+}
+
+/// What the program takes to tell lines as data.
+fn data_commands<'a>(alloc: Global) -> Result<Command<'a>, AllocError>
     ensures { IfOk result (λ program. subcommand_names program ≡ codes "sets" ∷ codes "trace" ∷ []) }
 {
     Command::new(alloc, "ecall_view")
@@ -63,4 +109,12 @@ pub fn command_line<'a>(alloc: Global) -> Result<Command<'a>, AllocError>
         .arg_required_else_help(true)
         .subcommand(sets(alloc)?)?
         .subcommand(trace(alloc)?)
+}
+
+/// All that the program takes.
+pub fn command_line<'a>(alloc: Global) -> Result<Command<'a>, AllocError>
+    ensures { IfOk result (λ program. subcommand_names program ≡ codes "sets" ∷ codes "trace" ∷ codes "report" ∷ []) }
+{
+    let program = data_commands(alloc)?;
+    program.subcommand(report(alloc)?)
 }

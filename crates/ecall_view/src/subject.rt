@@ -5,6 +5,7 @@ ghost use Rattle.ecall_view.specs.Subjects.{OutcomeOf};
 use call_io::{Sink, Source};
 use std::alloc::Global;
 use view_lines::Answer;
+use view_reports::{Manner, report_trace};
 use view_sets::tell_sets;
 use view_traces::tell_trace;
 
@@ -15,6 +16,8 @@ pub enum Subject {
     Sets,
     /// The entries of a trace.
     Traces,
+    /// How a trace breaks rules, and what its calls came to.
+    Reports(Manner),
 }
 
 /// Tells one input.
@@ -32,5 +35,6 @@ pub fn tell_input<I: Source, O: Sink>(
     match subject {
         Subject::Sets => tell_sets(alloc, input, output),
         Subject::Traces => tell_trace(alloc, input, output),
+        Subject::Reports(manner) => report_trace(alloc, manner, input, output),
     }
 }

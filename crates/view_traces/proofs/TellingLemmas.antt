@@ -21,14 +21,14 @@ kept_entry tick line =
     kept_alike (judged_entry tick) (λ text other one two. long_entry tick text one ∙ sym (long_entry tick other two)) line
 
 -- the tick behind one more line
-one_more : (tick : ℕ) (lines : List (List ℕ)) (line : List ℕ)
+pub one_more : (tick : ℕ) (lines : List (List ℕ)) (line : List ℕ)
     → tick_behind tick (lines ++ line ∷ []) ≡ tick_after (tick_behind tick lines) (judged_entry (tick_behind tick lines) line)
 one_more tick [] line = refl
 one_more tick (first ∷ lines) line = one_more (tick_after tick (judged_entry tick first)) lines line
 
 module _ (before : List (List ℕ)) (whole line : List ℕ) (tick number : ℕ) (judged : Result (Option Entry) Reason)
     (stands : tick ≡ tick_behind 0 before) (kept : line ≡ take most_kept whole) (is : judged ≡ judged_entry tick line) where
-  same_entry : judged ≡ judged_entry (tick_behind 0 before) whole
+  pub same_entry : judged ≡ judged_entry (tick_behind 0 before) whole
   same_entry =
       is ∙ (ap (λ (n : ℕ). judged_entry n line) stands
       ∙ (ap (judged_entry (tick_behind 0 before)) kept ∙ kept_entry (tick_behind 0 before) whole))

@@ -12,3 +12,4 @@ mod words;
 pub use judge::judge_line;
 pub use telling::tell_trace;
 pub use view_lines::Answer;
+pub use words::{end_word, why_word};

@@ -5,7 +5,7 @@ ghost use Rattle.trace_text.specs.EntryLine.{answer_word, end_word, net_word, ti
 use link_frames::{Answer, End, Timer, Why};
 
 /// The word of an end.
-pub(crate) fn end_word(end: End) -> &'static [u8]
+pub fn end_word(end: End) -> &'static [u8]
     ensures { result.now ≡ end_word end }
 {
     match end {
@@ -15,7 +15,7 @@ pub(crate) fn end_word(end: End) -> &'static [u8]
 }
 
 /// The word of why a leg went down.
-pub(crate) fn why_word(why: Why) -> &'static [u8]
+pub fn why_word(why: Why) -> &'static [u8]
     ensures { result.now ≡ why_word why }
 {
     match why {

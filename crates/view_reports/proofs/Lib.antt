@@ -1,0 +1,2 @@
+pub mod BreaksLemmas
+pub mod ReportLemmas

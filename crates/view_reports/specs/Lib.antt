@@ -1,0 +1,10 @@
+pub mod BreakTexts
+pub mod Calls
+pub mod EndTexts
+pub mod Fields
+pub mod Muting
+pub mod Sets
+pub mod Sides
+pub mod Told
+pub mod Watch
+pub mod inner
