@@ -1,7 +1,8 @@
 #!/usr/bin/env python3
 """view.py ECALL VIEW: measures `VIEW sets` beside `ECALL decode` over the same sets, over twice as many, over 10 million in little
-memory, and over all processors by GNU parallel, where that is there; and `VIEW trace` beside `ECALL replay` over one trace. Times are processor time, the least of some rounds in which
-the programs take turns, but for the last, which are by the clock. The text is thrown away."""
+memory, and over all processors by GNU parallel, where that is there; and `VIEW trace` and `VIEW report` beside `ECALL replay` over one trace, and over twice as many
+entries. Times are processor time, the least of some rounds in which the programs take turns, but for the last, which are by the
+clock. The text is thrown away."""
 import os
 import resource
 import shutil
@@ -16,6 +17,8 @@ SETS = 120_000
 MANY = 10_000_000
 # bytes of address space, the program's code and the C library included
 ROOM = 8 << 20
+# which word of an entry is the number of its call
+CALLS = dict.fromkeys("up down voice send ended fault".split(), 3) | dict.fromkeys("shown acked busy spent unshown".split(), 2)
 
 
 def spent(command, path):
@@ -63,8 +66,18 @@ def by_clock(words, path):
     return time.monotonic() - began
 
 
+def behind(line, ticks, calls):
+    """The line of an entry so many ticks later, in a call whose number is so much greater."""
+    words = line.split(" ")
+    words[0] = str(ticks + int(words[0]))
+    at = CALLS.get(words[1].strip())
+    if at:
+        words[at] = words[at].replace(words[at].strip(), str(calls + int(words[at])))
+    return " ".join(words)
+
+
 def measure_traces(ecall, view, folder):
-    """Measures the trace of a long script, and one of twice its entries, whose second half has later ticks."""
+    """Measures the trace of a long script, and one of twice its entries, whose second half has later ticks and other calls."""
     script, trace, twice = (os.path.join(folder, name) for name in ("script", "trace", "two traces"))
     with open(script, "wb") as file:
         subprocess.run([ecall, "make", "0"], stdout=file, check=True)
@@ -74,10 +87,15 @@ def measure_traces(ecall, view, folder):
         lines = once.readlines()
         last = int(lines[-1].split(" ")[0])
         file.writelines(lines)
-        file.writelines(f"{last + int(tick)} {item}" for tick, item in (line.split(" ", 1) for line in lines))
-    judged, told, double = least(([ecall, "replay"], trace), ([view, "trace"], trace), ([view, "trace"], twice))
+        file.writelines(behind(line, last, 1_000_000) for line in lines)
+    judged, told, double, reported, both = least(
+        ([ecall, "replay"], trace), ([view, "trace"], trace), ([view, "trace"], twice),
+        ([view, "report", "--json"], trace), ([view, "report", "--json"], twice),
+    )
     print(f"a trace of {len(lines)} entries: ecall replay {judged:.3f} s, ecall_view trace {told:.3f} s, {told / judged:.2f} times")
     print(f"a trace of {2 * len(lines)} entries: ecall_view trace {double:.3f} s, {double / told:.2f} times")
+    print(f"a trace of {len(lines)} entries: ecall_view report {reported:.3f} s, {reported / judged:.2f} times `ecall replay`")
+    print(f"a trace of {2 * len(lines)} entries: ecall_view report {both:.3f} s, {both / reported:.2f} times")
 
 
 def main(ecall, view):

@@ -1,2 +1,12 @@
 pub mod BreaksLemmas
+pub mod FirstLemmas
+pub mod JudgeLemmas
+pub mod MutingLemmas
 pub mod ReportLemmas
+pub mod RowLemmas
+pub mod SetLemmas
+pub mod SideLemmas
+pub mod StatusLemmas
+pub mod StretchLemmas
+pub mod StretchesMore
+pub mod WatchLemmas

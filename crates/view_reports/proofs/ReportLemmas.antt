@@ -28,7 +28,7 @@ watch_more tick number w (first ∷ lines) line =
     ∙ ap
     (λ (k : ℕ). watch_after (watch_from after (number + 1) behind lines) k (judged_entry (tick_behind after lines) line)) n
 
-watch_one : (before : List (List ℕ)) (line : List ℕ)
+pub watch_one : (before : List (List ℕ)) (line : List ℕ)
     → watch_of (before ++ line ∷ [])
     ≡ watch_after (watch_of before) (length before + 1) (judged_entry (tick_behind 0 before) line)
 watch_one before line =

@@ -2,6 +2,7 @@ pub mod BreakTexts
 pub mod Calls
 pub mod EndTexts
 pub mod Fields
+pub mod First
 pub mod Muting
 pub mod Sets
 pub mod Sides

@@ -8,6 +8,7 @@ mod call_text;
 mod calls;
 mod fields;
 mod handled;
+mod laws;
 mod limits;
 mod manner;
 mod put_breaks;
@@ -22,6 +23,7 @@ mod telling;
 mod times;
 mod watch;
 
+pub use laws::report_laws;
 pub use manner::{Layout, Manner};
 pub use telling::report_trace;
 pub use view_lines::Answer;
