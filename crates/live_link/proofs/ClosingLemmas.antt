@@ -1,5 +1,6 @@
 -- What closing a run makes of the causes of its end.
-use Rattle.std.specs.Prelude.{◌≡◌, ℕ, true, false}
+use Rattle.std.specs.Prelude.{◌≡◌, ℕ, true, false, Result, Ok, Err, OnOk, OnErr}
+use Rattle.std.specs.Result.{is_err}
 use Rattle.std.proofs.Common.{refl, inl, inr}
 use Rattle.call_io.specs.Counts.{Rose}
 use Rattle.live_link.specs.declared.answer.LiveStatus.{LiveStatus}
@@ -41,3 +42,12 @@ closes_cut status.PeerEnded o o' h k = inr (refl, k)
 closes_cut status.LinkCut o o' h k = inr (refl, k)
 closes_cut (status.LinkFault f) o o' h k = inr (refl, k)
 closes_cut status.NoLink o o' h k = inr (refl, k)
+
+-- what holds of a call that failed, and of one that did not
+pub of_err : {T E : Type 0} (P : Type 0) (r : Result T E) → is_err r ≡ true → OnErr r P → P
+of_err P (Ok x) h p = absurd (cc)
+of_err P (Err e) h p = p
+
+pub of_ok : {T E : Type 0} (P : Type 0) (r : Result T E) → is_err r ≡ false → OnOk r P → P
+of_ok P (Ok x) h p = p
+of_ok P (Err e) h p = absurd (cc)

@@ -2,6 +2,7 @@
 
 ghost use Rattle.std.specs.Prelude.{◌≡◌, ◌≤◌};
 ghost use Rattle.call_io.specs.Blocks.{held, sink, way};
+ghost use Rattle.call_io.specs.Bytes.{GrewPartly};
 ghost use Rattle.call_io.specs.Ways.{Onward};
 ghost use Rattle.live_link.specs.LastLine.{last_line, link_line, refusal_line};
 ghost use Rattle.live_link.specs.inner.Closing.{CloseCause, Closes, has_failed};
@@ -69,6 +70,7 @@ fn has_failed(status: &LiveStatus) -> bool
 #[tactic(auto, using(crate::proofs::ClosingLemmas::closes_failed, crate::proofs::ClosingLemmas::closes_whole, crate::proofs::ClosingLemmas::closes_cut))]
 pub(crate) fn close<O: Sink>(status: LiveStatus, trace: &mut Block<'_, O>) -> LiveStatus
     ensures closes { Closes status result (held O.held trace.old) (O.held (sink trace.new)) }
+    ensures partly { GrewPartly (held O.held trace.old) (held O.held trace.new) (last_line status) }
     ensures cause { CloseCause status result (O.faults (sink trace.old)) (O.faults (sink trace.new)) }
     ensures counted { O.faults (sink trace.old) ≤ O.faults (sink trace.new) }
     ensures onward { Onward (way O.held trace.old) (way O.held trace.new) }

@@ -1,16 +1,26 @@
 //! The run of the point's end: its script, line by line, its rounds, and those behind its script.
 
-ghost use Rattle.std.specs.Prelude.{◌≡◌, ◌≤◌, ◌+◌, false, OnOk, OnErr, IfOk};
+ghost use Rattle.std.specs.Prelude.{◌≡◌, ◌≤◌, ◌<◌, ◌+◌, ℕ, List, [], Option, false, length, OnOk, OnErr, IfOk};
 ghost use Rattle.call_io.specs.Blocks.{held, sink, way};
 ghost use Rattle.call_io.specs.Bytes.{Grew, GrewPartly};
 ghost use Rattle.call_io.specs.Ways.{Onward};
 ghost use Rattle.line_input.specs.Lines.{most_bytes};
 ghost use Rattle.link_frames.specs.declared.frame.End.TheVariants as «end»;
 ghost use Rattle.live_link.specs.LiveCauses.{IsAnswerOf, LiveReadCause, LiveWriteCause};
-ghost use Rattle.live_link.specs.PointLive.{hears_line, round};
+ghost use Rattle.line_input.specs.Taken.{LinesSoFar};
+ghost use Rattle.line_input.specs.declared.reason.Reason.TheVariants as reason;
+ghost use Rattle.trace_text.specs.Script.{Said};
+ghost use Rattle.live_link.specs.LiveOutcome.{LiveOutcome, LiveStreams, Over, streams};
+ghost use Rattle.live_link.specs.PointLive.{first_live, hears_line, round};
+ghost use Rattle.live_link.specs.Runs.{beat_of, rounds_of};
+ghost use Rattle.live_link.specs.Scripts.{point_over, script_from};
+ghost use Rattle.live_link.specs.inner.Brought.{no_last};
 ghost use Rattle.live_link.specs.inner.Going.{Answers, EndUnwritten, FindsSome, HasRead, IsOfRound, IsOfScript, IsOfSending, ReadCause, Unread, UnreadBoth, Unwritten, UnwrittenBoth, WriteCause};
-ghost use Rattle.live_link.specs.inner.PointEnd.{PointActs, PointActsPartly};
+ghost use Rattle.live_link.specs.inner.PointEnd.{PointActs, PointActsPartly, PointStandsFor};
+ghost use Rattle.live_link.specs.inner.PointGoes.{OnFrom, PeerAt, PointBeatsFrom, PointOver, PointRoundFrom, PointTurns, ReceivesFrom, RepliesFrom};
 ghost use Rattle.live_link.specs.inner.PointRun.{IsReady, MayGoOn, Stands};
+ghost use Rattle.live_link.specs.inner.Receiving.{StandsBehind};
+ghost use Rattle.live_link.specs.inner.ScriptGoes.{ReadsEvent};
 ghost use Rattle.trace_text.specs.EntryLine.{text_of};
 
 use crate::answer::LiveStatus;
@@ -84,7 +94,9 @@ fn tell_round<O: Sink, L: Ledger>(
 impl PointSide {
     /// Before the first round.
     fn new(alloc: Global) -> PointSide
-        ensures { IsReady result }
+        ensures ready { IsReady result }
+        ensures stands { PointStandsFor result.end first_live }
+        ensures first { (start : Option (List ℕ)) → StandsBehind start start result.receiver [] }
     {
         PointSide {
             end: PointEnd::new(alloc),
@@ -103,6 +115,8 @@ impl PointSide {
     ) -> Result<Came, LiveStatus>
         requires { IsReady self.old }
         ensures going { IfOk result (λ came. MayGoOn came self.new) }
+        ensures goes { ReceivesFrom (λ script to passes. streams script (held O.held trace.old) (I.left from.old) to passes)
+            (λ script to passes. streams script (held O.held trace.new) (I.left from.new) to passes) self.old self.new result }
         ensures answers { Answers IsOfRound result }
         ensures unread { Unread result (I.faults from.old) (I.faults from.new) }
         ensures unwritten { Unwritten result (O.faults (sink trace.old)) (O.faults (sink trace.new)) }
@@ -124,6 +138,8 @@ impl PointSide {
     ) -> Result<(), LiveStatus>
         requires { IsReady self.old }
         ensures ready { OnOk result (IsReady self.new) }
+        ensures goes { RepliesFrom (λ script from. streams script (held O.held trace.old) from (P.held to.old) moments.old)
+            (λ script from. streams script (held O.held trace.new) from (P.held to.new) moments.new) self.old self.new result }
         ensures moments { moments.new ≤ moments.old + 1 }
         ensures answers { Answers IsOfSending result }
         ensures unwritten { UnwrittenBoth result (O.faults (sink trace.old)) (O.faults (sink trace.new)) (P.faults to.old) (P.faults to.new) }
@@ -149,6 +165,8 @@ impl PointSide {
     ) -> Result<Came, LiveStatus>
         requires { IsReady self.old }
         ensures going { IfOk result (λ came. MayGoOn came self.new) }
+        ensures goes { PointRoundFrom (λ script. streams script (held O.held trace.old) (I.left from.old) (P.held to.old) moments.old)
+            (λ script. streams script (held O.held trace.new) (I.left from.new) (P.held to.new) moments.new) self.old self.new result }
         ensures moments { moments.new ≤ moments.old + 1 }
         ensures answers { Answers IsOfRound result }
         ensures unread { Unread result (I.faults from.old) (I.faults from.new) }
@@ -177,8 +195,11 @@ impl PointSide {
         to: &mut P,
         moments: &mut Steps<L>,
     ) -> Result<Came, LiveStatus>
-        requires { IsReady self.old }
+        requires ready { IsReady self.old }
+        requires some { 0 < count }
         ensures going { IfOk result (λ came. MayGoOn came self.new) }
+        ensures goes { PointBeatsFrom (λ script. streams script (held O.held trace.old) (I.left from.old) (P.held to.old) moments.old)
+            (λ script. streams script (held O.held trace.new) (I.left from.new) (P.held to.new) moments.new) self.old self.new (rounds_of count) result }
         ensures moments { moments.new ≤ moments.old + count }
         ensures answers { Answers IsOfRound result }
         ensures unread { Unread result (I.faults from.old) (I.faults from.new) }
@@ -209,6 +230,8 @@ impl PointSide {
     ) -> Result<Came, LiveStatus>
         requires { IsReady self.old }
         ensures going { IfOk result (λ came. MayGoOn came self.new) }
+        ensures goes { PointBeatsFrom (λ script. streams script (held O.held trace.old) (I.left from.old) (P.held to.old) moments.old)
+            (λ script. streams script (held O.held trace.new) (I.left from.new) (P.held to.new) moments.new) self.old self.new (beat_of event.now) result }
         ensures answers { Answers IsOfRound result }
         ensures unread { Unread result (I.faults from.old) (I.faults from.new) }
         ensures unwritten { UnwrittenBoth result (O.faults (sink trace.old)) (O.faults (sink trace.new)) (P.faults to.old) (P.faults to.new) }
@@ -236,6 +259,8 @@ impl PointSide {
         moments: &mut Steps<L>,
     ) -> LiveStatus
         requires { IsReady self.old }
+        ensures goes { OnFrom (λ script. streams script (held O.held trace.old) (I.left from.old) (P.held to.old) moments.old)
+            (λ script. streams script (held O.held trace.new) (I.left from.new) (P.held to.new) moments.new) self.old result }
         ensures answers { IsAnswerOf «end».Point result }
         ensures unread { ReadCause result (I.faults from.old) (I.faults from.new) }
         ensures unwritten { LiveWriteCause result (O.faults (sink trace.old)) (O.faults (sink trace.new)) (P.faults to.old) (P.faults to.new) }
@@ -268,6 +293,8 @@ impl PointSide {
         requires ready { IsReady self.old }
         requires alive { lines.old.failed ≡ false }
         ensures ready { OnOk result (IsReady self.new) }
+        ensures goes { (over : Over) (start : LiveStreams) → PointOver over start (streams (S.left script.old) (held O.held trace.old) (I.left from.old) (P.held to.old) moments.old) self.old lines.old →
+            PointTurns over start (streams (S.left script.new) (held O.held trace.new) (I.left from.new) (P.held to.new) moments.new) self.new lines.new result }
         ensures read { OnOk result (HasRead lines.old lines.new) }
         ensures answers { Answers (IsAnswerOf «end».Point) result }
         ensures unread { UnreadBoth result (S.faults script.old) (S.faults script.new) (I.faults from.old) (I.faults from.new) }
@@ -296,6 +323,8 @@ fn read_event<S: Source, O: Sink>(
 ) -> Result<Option<Event>, LiveStatus>
     requires { lines.old.failed ≡ false }
     ensures finds { FindsSome lines.old lines.new result }
+    ensures reads { ReadsEvent «end».Point reason.Word lines.old lines.new (S.left script.old) (S.left script.new) result }
+    ensures held { held O.held trace.new ≡ held O.held trace.old }
     ensures answers { Answers IsOfScript result }
     ensures unread { Unread result (S.faults script.old) (S.faults script.new) }
     ensures unwritten { Unwritten result (O.faults (sink trace.old)) (O.faults (sink trace.new)) }
@@ -322,6 +351,11 @@ fn end_peer<S: Source, O: Sink>(
     trace: &mut Block<'_, O>,
 ) -> LiveStatus
     requires { lines.old.failed ≡ false }
+    ensures goes { (over : Over) (start : LiveStreams) (from to : Option (List ℕ)) (passes : ℕ) (seen : List (List ℕ)) (said : Said) →
+        LinesSoFar start.script (S.left script.old) lines.old seen →
+        PeerAt over start (streams (S.left script.old) (held O.held trace.old) from to passes) seen
+        (script_from «end».Point said (length seen + 1)) →
+        LiveOutcome no_last over start (streams (S.left script.new) (held O.held trace.new) from to passes) result }
     ensures answers { IsAnswerOf «end».Point result }
     ensures unread { ReadCause result (S.faults script.old) (S.faults script.new) }
     ensures unwritten { WriteCause result (O.faults (sink trace.old)) (O.faults (sink trace.new)) }
@@ -345,6 +379,8 @@ pub(crate) fn run_point<S: Source, O: Sink, I: Source, P: Sink, L: Ledger>(
     to: &mut P,
     moments: &mut Steps<L>,
 ) -> LiveStatus
+    ensures goes { LiveOutcome no_last point_over (streams (S.left script.old) (held O.held trace.old) (I.left from.old) (P.held to.old) moments.old)
+        (streams (S.left script.new) (held O.held trace.new) (I.left from.new) (P.held to.new) moments.new) result }
     ensures answers { IsAnswerOf «end».Point result }
     ensures unread { LiveReadCause result (S.faults script.old) (S.faults script.new) (I.faults from.old) (I.faults from.new) }
     ensures unwritten { LiveWriteCause result (O.faults (sink trace.old)) (O.faults (sink trace.new)) (P.faults to.old) (P.faults to.new) }

@@ -3,6 +3,8 @@
 ghost use Rattle.std.specs.Prelude.{◌≡◌, ◌≤◌};
 ghost use Rattle.link_frames.specs.declared.frame.End.TheVariants as «end»;
 ghost use Rattle.live_link.specs.LiveCauses.{IsAnswerOf, LiveReadCause, LiveWriteCause, WithLink, end_of};
+ghost use Rattle.live_link.specs.LiveOutcome.{LiveOutcome, ending_line, streams};
+ghost use Rattle.live_link.specs.Scripts.{point_over, run_of, vehicle_over};
 
 use crate::answer::{Link, Live, LiveStatus};
 use crate::closing::close;
@@ -22,6 +24,8 @@ pub(crate) fn live_vehicle<S: Source, O: Sink, I: Source, P: Sink, L: Ledger>(
     to: &mut P,
     moments: &mut Steps<L>,
 ) -> LiveStatus
+    ensures goes { LiveOutcome ending_line vehicle_over (streams (S.left script.old) (O.held trace.old) (I.left from.old) (P.held to.old) moments.old)
+        (streams (S.left script.new) (O.held trace.new) (I.left from.new) (P.held to.new) moments.new) result }
     ensures answers { IsAnswerOf «end».Vehicle result }
     ensures unread { LiveReadCause result (S.faults script.old) (S.faults script.new) (I.faults from.old) (I.faults from.new) }
     ensures unwritten { LiveWriteCause result (O.faults trace.old) (O.faults trace.new) (P.faults to.old) (P.faults to.new) }
@@ -44,6 +48,8 @@ pub(crate) fn live_point<S: Source, O: Sink, I: Source, P: Sink, L: Ledger>(
     to: &mut P,
     moments: &mut Steps<L>,
 ) -> LiveStatus
+    ensures goes { LiveOutcome ending_line point_over (streams (S.left script.old) (O.held trace.old) (I.left from.old) (P.held to.old) moments.old)
+        (streams (S.left script.new) (O.held trace.new) (I.left from.new) (P.held to.new) moments.new) result }
     ensures answers { IsAnswerOf «end».Point result }
     ensures unread { LiveReadCause result (S.faults script.old) (S.faults script.new) (I.faults from.old) (I.faults from.new) }
     ensures unwritten { LiveWriteCause result (O.faults trace.old) (O.faults trace.new) (P.faults to.old) (P.faults to.new) }
@@ -69,6 +75,11 @@ pub(crate) fn live<S: Source, O: Sink, I: Source, P: Sink, L: Ledger>(
     ensures answers { WithLink
         ((result ≡ LiveStatus.NoLink) × (script.new ≡ script.old) × (trace.new ≡ trace.old) × (moments.new ≡ moments.old))
         (λ _ _ _ _. IsAnswerOf (end_of end) result) link.old link.new }
+    ensures goes { WithLink (result ≡ LiveStatus.NoLink)
+        (λ from from' to to'. LiveOutcome ending_line (run_of (end_of end))
+        (streams (S.left script.old) (O.held trace.old) (I.left from) (P.held to) moments.old)
+        (streams (S.left script.new) (O.held trace.new) (I.left from') (P.held to') moments.new) result)
+        link.old link.new }
     ensures unread { WithLink (S.faults script.new ≡ S.faults script.old)
         (λ from from' to to'. LiveReadCause result (S.faults script.old) (S.faults script.new) (I.faults from) (I.faults from'))
         link.old link.new }

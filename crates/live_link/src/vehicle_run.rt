@@ -1,6 +1,6 @@
 //! The run of the vehicle's end: its script, line by line, and its rounds.
 
-ghost use Rattle.std.specs.Prelude.{◌≡◌, ◌≤◌, ◌+◌, false, OnOk, OnErr, IfOk};
+ghost use Rattle.std.specs.Prelude.{◌≡◌, ◌≤◌, ◌<◌, ◌+◌, false, [], OnOk, OnErr, IfOk};
 ghost use Rattle.call_io.specs.Blocks.{held, sink, way};
 ghost use Rattle.call_io.specs.Bytes.{Grew, GrewPartly};
 ghost use Rattle.call_io.specs.Ways.{Onward};
@@ -10,6 +10,21 @@ ghost use Rattle.live_link.specs.LiveCauses.{IsAnswerOf, LiveReadCause, LiveWrit
 ghost use Rattle.live_link.specs.VehicleLive.{hears_line, round};
 ghost use Rattle.live_link.specs.inner.Going.{Answers, EndUnwritten, FindsSome, HasRead, IsOfLine, IsOfRound, IsOfScript, Unread, UnreadBoth, Unwritten, UnwrittenBoth, WriteCause};
 ghost use Rattle.live_link.specs.inner.VehicleEnd.{Acts, ActsPartly, EndStandsFor};
+ghost use Rattle.std.specs.Prelude.{ℕ, List, Option};
+ghost use Rattle.line_input.specs.declared.reason.Reason.TheVariants as reason;
+ghost use Rattle.trace_text.specs.Drafts.{DraftOf};
+ghost use Rattle.trace_text.specs.declared.draft.Draft.{Draft as DraftIs};
+ghost use Rattle.trace_text.specs.declared.fact_line.FactLine.{FactLine as FactOf};
+ghost use Rattle.trace_text.specs.declared.script.ScriptLine.TheVariants as line;
+ghost use Rattle.live_link.specs.LiveOutcome.{LiveOutcome, LiveStreams, Over, streams};
+ghost use Rattle.live_link.specs.Scripts.{vehicle_over};
+ghost use Rattle.live_link.specs.VehicleLive.{first_live};
+ghost use Rattle.live_link.specs.inner.Brought.{no_last};
+ghost use Rattle.live_link.specs.inner.FrontGoes.{FrontOver, FrontRead, FrontStep, IsFront, TakesInFront};
+ghost use Rattle.live_link.specs.inner.Receiving.{StandsBehind};
+ghost use Rattle.live_link.specs.inner.ScriptGoes.{ReadsEvent};
+ghost use Rattle.live_link.specs.Runs.{beat_of, rounds_of};
+ghost use Rattle.live_link.specs.inner.VehicleGoes.{BeatsFrom, EndsFrom, ExchangesFrom, RoundFrom, TurnsFrom, outside};
 ghost use Rattle.live_link.specs.inner.VehicleRun.{EndsScript, FindsFirst, IsInFront, IsReady, MayRun, Stands};
 ghost use Rattle.trace_text.specs.EntryLine.{text_of};
 
@@ -92,7 +107,9 @@ fn tell_round<O: Sink, L: Ledger>(
 impl VehicleSide {
     /// Before the first round, with these facts.
     fn new(alloc: Global, facts: Facts) -> VehicleSide
-        ensures { IsReady result }
+        ensures ready { IsReady result }
+        ensures stands { EndStandsFor result.end (first_live facts) }
+        ensures first { (start : Option (List ℕ)) → StandsBehind start start result.receiver [] }
     {
         VehicleSide {
             end: VehicleEnd::new(alloc, facts),
@@ -112,6 +129,8 @@ impl VehicleSide {
     ) -> Result<(), LiveStatus>
         requires { IsReady self.old }
         ensures ready { OnOk result (IsReady self.new) }
+        ensures goes { ExchangesFrom (outside (held O.held trace.old) (I.left from.old) (P.held to.old))
+            (outside (held O.held trace.new) (I.left from.new) (P.held to.new)) self.old self.new result }
         ensures answers { Answers IsOfRound result }
         ensures unread { Unread result (I.faults from.old) (I.faults from.new) }
         ensures unwritten { UnwrittenBoth result (O.faults (sink trace.old)) (O.faults (sink trace.new)) (P.faults to.old) (P.faults to.new) }
@@ -137,6 +156,8 @@ impl VehicleSide {
     ) -> Result<(), LiveStatus>
         requires { IsReady self.old }
         ensures ready { OnOk result (IsReady self.new) }
+        ensures goes { RoundFrom (λ script. streams script (held O.held trace.old) (I.left from.old) (P.held to.old) moments.old)
+            (λ script. streams script (held O.held trace.new) (I.left from.new) (P.held to.new) moments.new) self.old self.new result }
         ensures moments { moments.new ≤ moments.old + 1 }
         ensures answers { Answers IsOfRound result }
         ensures unread { Unread result (I.faults from.old) (I.faults from.new) }
@@ -163,8 +184,11 @@ impl VehicleSide {
         to: &mut P,
         moments: &mut Steps<L>,
     ) -> Result<(), LiveStatus>
-        requires { IsReady self.old }
+        requires ready { IsReady self.old }
+        requires some { 0 < count }
         ensures ready { OnOk result (IsReady self.new) }
+        ensures goes { BeatsFrom (λ script. streams script (held O.held trace.old) (I.left from.old) (P.held to.old) moments.old)
+            (λ script. streams script (held O.held trace.new) (I.left from.new) (P.held to.new) moments.new) self.old self.new (rounds_of count) result }
         ensures moments { moments.new ≤ moments.old + count }
         ensures answers { Answers IsOfRound result }
         ensures unread { Unread result (I.faults from.old) (I.faults from.new) }
@@ -192,6 +216,8 @@ impl VehicleSide {
     ) -> Result<(), LiveStatus>
         requires { IsReady self.old }
         ensures ready { OnOk result (IsReady self.new) }
+        ensures goes { BeatsFrom (λ script. streams script (held O.held trace.old) (I.left from.old) (P.held to.old) moments.old)
+            (λ script. streams script (held O.held trace.new) (I.left from.new) (P.held to.new) moments.new) self.old self.new (beat_of event.now) result }
         ensures answers { Answers IsOfRound result }
         ensures unread { Unread result (I.faults from.old) (I.faults from.new) }
         ensures unwritten { UnwrittenBoth result (O.faults (sink trace.old)) (O.faults (sink trace.new)) (P.faults to.old) (P.faults to.new) }
@@ -225,6 +251,8 @@ impl VehicleSide {
         requires alive { lines.old.failed ≡ false }
         ensures ready { OnOk result (IsReady self.new) }
         ensures read { OnOk result (HasRead lines.old lines.new) }
+        ensures goes { TurnsFrom (streams (S.left script.old) (held O.held trace.old) (I.left from.old) (P.held to.old) moments.old)
+            (streams (S.left script.new) (held O.held trace.new) (I.left from.new) (P.held to.new) moments.new) self.old self.new lines.old lines.new event.now result }
         ensures answers { Answers (IsAnswerOf «end».Vehicle) result }
         ensures unread { UnreadBoth result (S.faults script.old) (S.faults script.new) (I.faults from.old) (I.faults from.new) }
         ensures unwritten { UnwrittenBoth result (O.faults (sink trace.old)) (O.faults (sink trace.new)) (P.faults to.old) (P.faults to.new) }
@@ -256,6 +284,8 @@ impl VehicleSide {
         requires ready { IsReady self.old }
         requires alive { lines.old.failed ≡ false }
         requires few { lines.old.lines ≤ most_bytes }
+        ensures goes { EndsFrom (streams (S.left script.old) (held O.held trace.old) (I.left from.old) (P.held to.old) moments.old)
+            (streams (S.left script.new) (held O.held trace.new) (I.left from.new) (P.held to.new) moments.new) self.old lines.old first result }
         ensures answers { IsAnswerOf «end».Vehicle result }
         ensures unread { LiveReadCause result (S.faults script.old) (S.faults script.new) (I.faults from.old) (I.faults from.new) }
         ensures unwritten { LiveWriteCause result (O.faults (sink trace.old)) (O.faults (sink trace.new)) (P.faults to.old) (P.faults to.new) }
@@ -284,6 +314,8 @@ pub(crate) fn run_vehicle<S: Source, O: Sink, I: Source, P: Sink, L: Ledger>(
     to: &mut P,
     moments: &mut Steps<L>,
 ) -> LiveStatus
+    ensures goes { LiveOutcome no_last vehicle_over (streams (S.left script.old) (held O.held trace.old) (I.left from.old) (P.held to.old) moments.old)
+        (streams (S.left script.new) (held O.held trace.new) (I.left from.new) (P.held to.new) moments.new) result }
     ensures answers { IsAnswerOf «end».Vehicle result }
     ensures unread { LiveReadCause result (S.faults script.old) (S.faults script.new) (I.faults from.old) (I.faults from.new) }
     ensures unwritten { LiveWriteCause result (O.faults (sink trace.old)) (O.faults (sink trace.new)) (P.faults to.old) (P.faults to.new) }
@@ -312,6 +344,9 @@ fn run_behind<S: Source, O: Sink, I: Source, P: Sink, L: Ledger>(
     moments: &mut Steps<L>,
 ) -> LiveStatus
     requires { MayRun front lines.old }
+    ensures goes { (over : Over) (start : LiveStreams) →
+        IsFront over start (streams (S.left script.old) (held O.held trace.old) (I.left from.old) (P.held to.old) moments.old) lines.old front →
+        LiveOutcome no_last over start (streams (S.left script.new) (held O.held trace.new) (I.left from.new) (P.held to.new) moments.new) result }
     ensures answers { IsAnswerOf «end».Vehicle result }
     ensures unread { LiveReadCause result (S.faults script.old) (S.faults script.new) (I.faults from.old) (I.faults from.new) }
     ensures unwritten { LiveWriteCause result (O.faults (sink trace.old)) (O.faults (sink trace.new)) (P.faults to.old) (P.faults to.new) }
@@ -339,6 +374,9 @@ fn read_front<S: Source, O: Sink>(
     requires alive { lines.old.failed ≡ false }
     requires few { lines.old.lines ≤ most_bytes }
     ensures runs { IfOk result (λ front. MayRun front lines.new) }
+    ensures goes { (over : Over) (start : LiveStreams) (from to : Option (List ℕ)) (passes : ℕ) →
+        ((draft : DraftIs) → DraftOf draft [] → FrontOver over start (streams (S.left script.old) (held O.held trace.old) from to passes) lines.old draft) →
+        FrontRead over start (streams (S.left script.new) (held O.held trace.new) from to passes) lines.new result }
     ensures answers { Answers IsOfScript result }
     ensures unread { Unread result (S.faults script.old) (S.faults script.new) }
     ensures unwritten { Unwritten result (O.faults (sink trace.old)) (O.faults (sink trace.new)) }
@@ -364,6 +402,9 @@ fn read_fact<S: Source, O: Sink>(
 ) -> Result<Option<Front>, LiveStatus>
     requires { lines.old.failed ≡ false }
     ensures finds { FindsFirst lines.old lines.new result }
+    ensures goes { (over : Over) (start : LiveStreams) (from to : Option (List ℕ)) (passes : ℕ) →
+        FrontOver over start (streams (S.left script.old) (held O.held trace.old) from to passes) lines.old draft.old →
+        FrontStep over start (streams (S.left script.new) (held O.held trace.new) from to passes) lines.new draft.new result }
     ensures answers { Answers IsOfScript result }
     ensures unread { Unread result (S.faults script.old) (S.faults script.new) }
     ensures unwritten { Unwritten result (O.faults (sink trace.old)) (O.faults (sink trace.new)) }
@@ -390,6 +431,8 @@ fn take_in_front(
 ) -> Result<Option<Front>, LiveStatus>
     ensures answers { Answers IsOfLine result }
     ensures going { IfOk result IsInFront }
+    ensures takes { (told : List FactOf) → DraftOf draft.old told →
+        TakesInFront told draft.new says number result }
 {
     match says {
         ScriptLine::Fact(fact) => add(draft, fact, number),
@@ -403,6 +446,8 @@ fn take_in_front(
 fn add(draft: &mut Draft, fact: FactLine, number: u32) -> Result<Option<Front>, LiveStatus>
     ensures answers { Answers IsOfLine result }
     ensures going { IfOk result IsInFront }
+    ensures takes { (told : List FactOf) → DraftOf draft.old told →
+        TakesInFront told draft.new (line.Fact fact) number result }
 {
     if draft.add(fact) {
         Ok(None)
@@ -438,6 +483,8 @@ fn read_event<S: Source, O: Sink>(
 ) -> Result<Option<Event>, LiveStatus>
     requires { lines.old.failed ≡ false }
     ensures finds { FindsSome lines.old lines.new result }
+    ensures reads { ReadsEvent «end».Vehicle reason.Late lines.old lines.new (S.left script.old) (S.left script.new) result }
+    ensures held { held O.held trace.new ≡ held O.held trace.old }
     ensures answers { Answers IsOfScript result }
     ensures unread { Unread result (S.faults script.old) (S.faults script.new) }
     ensures unwritten { Unwritten result (O.faults (sink trace.old)) (O.faults (sink trace.new)) }

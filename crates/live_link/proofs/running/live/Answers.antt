@@ -1,0 +1,7 @@
+use Rattle.live_link.proofs.running.live.Goals as goal
+
+pub returns-in-Vehicle-clause-goes : goal.returns-in-Vehicle-clause-goes
+returns-in-Vehicle-clause-goes g c = rw (c.in-Some.is, c.in-Vehicle.is) c.live_vehicle.ensures.goes
+
+pub returns-in-Point-clause-goes : goal.returns-in-Point-clause-goes
+returns-in-Point-clause-goes g c = rw (c.in-Some.is, c.in-Point.is) c.live_point.ensures.goes
