@@ -1,8 +1,7 @@
 -- What one line in front of the first event line makes of what the facts say together.
-use Rattle.std.specs.Prelude.{◌≡◌, ℕ, Bool, true, false, not, List, [], ◌∷◌, ◌++◌, Option, Some, None, Result, Ok, Err}
+use Rattle.std.specs.Prelude.{◌≡◌, ℕ, Bool, true, false, not, List, [], ◌∷◌, ◌++◌, None, Ok, Err}
 use Rattle.std.proofs.Common.{refl, sym, ap, ◌∙◌}
 use Rattle.line_input.specs.declared.reason.Reason.TheVariants as reason
-use Rattle.msd_fit.specs.declared.facts.Facts.{Facts}
 use Rattle.trace_model.specs.declared.event.Event.{Event}
 use Rattle.trace_text.specs.Drafts.{DraftOf}
 use Rattle.trace_text.specs.Facts.{facts_in, is_one_too_many}

@@ -1,7 +1,7 @@
 -- What closing a run makes of what its end says.
-use Rattle.std.specs.Prelude.{◌≡◌, ℕ, ◌+◌, ◌≤◌, ◌⊎◌, true, false, List, [], ◌∷◌, ◌++◌, Option, Some, None}
+use Rattle.std.specs.Prelude.{◌≡◌, ℕ, true, List, [], ◌∷◌, ◌++◌, Option, Some, None}
 use Rattle.std.specs.Io.KnownBytes.{append_known}
-use Rattle.std.proofs.Common.{refl, sym, ap, subst, ◌∙◌, inl, inr, append_assoc}
+use Rattle.std.proofs.Common.{refl, sym, ap, subst, ◌∙◌, inl, inr}
 use Rattle.std.proofs.lemmas.List.{append-nil}
 use Rattle.call_io.specs.Blocks.{held, pending, sink, way}
 use Rattle.call_io.specs.Bytes.{Grew, GrewPartly}
@@ -12,7 +12,7 @@ use Rattle.call_io.proofs.BytesLemmas.{Grew-append, Grew-nothing, GrewPartly-aft
 use Rattle.link_parts.specs.Rounds as rounds
 use Rattle.trace_text.specs.EntryLine.{text_of}
 use Rattle.live_link.specs.LastLine.{last_line}
-use Rattle.live_link.specs.LiveOutcome.{CutShort, LiveOutcome, LiveStreams, Over, Ran, ending_line, run_over, trace_of}
+use Rattle.live_link.specs.LiveOutcome.{CutShort, LiveOutcome, LiveStreams, Over, Ran, ending_line, run_over}
 use Rattle.live_link.specs.Runs.{Ending, Run}
 use Rattle.live_link.specs.Runs as ending
 use Rattle.live_link.specs.Turns.{entries_of}

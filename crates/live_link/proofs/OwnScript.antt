@@ -1,10 +1,9 @@
 -- The script of an end, line by line.
 use Rattle.std.specs.Prelude.{◌≡◌, ℕ, ◌+◌, Bool, true, false, cond, List, [], ◌∷◌, ◌++◌, length, codes, Option, Some, None, Result, Ok, Err}
 use Rattle.std.specs.List.{AllByRecursion}
-use Rattle.std.proofs.Common.{refl, sym, ap, subst, ◌∙◌, arith}
+use Rattle.std.proofs.Common.{refl, ap, ◌∙◌, arith}
 use Rattle.line_input.specs.Lines.{IsLine, IsPassedOver, is_comment, line_fault}
 use Rattle.line_input.specs.Words.{words}
-use Rattle.line_input.specs.declared.reason.BadLine.{BadLine}
 use Rattle.line_input.specs.declared.reason.Reason.{Reason}
 use Rattle.line_input.specs.declared.reason.Reason.TheVariants as reason
 use Rattle.link_frames.specs.declared.frame.End.{End}
@@ -12,8 +11,7 @@ use Rattle.link_frames.specs.declared.frame.End.TheVariants as «end»
 use Rattle.msd_fit.specs.declared.facts.Facts.{Facts}
 use Rattle.trace_model.specs.declared.event.Event.{Event}
 use Rattle.trace_text.specs.Facts.{facts_in}
-use Rattle.trace_text.specs.Script.{Said, Script, in_front, placed_event, placed_fact, said_after}
-use Rattle.trace_text.specs.declared.fact_line.FactLine.{FactLine}
+use Rattle.trace_text.specs.Script.{Said, in_front, placed_event, said_after}
 use Rattle.trace_text.specs.declared.script.ScriptLine.{ScriptLine}
 use Rattle.trace_text.specs.declared.script.ScriptLine.TheVariants as line
 use Rattle.live_link.specs.Scripts.{judged, line_by_words, placed_line, script_from}

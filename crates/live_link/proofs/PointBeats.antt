@@ -1,5 +1,5 @@
 -- The beats of a line at the point's end: its rounds, or what it hears at once.
-use Rattle.std.specs.Prelude.{◌≡◌, ℕ, zero, suc, ◌+◌, ◌-◌, ◌<◌, ◌≤◌, Bool, true, false, List, [], ◌∷◌, ◌++◌, length, Option, Some, None, Result, Ok, Err, replicate, cond, ◌==◌}
+use Rattle.std.specs.Prelude.{◌≡◌, ℕ, zero, suc, ◌+◌, ◌-◌, ◌<◌, Bool, true, false, List, [], ◌∷◌, ◌++◌, length, Option, Some, None, replicate, cond, ◌==◌}
 use Rattle.std.proofs.Common.{refl, sym, ap, subst, ◌∙◌, arith}
 use Rattle.std.proofs.lemmas.List.{append-nil}
 use Rattle.call_io.specs.Bytes.{Grew, GrewPartly}
@@ -15,15 +15,15 @@ use Rattle.trace_model.specs.declared.event.Event.{Event}
 use Rattle.trace_model.specs.declared.event.Event.TheVariants as event
 use Rattle.trace_text.specs.EntryLine.{text_of}
 use Rattle.live_link.specs.LiveOutcome.{LiveStreams, Over}
-use Rattle.live_link.specs.PointLive.{LivePoint, answers, calls, comes_up, does, draws, gathers, hears_in, hears_line, hears_part, if_up, in_session, is_rung, loses, nothing, passes, passes_in, resets, round, up_hears}
-use Rattle.live_link.specs.Runs.{Beat, Round, Line, Run, Steps, and_then, each, quiet, rounds_of, run_behind}
-use Rattle.live_link.specs.Turns.{Turn, entries_of}
+use Rattle.live_link.specs.PointLive.{LivePoint, calls, does, draws, hears_in, hears_line, hears_part, in_session, is_rung, loses, nothing, passes, passes_in, round, up_hears}
+use Rattle.live_link.specs.Runs.{Beat, Round, Line, Steps, each, quiet, run_behind}
+use Rattle.live_link.specs.Turns.{entries_of}
 use Rattle.live_link.specs.declared.point_run.PointSide.{PointSide}
 use Rattle.live_link.specs.inner.Brought.{CutOff, Rest, point_left}
 use Rattle.live_link.specs.inner.PointEnd.{PointActs, PointActsPartly}
 use Rattle.live_link.specs.inner.PointGoes.{PointAt}
 use Rattle.live_link.proofs.RoundLemmas.{cut_at, run_twice, turns_text}
-use Rattle.live_link.proofs.VehicleBeats.{next_round, rounds_left}
+use Rattle.live_link.proofs.VehicleBeats.{rounds_left}
 
 -- Ticks: a round passes one, and nothing else any.
 

@@ -1,5 +1,5 @@
 -- The point's end from one line of its script to the next, behind its script, and where the vehicle's script ends first.
-use Rattle.std.specs.Prelude.{◌≡◌, ℕ, ◌+◌, ◌-◌, ◌<◌, ◌≤◌, ◌⊎◌, Bool, true, false, List, [], ◌∷◌, ◌++◌, length, codes, Option, Some, None, Result, Ok, Err}
+use Rattle.std.specs.Prelude.{◌≡◌, ℕ, ◌+◌, ◌≤◌, true, false, List, [], ◌∷◌, ◌++◌, length, codes, Option, Some, None, Result, Ok, Err}
 use Rattle.std.specs.List.{AllByRecursion}
 use Rattle.std.proofs.Common.{refl, sym, ap, subst, ◌∙◌, inl, inr, arith, append_assoc, length-append}
 use Rattle.std.proofs.lemmas.List.{append-nil}
@@ -24,7 +24,7 @@ use Rattle.trace_text.specs.Facts.{facts_in}
 use Rattle.trace_text.specs.Script.{Said, Script, nothing_said, said_after}
 use Rattle.trace_text.specs.declared.script.ScriptLine.{ScriptLine}
 use Rattle.trace_text.specs.declared.script.ScriptLine.TheVariants as line
-use Rattle.live_link.specs.LiveOutcome.{CutShort, IsDecided, LinkRunsOver, LiveOutcome, LiveStreams, Over, Ran, WantsLine, run_over}
+use Rattle.live_link.specs.LiveOutcome.{CutShort, LinkRunsOver, LiveOutcome, LiveStreams, Over, Ran, WantsLine, run_over}
 use Rattle.live_link.specs.PointLive.{LivePoint, at_peer_end, first_live, lines_follow}
 use Rattle.live_link.specs.Runs.{Beat, Run, at_script_end, beat_of, beats_of, run_behind}
 use Rattle.live_link.specs.Runs as ending
@@ -33,8 +33,8 @@ use Rattle.live_link.specs.Turns.{Turn, entries_of}
 use Rattle.live_link.specs.declared.answer.LiveStatus.{LiveStatus}
 use Rattle.live_link.specs.declared.answer.LiveStatus.TheVariants as status
 use Rattle.live_link.specs.declared.point_run.PointSide.{PointSide}
-use Rattle.live_link.specs.inner.Brought.{CutOff, LinkEnded, LinkOver, RoundEnds, Standing, no_last, point_behind, point_left}
-use Rattle.live_link.specs.inner.PointGoes.{DoneAt, EndsOn, PeerAt, PointAt, PointOver, no_more}
+use Rattle.live_link.specs.inner.Brought.{CutOff, LinkEnded, LinkOver, Standing, no_last, point_behind, point_left}
+use Rattle.live_link.specs.inner.PointGoes.{EndsOn, PeerAt, PointAt, PointOver, no_more}
 use Rattle.live_link.specs.inner.PointEnd.{PointStandsFor}
 use Rattle.live_link.specs.inner.Receiving.{StandsBehind}
 use Rattle.live_link.specs.inner.ScriptGoes.{ReadsEvent, ReadsOther, RefusesEvent}

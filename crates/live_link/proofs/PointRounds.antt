@@ -1,17 +1,15 @@
 -- A round of the point's end, from one message that it reads to the next, and the end of the vehicle's script in place of
 -- one.
-use Rattle.std.specs.Prelude.{◌≡◌, ℕ, zero, suc, ◌+◌, ◌-◌, ◌<◌, ◌≤◌, Bool, true, false, List, [], ◌∷◌, ◌++◌, length, Option, Some, None, Result, Ok, Err, replicate}
+use Rattle.std.specs.Prelude.{◌≡◌, ℕ, zero, suc, ◌+◌, ◌≤◌, Bool, false, List, [], ◌∷◌, ◌++◌, length, Option, None, Result, Ok, Err, replicate}
 use Rattle.std.proofs.Common.{refl, sym, ap, subst, ◌∙◌, arith, append_assoc}
 use Rattle.std.proofs.lemmas.List.{append-nil}
 use Rattle.call_io.specs.Bytes.{Took, Grew, GrewPartly}
 use Rattle.call_io.proofs.BytesLemmas.{Grew-append, GrewPartly-after, GrewPartly-longer, GrewPartly-whole}
 use Rattle.link_frames.specs.declared.frame.End.TheVariants as «end»
-use Rattle.line_input.specs.declared.reason.BadLine.{BadLine}
 use Rattle.link_parts.specs.Messages.{message_end, message_octets}
 use Rattle.link_parts.specs.Rounds.{LinkCut, Faulty, Message, Parts, Rounds, ScriptEnd, Stop, and_message, rounds_from}
 use Rattle.trace_model.specs.declared.entry.Entry.{Entry}
 use Rattle.trace_text.specs.EntryLine.{text_of}
-use Rattle.trace_text.specs.Script.{Script}
 use Rattle.live_link.specs.LiveOutcome.{LiveStreams, Over}
 use Rattle.live_link.specs.PointLive.{LivePoint, at_peer_end, lines_follow, round, run_from, run_on}
 use Rattle.live_link.specs.Runs.{Beat, Round, Run, beats_of, run_behind}
@@ -23,7 +21,7 @@ use Rattle.live_link.specs.declared.point_end.PointEnd.{PointEnd}
 use Rattle.live_link.specs.declared.point_run.PointSide.{PointSide}
 use Rattle.live_link.specs.declared.receiver.Came.{Came}
 use Rattle.live_link.specs.declared.receiver.Came.TheVariants as came
-use Rattle.live_link.specs.inner.Brought.{CutOff, LinkEnded, LinkOver, Rest, RoundEnds, point_behind, point_left}
+use Rattle.live_link.specs.inner.Brought.{CutOff, LinkEnded, Rest, RoundEnds, point_behind, point_left}
 use Rattle.live_link.specs.inner.PointEnd.{PointActs, PointActsPartly, PointStandsFor}
 use Rattle.live_link.specs.inner.PointGoes.{DoneAt, EndsOn, PeerAt, PointAt, PointRead, ReadsRound, no_more}
 use Rattle.live_link.specs.inner.Receiving.{MessageCame, Receives, ScriptEnded, Stops, cut}

@@ -1,5 +1,5 @@
 -- What a read or a write that failed says of what was read and written.
-use Rattle.std.specs.Prelude.{◌≡◌, ℕ, List, Option, Bool, true, Result, Ok, Err}
+use Rattle.std.specs.Prelude.{◌≡◌, ℕ, List, Option, true, Result, Ok, Err}
 use Rattle.std.proofs.Common.{refl, sym, subst, inl, inr}
 use Rattle.call_io.specs.Bytes.{GrewPartly}
 use Rattle.call_io.proofs.BytesLemmas.{GrewPartly-nothing}
@@ -7,7 +7,6 @@ use Rattle.line_input.specs.Reading.{Reading, ReadsLine}
 use Rattle.line_input.specs.Words.{words}
 use Rattle.line_input.specs.declared.fault.LineFault.{LineFault}
 use Rattle.line_input.specs.declared.fault.LineFault.TheVariants as fault
-use Rattle.line_input.specs.declared.reason.BadLine.{BadLine}
 use Rattle.line_input.specs.declared.reason.Reason.{Reason}
 use Rattle.link_frames.specs.declared.frame.End.{End}
 use Rattle.trace_text.specs.declared.fact_line.FactLine.{FactLine}

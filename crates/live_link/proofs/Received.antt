@@ -1,23 +1,22 @@
 -- How a message is read, octet by octet.
-use Rattle.std.specs.Prelude.{◌≡◌, ℕ, ◌+◌, ◌<◌, ◌≤◌, ◌⊎◌, ◌==◌, Bool, true, false, List, [], ◌∷◌, ◌++◌, length, min, Option, Some, None, Result, Ok, Err}
+use Rattle.std.specs.Prelude.{◌≡◌, ℕ, ◌+◌, ◌≤◌, ◌⊎◌, ◌==◌, true, false, List, [], ◌∷◌, ◌++◌, length, min, Option, Some, None, Result, Ok, Err}
 use Rattle.std.specs.Io.KnownBytes.{IsAtEnd}
 use Rattle.std.proofs.Common.{refl, sym, ap, subst, ◌∙◌, inl, inr, arith, append_assoc, length-append}
 use Rattle.std.proofs.lemmas.Bool.{ne_eqb}
 use Rattle.std.proofs.lemmas.List.{append-nil}
 use Rattle.call_io.specs.Bytes.{Took}
 use Rattle.call_io.proofs.BytesLemmas.{Took-append, Took-nothing}
-use Rattle.line_input.specs.Feed.{Draws, Feed, IsDone, first_feed}
+use Rattle.line_input.specs.Feed.{Draws, Feed, first_feed}
 use Rattle.line_input.specs.Giving.{NextByte}
 use Rattle.line_input.specs.Lines.{most_bytes}
 use Rattle.line_input.specs.declared.fault.LineFault.{LineFault}
 use Rattle.line_input.specs.declared.fault.LineFault.TheVariants as fault
 use Rattle.link_frames.specs.declared.frame.End.{End}
-use Rattle.link_parts.specs.MessageReading.{IsBefore, TakesTo}
-use Rattle.link_parts.specs.PartReading.{IsGoing, kept_of}
+use Rattle.link_parts.specs.MessageReading.{TakesTo}
+use Rattle.link_parts.specs.PartReading.{kept_of}
 use Rattle.link_parts.specs.Rounds.{Rounds, ScriptEnd, LinkCut, Faulty, Taken, GoesOn, Gives, EndsMessage, EndsScript, Stops as StopsAt, and_message, rounds_from, take_octet}
 use Rattle.link_parts.specs.declared.fault.LinkFault.{LinkFault}
 use Rattle.link_parts.specs.declared.fault.PartFault.{PartFault}
-use Rattle.link_parts.specs.declared.message_reader.MessageReader.{MessageReader}
 use Rattle.link_parts.specs.declared.message_reader.Taking.{Taking}
 use Rattle.link_parts.specs.declared.message_reader.Taking.TheVariants as taking
 use Rattle.link_parts.specs.declared.part.Part.{Part}
@@ -27,7 +26,7 @@ use Rattle.live_link.specs.declared.receiver.Came.{Came}
 use Rattle.live_link.specs.declared.receiver.Came.TheVariants as came
 use Rattle.live_link.specs.declared.receiver.Receiver.{Receiver}
 use Rattle.live_link.specs.inner.Going.{Notes, halt_of}
-use Rattle.live_link.specs.inner.Receiving.{OctetsSoFar, StandsBehind, StandsWithin, cut, faulty, MessageCame, ScriptEnded, Hears, CutWithin, FaultyWithin, OverWithin, TookMore, Stops, TakesOctet, TakesStep, Receives}
+use Rattle.live_link.specs.inner.Receiving.{OctetsSoFar, StandsBehind, StandsWithin, cut, faulty, MessageCame, ScriptEnded, Hears, CutWithin, FaultyWithin, TookMore, Stops, TakesOctet, TakesStep, Receives}
 
 -- Octets.
 

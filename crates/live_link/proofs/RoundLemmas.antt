@@ -1,8 +1,7 @@
 -- How a round of a run ends, and what was written by then.
-use Rattle.std.specs.Prelude.{◌≡◌, ℕ, ◌+◌, ◌<◌, ◌≤◌, List, [], ◌∷◌, ◌++◌, length, Option, Result, Ok, Err}
-use Rattle.std.proofs.Common.{refl, sym, ap, subst, ◌∙◌, arith, append_assoc}
-use Rattle.std.proofs.lemmas.List.{append-nil}
-use Rattle.call_io.specs.Bytes.{Took, Grew, GrewPartly}
+use Rattle.std.specs.Prelude.{◌≡◌, ℕ, List, ◌++◌, length}
+use Rattle.std.proofs.Common.{sym, ap, subst, ◌∙◌, append_assoc}
+use Rattle.call_io.specs.Bytes.{Took, GrewPartly}
 use Rattle.call_io.proofs.BytesLemmas.{GrewPartly-longer, GrewPartly-whole}
 use Rattle.trace_text.specs.EntryLine.{text_of}
 use Rattle.trace_text.specs.inner.TextListenerLaws.{text_of-append}

@@ -1,22 +1,19 @@
 -- How a run ends at a line of its script, at the end of it, or where none can be read, for either end.
-use Rattle.std.specs.Prelude.{◌≡◌, ℕ, ◌+◌, ◌-◌, ◌<◌, ◌≤◌, ◌⊎◌, Bool, true, false, List, [], ◌∷◌, ◌++◌, length, codes, Option, Some, None, Result, Ok, Err}
-use Rattle.std.specs.Io.KnownBytes.{IsAtEnd}
-use Rattle.std.proofs.Common.{refl, sym, ap, subst, ◌∙◌, inl, inr, arith, append_assoc}
+use Rattle.std.specs.Prelude.{◌≡◌, ℕ, ◌+◌, ◌≤◌, Bool, true, false, List, [], ◌∷◌, ◌++◌, length, Option, Err}
+use Rattle.std.proofs.Common.{refl, sym, ap, subst, ◌∙◌, inl, inr, append_assoc}
 use Rattle.std.proofs.lemmas.Bool.{false≢true}
 use Rattle.std.proofs.lemmas.List.{append-nil}
 use Rattle.call_io.specs.Bytes.{Took, Grew, GrewPartly}
 use Rattle.line_input.specs.Feed.{Feed}
-use Rattle.line_input.specs.Inputs.{IsSettledBy, RunsOver}
-use Rattle.line_input.specs.Lines.{IsWhole, lines_of, most_bytes}
+use Rattle.line_input.specs.Lines.{lines_of, most_bytes}
 use Rattle.line_input.specs.Reading.{MayFollow, Reading, ReadsLine}
 use Rattle.line_input.specs.Taken.{LinesSoFar}
 use Rattle.line_input.specs.declared.fault.LineFault.TheVariants as fault
-use Rattle.line_input.specs.declared.reason.BadLine.{BadLine}
-use Rattle.line_input.proofs.LinesSoFar.{StopsAt, ended_lines, ended_whole, over_lines, settled_as, stopped_all, stopped_by, stopped_input, taken_input, taken_took}
+use Rattle.line_input.proofs.LinesSoFar.{StopsAt, over_lines, settled_as, stopped_all, stopped_by, stopped_input, taken_input, taken_took}
 use Rattle.line_input.proofs.Takings.{at_hand}
 use Rattle.link_parts.specs.Rounds as rounds
 use Rattle.trace_text.specs.EntryLine.{text_of}
-use Rattle.live_link.specs.LiveOutcome.{CutShort, IsDecided, IsKnown, IsSettled, IsTooLong, LinkRunsOver, LiveOutcome, LiveStreams, Over, Ran, WantsLine, run_over}
+use Rattle.live_link.specs.LiveOutcome.{CutShort, IsDecided, IsKnown, IsSettled, LinkRunsOver, LiveOutcome, LiveStreams, Over, Ran, WantsLine, run_over}
 use Rattle.live_link.specs.Runs.{Ending, Run, run_behind}
 use Rattle.live_link.specs.Runs as ending
 use Rattle.live_link.specs.Turns.{entries_of}

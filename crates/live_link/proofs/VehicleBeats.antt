@@ -1,10 +1,9 @@
 -- The beats of a line at the vehicle's end: its rounds, or what it hears at once.
-use Rattle.std.specs.Prelude.{◌≡◌, ℕ, zero, suc, ◌+◌, ◌-◌, ◌<◌, ◌≤◌, Bool, true, false, List, [], ◌∷◌, ◌++◌, length, Option, Result, Ok, Err, replicate, nat_lt, ◌&&◌}
+use Rattle.std.specs.Prelude.{◌≡◌, ℕ, zero, suc, ◌+◌, ◌-◌, ◌<◌, Bool, true, false, List, [], ◌∷◌, ◌++◌, length, replicate}
 use Rattle.std.proofs.Common.{refl, sym, ap, subst, ◌∙◌, arith}
 use Rattle.std.proofs.lemmas.List.{append-nil}
 use Rattle.call_io.specs.Bytes.{Grew, GrewPartly}
 use Rattle.call_io.proofs.BytesLemmas.{Grew-append, GrewPartly-after, GrewPartly-longer, GrewPartly-whole}
-use Rattle.ivs_machine.specs.Vehicle.{is_dialling, is_reachable}
 use Rattle.link_frames.specs.declared.frame.End.TheVariants as «end»
 use Rattle.link_parts.specs.declared.part.Part.{Part}
 use Rattle.link_parts.specs.declared.part.Part.TheVariants.{Dials, Answers, Leaves, Rings, Takes, Carries}
@@ -13,8 +12,8 @@ use Rattle.trace_model.specs.declared.event.Event.{Event}
 use Rattle.trace_model.specs.declared.event.Event.TheVariants as event
 use Rattle.trace_text.specs.EntryLine.{text_of}
 use Rattle.live_link.specs.LiveOutcome.{LiveStreams, Over}
-use Rattle.live_link.specs.Runs.{Beat, Round, Line, Run, Steps, beat_of, each, quiet, rounds_of, run_behind}
-use Rattle.live_link.specs.Turns.{Turn, entries_of}
+use Rattle.live_link.specs.Runs.{Beat, Round, Line, Steps, beat_of, each, rounds_of, run_behind}
+use Rattle.live_link.specs.Turns.{entries_of}
 use Rattle.live_link.specs.VehicleLive.{LiveVehicle, hears_if, hears_line, hears_part, passes, round}
 use Rattle.live_link.specs.declared.vehicle_run.VehicleSide.{VehicleSide}
 use Rattle.live_link.specs.inner.Brought.{CutOff, Rest, vehicle_left}

@@ -1,7 +1,7 @@
 -- The vehicle's end at the start of its script, at its first event line, and where there is none.
-use Rattle.std.specs.Prelude.{◌≡◌, ℕ, ◌+◌, ◌≤◌, Bool, true, false, List, [], ◌∷◌, ◌++◌, length, Option, Some, None}
+use Rattle.std.specs.Prelude.{ℕ, ◌+◌, List, [], ◌∷◌, ◌++◌, length, Option, None}
 use Rattle.std.proofs.Common.{refl, sym, ap, subst, ◌∙◌, arith}
-use Rattle.call_io.specs.Bytes.{Took, Grew, GrewPartly}
+use Rattle.call_io.specs.Bytes.{Grew, GrewPartly}
 use Rattle.call_io.proofs.BytesLemmas.{Grew-nothing, GrewPartly-nothing, Took-nothing}
 use Rattle.line_input.specs.Reading.{Reading, first_reading}
 use Rattle.line_input.proofs.LinesSoFar.{lines_first}
@@ -12,7 +12,7 @@ use Rattle.msd_fit.specs.declared.facts.Facts.{Facts}
 use Rattle.trace_model.specs.declared.event.Event.{Event}
 use Rattle.trace_text.specs.Drafts.{DraftOf}
 use Rattle.trace_text.specs.EntryLine.{text_of}
-use Rattle.trace_text.specs.Script.{Script, in_front}
+use Rattle.trace_text.specs.Script.{in_front}
 use Rattle.trace_text.specs.declared.draft.Draft.{Draft}
 use Rattle.trace_text.specs.declared.script.ScriptLine.TheVariants as line
 use Rattle.live_link.specs.LiveOutcome.{LiveOutcome, LiveStreams, Over}
@@ -24,7 +24,7 @@ use Rattle.live_link.specs.declared.answer.LiveStatus.{LiveStatus}
 use Rattle.live_link.specs.declared.answer.LiveStatus.TheVariants as status
 use Rattle.live_link.specs.declared.vehicle_run.VehicleSide.{VehicleSide}
 use Rattle.live_link.specs.inner.Brought.{no_last}
-use Rattle.live_link.specs.inner.FrontGoes.{FirstCame, FrontEnded, FrontOver, run_of_script}
+use Rattle.live_link.specs.inner.FrontGoes.{FirstCame, FrontEnded, FrontOver}
 use Rattle.live_link.specs.inner.Receiving.{StandsBehind}
 use Rattle.live_link.specs.inner.VehicleEnd.{EndStandsFor}
 use Rattle.live_link.specs.inner.VehicleGoes.{VehicleOver}

@@ -1,43 +1,38 @@
 -- The vehicle's end in front of the first event line of its script.
-use Rattle.std.specs.Prelude.{◌≡◌, ℕ, ◌+◌, ◌-◌, ◌<◌, ◌≤◌, ◌⊎◌, Bool, true, false, List, [], ◌∷◌, ◌++◌, length, codes, Option, Some, None, Result, Ok, Err}
+use Rattle.std.specs.Prelude.{◌≡◌, ℕ, ◌+◌, ◌≤◌, true, false, List, [], ◌∷◌, ◌++◌, length, codes, Option, Some, None, Result, Ok, Err}
 use Rattle.std.specs.List.{AllByRecursion}
-use Rattle.std.proofs.Common.{refl, sym, ap, subst, ◌∙◌, inl, inr, arith, append_assoc, length-append}
+use Rattle.std.proofs.Common.{refl, sym, ap, ◌∙◌, arith, append_assoc, length-append}
 use Rattle.std.proofs.lemmas.List.{append-nil}
-use Rattle.call_io.specs.Bytes.{Took, Grew, GrewPartly}
-use Rattle.call_io.proofs.BytesLemmas.{Grew-nothing, GrewPartly-longer, GrewPartly-nothing, GrewPartly-whole, Took-nothing}
-use Rattle.line_input.specs.Lines.{IsLine, IsPassedOver, IsWhole, lines_of, line_fault}
-use Rattle.line_input.specs.Reading.{Reading, ReadsLine, first_reading}
+use Rattle.call_io.proofs.BytesLemmas.{Grew-nothing, Took-nothing}
+use Rattle.line_input.specs.Lines.{IsPassedOver, line_fault}
+use Rattle.line_input.specs.Reading.{Reading, ReadsLine}
 use Rattle.line_input.specs.Taken.{LinesSoFar}
 use Rattle.line_input.specs.Words.{words}
 use Rattle.line_input.specs.declared.fault.LineFault.TheVariants as fault
 use Rattle.line_input.specs.declared.reason.BadLine.{BadLine}
 use Rattle.line_input.specs.declared.reason.Reason.{Reason}
 use Rattle.line_input.specs.declared.reason.Reason.TheVariants as reason
-use Rattle.line_input.proofs.LinesSoFar.{bad_stops, ended_lines, ended_whole, found_lines, found_stops, lines_first, taken_input, taken_took}
+use Rattle.line_input.proofs.LinesSoFar.{bad_stops, ended_lines, ended_whole, found_lines, found_stops, taken_input, taken_took}
 use Rattle.link_frames.specs.declared.frame.End.TheVariants as «end»
 use Rattle.link_parts.specs.Messages.{script_end}
 use Rattle.link_parts.specs.Rounds.{rounds_of}
 use Rattle.msd_fit.specs.declared.facts.Facts.{Facts}
 use Rattle.trace_model.specs.declared.event.Event.{Event}
-use Rattle.trace_text.specs.Drafts.{DraftOf}
-use Rattle.trace_text.specs.EntryLine.{text_of}
 use Rattle.trace_text.specs.Facts.{facts_in, is_one_too_many}
-use Rattle.trace_text.specs.Script.{Said, Script, in_front, placed, placed_event, placed_fact, said_after}
+use Rattle.trace_text.specs.Script.{in_front, placed, said_after}
 use Rattle.trace_text.specs.declared.draft.Draft.{Draft}
 use Rattle.trace_text.specs.declared.fact_line.FactLine.{FactLine}
 use Rattle.trace_text.specs.declared.script.ScriptLine.{ScriptLine}
 use Rattle.trace_text.specs.declared.script.ScriptLine.TheVariants as line
 use Rattle.live_link.specs.LiveOutcome.{LiveOutcome, LiveStreams, Over, WantsLine}
-use Rattle.live_link.specs.Runs.{Run, at_script_end, run_behind}
-use Rattle.live_link.specs.Runs as ending
+use Rattle.live_link.specs.Runs.{Run, at_script_end}
 use Rattle.live_link.specs.Scripts.{judged, line_by_words, placed_line, script_from, vehicle_run}
-use Rattle.live_link.specs.Turns.{entries_of}
 use Rattle.live_link.specs.declared.answer.LiveStatus.{LiveStatus}
 use Rattle.live_link.specs.declared.answer.LiveStatus.TheVariants as status
-use Rattle.live_link.specs.declared.vehicle_run.Front.{Front}
-use Rattle.live_link.specs.declared.vehicle_run.Front.TheVariants as front
+use Rattle.live_link.specs.declared.vehicle_front.Front.{Front}
+use Rattle.live_link.specs.declared.vehicle_front.Front.TheVariants as front
 use Rattle.live_link.specs.inner.Brought.{CutOff, Standing, no_last}
-use Rattle.live_link.specs.inner.FrontGoes.{FirstCame, FrontEnded, FrontOver, FrontStep, IsStill, TakesInFront, run_of_script, told_facts}
+use Rattle.live_link.specs.inner.FrontGoes.{FrontEnded, FrontStep, IsStill, TakesInFront, run_of_script, told_facts}
 use Rattle.live_link.specs.inner.ScriptGoes.{ReadsNext}
 use Rattle.live_link.proofs.OwnScript.{judged_fault, judged_line, judged_unknown, script_behind, script_none, script_refused, script_says}
 use Rattle.live_link.proofs.RoundLemmas.{cut_of}

@@ -1,11 +1,11 @@
 -- The vehicle's end from one line of its script to the next, and at the end of it.
-use Rattle.std.specs.Prelude.{◌≡◌, ℕ, ◌+◌, ◌-◌, ◌<◌, ◌≤◌, ◌⊎◌, Bool, true, false, List, [], ◌∷◌, ◌++◌, length, codes, Option, Some, None, Result, Ok, Err}
+use Rattle.std.specs.Prelude.{◌≡◌, ℕ, ◌+◌, true, false, List, [], ◌∷◌, ◌++◌, length, codes, Option, Some, None, Result, Ok, Err}
 use Rattle.std.specs.List.{AllByRecursion}
 use Rattle.std.proofs.Common.{refl, sym, ap, subst, ◌∙◌, inl, inr, arith, append_assoc, length-append}
 use Rattle.std.proofs.lemmas.List.{append-nil}
 use Rattle.call_io.specs.Bytes.{Took, Grew, GrewPartly}
 use Rattle.call_io.proofs.BytesLemmas.{Grew-append, GrewPartly-after, GrewPartly-longer, GrewPartly-whole}
-use Rattle.line_input.specs.Lines.{IsLine, IsPassedOver, IsWhole, lines_of, line_fault}
+use Rattle.line_input.specs.Lines.{IsLine, IsPassedOver, line_fault}
 use Rattle.line_input.specs.Reading.{Reading, ReadsLine}
 use Rattle.line_input.specs.Taken.{LinesSoFar}
 use Rattle.line_input.specs.Words.{words}
@@ -16,24 +16,22 @@ use Rattle.line_input.specs.declared.reason.Reason.TheVariants as reason
 use Rattle.line_input.proofs.LinesSoFar.{bad_stops, ended_lines, ended_whole, found_lines, found_stops, taken_input, taken_took}
 use Rattle.link_frames.specs.declared.frame.End.TheVariants as «end»
 use Rattle.link_parts.specs.Messages.{script_end}
-use Rattle.link_parts.specs.Rounds.{Rounds, rounds_from}
+use Rattle.link_parts.specs.Rounds.{rounds_from}
 use Rattle.msd_fit.specs.declared.facts.Facts.{Facts}
 use Rattle.trace_model.specs.declared.event.Event.{Event}
 use Rattle.trace_text.specs.EntryLine.{text_of}
 use Rattle.trace_text.specs.Facts.{facts_in}
-use Rattle.trace_text.specs.Script.{Said, Script, placed, placed_event, said_after}
+use Rattle.trace_text.specs.Script.{Said, Script, placed_event, said_after}
 use Rattle.trace_text.specs.declared.script.ScriptLine.{ScriptLine}
 use Rattle.trace_text.specs.declared.script.ScriptLine.TheVariants as line
-use Rattle.live_link.specs.LiveOutcome.{CutShort, IsDecided, LiveOutcome, LiveStreams, Over, Ran, WantsLine, run_over}
+use Rattle.live_link.specs.LiveOutcome.{LiveOutcome, LiveStreams, Over, WantsLine, run_over}
 use Rattle.live_link.specs.Runs.{Beat, Run, at_script_end, beat_of, run_behind}
-use Rattle.live_link.specs.Runs as ending
 use Rattle.live_link.specs.Scripts.{judged, line_by_words, placed_line, script_from}
 use Rattle.live_link.specs.Turns.{Turn, entries_of}
-use Rattle.live_link.specs.VehicleLive.{LiveVehicle}
 use Rattle.live_link.specs.declared.answer.LiveStatus.{LiveStatus}
 use Rattle.live_link.specs.declared.answer.LiveStatus.TheVariants as status
 use Rattle.live_link.specs.declared.vehicle_run.VehicleSide.{VehicleSide}
-use Rattle.live_link.specs.inner.Brought.{Brought, CutOff, Rest, Standing, no_last, vehicle_behind, vehicle_left}
+use Rattle.live_link.specs.inner.Brought.{CutOff, Rest, Standing, no_last, vehicle_behind, vehicle_left}
 use Rattle.live_link.specs.inner.ScriptGoes.{ReadsEvent, ReadsOther, RefusesEvent}
 use Rattle.live_link.specs.inner.VehicleGoes.{VehicleAt, VehicleOver}
 use Rattle.live_link.specs.inner.VehicleRun.{EndsScript}

@@ -1,5 +1,5 @@
 -- A round of the vehicle's end, from one exchange of messages to the next.
-use Rattle.std.specs.Prelude.{◌≡◌, ℕ, ◌+◌, ◌<◌, ◌≤◌, Bool, List, [], ◌∷◌, ◌++◌, length, Option, Result, Ok, Err}
+use Rattle.std.specs.Prelude.{◌≡◌, ℕ, ◌+◌, ◌≤◌, Bool, List, [], ◌∷◌, ◌++◌, length, Option, Ok}
 use Rattle.std.proofs.Common.{refl, sym, ap, subst, ◌∙◌, arith, append_assoc}
 use Rattle.std.proofs.lemmas.List.{append-nil}
 use Rattle.call_io.specs.Bytes.{Took, Grew, GrewPartly}
@@ -11,17 +11,16 @@ use Rattle.link_parts.specs.Rounds.{LinkCut, Faulty, Rounds, Stop, and_message, 
 use Rattle.link_parts.specs.declared.part.Part.{Part}
 use Rattle.trace_model.specs.declared.entry.Entry.{Entry}
 use Rattle.trace_text.specs.EntryLine.{text_of}
-use Rattle.live_link.specs.LiveOutcome.{LiveStreams, Over, streams}
+use Rattle.live_link.specs.LiveOutcome.{LiveStreams, Over}
 use Rattle.live_link.specs.Runs.{Beat, Round, Line, Run, Steps, beats_of, run_behind}
 use Rattle.live_link.specs.Runs as ending
 use Rattle.live_link.specs.Turns.{Turn, entries_of}
 use Rattle.live_link.specs.VehicleLive.{LiveVehicle, round, run_from}
 use Rattle.live_link.specs.declared.answer.LiveStatus.{LiveStatus}
 use Rattle.live_link.specs.declared.answer.LiveStatus.TheVariants as status
-use Rattle.live_link.specs.declared.receiver.Receiver.{Receiver}
 use Rattle.live_link.specs.declared.vehicle_end.VehicleEnd.{VehicleEnd}
 use Rattle.live_link.specs.declared.vehicle_run.VehicleSide.{VehicleSide}
-use Rattle.live_link.specs.inner.Brought.{Brought, CutOff, LinkEnded, LinkOver, Rest, RoundEnds, vehicle_behind, vehicle_left}
+use Rattle.live_link.specs.inner.Brought.{CutOff, LinkEnded, Rest, RoundEnds, vehicle_behind, vehicle_left}
 use Rattle.live_link.specs.declared.receiver.Came.{Came}
 use Rattle.live_link.specs.declared.receiver.Came.TheVariants as came
 use Rattle.live_link.specs.inner.Going.{MayReceive}

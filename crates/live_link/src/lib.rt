@@ -14,6 +14,7 @@ mod running;
 mod script_lines;
 mod sending;
 mod vehicle_end;
+mod vehicle_front;
 mod vehicle_run;
 mod words;
 

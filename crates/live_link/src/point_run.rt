@@ -4,12 +4,12 @@ ghost use Rattle.std.specs.Prelude.{◌≡◌, ◌≤◌, ◌<◌, ◌+◌, ℕ,
 ghost use Rattle.call_io.specs.Blocks.{held, sink, way};
 ghost use Rattle.call_io.specs.Bytes.{Grew, GrewPartly};
 ghost use Rattle.call_io.specs.Ways.{Onward};
-ghost use Rattle.line_input.specs.Lines.{most_bytes};
-ghost use Rattle.link_frames.specs.declared.frame.End.TheVariants as «end»;
-ghost use Rattle.live_link.specs.LiveCauses.{IsAnswerOf, LiveReadCause, LiveWriteCause};
 ghost use Rattle.line_input.specs.Taken.{LinesSoFar};
 ghost use Rattle.line_input.specs.declared.reason.Reason.TheVariants as reason;
+ghost use Rattle.link_frames.specs.declared.frame.End.TheVariants as «end»;
+ghost use Rattle.trace_text.specs.EntryLine.{text_of};
 ghost use Rattle.trace_text.specs.Script.{Said};
+ghost use Rattle.live_link.specs.LiveCauses.{IsAnswerOf, LiveReadCause, LiveWriteCause};
 ghost use Rattle.live_link.specs.LiveOutcome.{LiveOutcome, LiveStreams, Over, streams};
 ghost use Rattle.live_link.specs.PointLive.{first_live, hears_line, round};
 ghost use Rattle.live_link.specs.Runs.{beat_of, rounds_of};
@@ -21,16 +21,14 @@ ghost use Rattle.live_link.specs.inner.PointGoes.{OnFrom, PeerAt, PointBeatsFrom
 ghost use Rattle.live_link.specs.inner.PointRun.{IsReady, MayGoOn, Stands};
 ghost use Rattle.live_link.specs.inner.Receiving.{StandsBehind};
 ghost use Rattle.live_link.specs.inner.ScriptGoes.{ReadsEvent};
-ghost use Rattle.trace_text.specs.EntryLine.{text_of};
 
 use crate::answer::LiveStatus;
 use crate::fault::EndFault;
 use crate::own_lines::read_own;
 use crate::point_end::PointEnd;
 use crate::receiver::{Came, Receiver};
-use crate::script_lines::{empty, next_line};
+use crate::script_lines::{empty, next_line, refused};
 use crate::sending::{failed, send};
-use crate::vehicle_run::refused;
 use call_io::{Block, Sink, Source};
 use line_input::{Lines, Reason};
 use link_frames::{End, Steps};

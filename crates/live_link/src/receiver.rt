@@ -2,12 +2,11 @@
 
 ghost use Rattle.std.specs.Prelude.{◌≡◌, ℕ, ◌+◌, ◌≤◌, ◌++◌, ◌∷◌, [], List, Option, OnOk, IfOk, IfErr};
 ghost use Rattle.line_input.specs.Lines.{most_bytes};
-ghost use Rattle.link_parts.specs.PartReading.{IsGoing};
-ghost use Rattle.link_parts.specs.PartReading.{kept_of};
+ghost use Rattle.link_parts.specs.PartReading.{IsGoing, kept_of};
 ghost use Rattle.link_parts.specs.Rounds.{take_octet};
 ghost use Rattle.link_parts.specs.declared.part.Part.{Part as PartOf};
-ghost use Rattle.live_link.specs.inner.Receiving.{Hears, Receives, StandsBehind, StandsWithin, TakesOctet, TakesStep};
 ghost use Rattle.live_link.specs.inner.Going.{Answers, IsOfLink, IsOfOctet, MayGoOn, MayReceive, MayTake, Notes, Unread, halt_of};
+ghost use Rattle.live_link.specs.inner.Receiving.{Hears, Receives, StandsBehind, StandsWithin, TakesOctet, TakesStep};
 
 use crate::answer::LiveStatus;
 use call_io::Source;

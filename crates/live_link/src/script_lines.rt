@@ -3,13 +3,13 @@
 ghost use Rattle.std.specs.Prelude.{◌≡◌, ◌≤◌, false};
 ghost use Rattle.call_io.specs.Blocks.{held, sink, way};
 ghost use Rattle.call_io.specs.Ways.{Onward};
-ghost use Rattle.live_link.specs.inner.ScriptGoes.{ReadsNext};
 ghost use Rattle.live_link.specs.inner.Going.{Answers, FindsLine, IsOfScript, IsOfWriting, Unread, Unwritten};
+ghost use Rattle.live_link.specs.inner.ScriptGoes.{ReadsNext};
 
 use crate::answer::LiveStatus;
 use crate::receiver::halted;
 use call_io::{Block, Sink, Source};
-use line_input::Lines;
+use line_input::{BadLine, Lines, Reason};
 
 /// Reads one more line: true where there is one, and false at the end of the script. What is pending of the trace is
 /// handed over before the script is read, so that whoever watches sees what each line came to.
@@ -64,4 +64,11 @@ pub(crate) fn empty<O: Sink>(trace: &mut Block<'_, O>) -> Result<(), LiveStatus>
         Ok(()) => Ok(()),
         Err(_) => Err(LiveStatus::WriteFault),
     }
+}
+
+/// A line of the script is refused.
+pub(crate) fn refused(line: u32, reason: Reason) -> LiveStatus
+    ensures { result ≡ LiveStatus.Refused (record { line = line; reason = reason }) }
+{
+    LiveStatus::Refused(BadLine { line, reason })
 }

@@ -1,6 +1,6 @@
 -- How far the lines and the octets that came have brought the run of an end, whatever follows, and how a round of it
 -- ends. Cited by private contracts alone.
-use Rattle.std.specs.Prelude.{◌≡◌, ℕ, ◌+◌, ◌<◌, ◌≤◌, List, [], ◌∷◌, ◌++◌, length, Option, Result, Ok, Err}
+use Rattle.std.specs.Prelude.{◌≡◌, ℕ, ◌+◌, ◌<◌, ◌≤◌, List, [], ◌++◌, length}
 use Rattle.std.specs.Io.KnownBytes.{IsAtEnd}
 use Rattle.call_io.specs.Bytes.{Took, Grew, GrewPartly}
 use Rattle.line_input.specs.Lines.{most_bytes}

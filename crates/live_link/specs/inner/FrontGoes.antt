@@ -1,6 +1,6 @@
 -- Where the run of the vehicle's end stands in front of the first event line of its script. Cited by private contracts
 -- alone.
-use Rattle.std.specs.Prelude.{◌≡◌, ℕ, ◌+◌, ◌≤◌, true, false, List, [], ◌∷◌, ◌++◌, length, Option, Some, None, Result, Ok, Err}
+use Rattle.std.specs.Prelude.{◌≡◌, ℕ, ◌+◌, true, false, List, [], ◌∷◌, ◌++◌, length, Option, Some, None, Result, Ok, Err}
 use Rattle.call_io.specs.Bytes.{Took}
 use Rattle.line_input.specs.Lines.{IsWhole, lines_of}
 use Rattle.line_input.specs.Reading.{Reading}
@@ -22,8 +22,8 @@ use Rattle.live_link.specs.Runs.{Run, at_script_end}
 use Rattle.live_link.specs.Scripts.{script_from, vehicle_run}
 use Rattle.live_link.specs.declared.answer.LiveStatus.{LiveStatus}
 use Rattle.live_link.specs.declared.answer.LiveStatus.TheVariants as status
-use Rattle.live_link.specs.declared.vehicle_run.Front.{Front}
-use Rattle.live_link.specs.declared.vehicle_run.Front.TheVariants as front
+use Rattle.live_link.specs.declared.vehicle_front.Front.{Front}
+use Rattle.live_link.specs.declared.vehicle_front.Front.TheVariants as front
 use Rattle.live_link.specs.inner.Brought.{no_last}
 
 -- these fact lines were said, and no event line

@@ -8,7 +8,7 @@ use Rattle.line_input.specs.Taken.{LinesSoFar}
 use Rattle.link_frames.specs.declared.frame.End.TheVariants as «end»
 use Rattle.link_parts.specs.Messages.{message_octets}
 use Rattle.trace_text.specs.EntryLine.{text_of}
-use Rattle.trace_text.specs.Script.{Said, Script}
+use Rattle.trace_text.specs.Script.{Said}
 use Rattle.live_link.specs.LiveOutcome.{LiveOutcome, LiveStreams, Over}
 use Rattle.live_link.specs.PointLive.{LivePoint, at_peer_end, lines_follow, round}
 use Rattle.live_link.specs.Runs.{Beat, Ending, Round, Run, beat_of, beats_of, run_behind}

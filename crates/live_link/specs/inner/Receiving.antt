@@ -3,7 +3,7 @@ use Rattle.std.specs.Prelude.{◌≡◌, ℕ, ◌+◌, ◌<◌, ◌≤◌, ◌==
 use Rattle.std.specs.Io.KnownBytes.{IsAtEnd}
 use Rattle.call_io.specs.Bytes.{Took}
 use Rattle.line_input.specs.Feed.{Feed, IsDone}
-use Rattle.line_input.specs.Lines.{most_at_once, most_bytes}
+use Rattle.line_input.specs.Lines.{most_bytes}
 use Rattle.link_frames.specs.declared.frame.End.{End}
 use Rattle.link_parts.specs.MessageReading.{IsBefore, TakesTo}
 use Rattle.link_parts.specs.PartReading.{IsGoing, kept_of}

@@ -5,7 +5,6 @@ use Rattle.line_input.specs.Words.{words}
 use Rattle.line_input.specs.declared.fault.LineFault.TheVariants as fault
 use Rattle.line_input.specs.declared.reason.BadLine.{BadLine}
 use Rattle.line_input.specs.declared.reason.Reason.{Reason}
-use Rattle.line_input.specs.declared.reason.Reason.TheVariants as reason
 use Rattle.link_frames.specs.declared.frame.End.{End}
 use Rattle.trace_model.specs.declared.event.Event.{Event}
 use Rattle.trace_text.specs.declared.script.ScriptLine.{ScriptLine}

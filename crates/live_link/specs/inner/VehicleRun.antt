@@ -10,8 +10,8 @@ use Rattle.live_link.specs.VehicleLive.{LiveVehicle}
 use Rattle.live_link.specs.declared.answer.LiveStatus.{LiveStatus}
 use Rattle.live_link.specs.declared.answer.LiveStatus.TheVariants as status
 use Rattle.live_link.specs.declared.vehicle_end.VehicleEnd.{VehicleEnd}
-use Rattle.live_link.specs.declared.vehicle_run.Front.{Front}
-use Rattle.live_link.specs.declared.vehicle_run.Front.TheVariants as front
+use Rattle.live_link.specs.declared.vehicle_front.Front.{Front}
+use Rattle.live_link.specs.declared.vehicle_front.Front.TheVariants as front
 use Rattle.live_link.specs.declared.vehicle_run.VehicleSide.{VehicleSide}
 use Rattle.live_link.specs.inner.Going.{HasRead}
 use Rattle.live_link.specs.inner.VehicleEnd.{EndStandsFor}

@@ -1,4 +1,3 @@
-use Rattle.std.proofs.Common.{refl, sym, ap, subst, ◌∙◌}
 use Rattle.std.proofs.lemmas.Result.{err_from_is_err_and}
 use Rattle.link_frames.specs.declared.frame.End.TheVariants as «end»
 use Rattle.line_input.specs.declared.reason.Reason.TheVariants as reason

@@ -1,5 +1,5 @@
-use Rattle.std.proofs.Common.{sym, ap, subst, ◌∙◌}
-use Rattle.call_io.specs.Blocks.{held, sink}
+use Rattle.std.proofs.Common.{sym, subst, ◌∙◌}
+use Rattle.call_io.specs.Blocks.{sink}
 use Rattle.call_io.proofs.BlockLemmas.{Onward-append}
 use Rattle.live_link.specs.LiveOutcome.{LiveOutcome, ending_line, streams}
 use Rattle.live_link.specs.Scripts.{point_over}

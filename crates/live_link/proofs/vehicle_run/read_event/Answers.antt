@@ -1,8 +1,7 @@
-use Rattle.std.proofs.Common.{refl, sym, ap, subst, ◌∙◌}
 use Rattle.std.proofs.lemmas.Result.{err_from_is_err_and}
 use Rattle.link_frames.specs.declared.frame.End.TheVariants as «end»
 use Rattle.line_input.specs.declared.reason.Reason.TheVariants as reason
-use Rattle.live_link.proofs.ReadLemmas.{event_halted, event_of_fact, event_refused}
+use Rattle.live_link.proofs.ReadLemmas.{event_halted}
 use Rattle.live_link.proofs.vehicle_run.read_event.Goals as goal
 
 -- no line could be read

@@ -1,13 +1,13 @@
-use Rattle.std.specs.Prelude.{List, [], ◌+◌, ◌-◌, replicate, false}
+use Rattle.std.specs.Prelude.{List, ◌+◌, ◌-◌}
 use Rattle.std.proofs.Common.{sym, subst, ◌∙◌, arith}
 use Rattle.std.proofs.lemmas.Result.{err_from_is_err_and}
 use Rattle.call_io.specs.Blocks.{held}
 use Rattle.call_io.proofs.BlockLemmas.{Onward-append}
 use Rattle.live_link.specs.LiveOutcome.{streams}
-use Rattle.live_link.specs.Runs.{Beat, Round}
+use Rattle.live_link.specs.Runs.{Beat}
 use Rattle.live_link.specs.inner.PointGoes.{PointAt}
 use Rattle.live_link.proofs.PointBeats.{later_rounds, left_rounds}
-use Rattle.live_link.proofs.VehicleBeats.{no_round, rounds_left}
+use Rattle.live_link.proofs.VehicleBeats.{no_round}
 use Rattle.live_link.proofs.point_run.PointSide.rounds.Goals as goal
 
 pub loop-preserved : goal.loop-preserved

@@ -1,5 +1,5 @@
-use Rattle.std.specs.Prelude.{ℕ, List, [], ◌+◌, ◌++◌, length}
-use Rattle.std.proofs.Common.{refl, sym, subst}
+use Rattle.std.specs.Prelude.{[], ◌+◌, ◌++◌, length}
+use Rattle.std.proofs.Common.{refl}
 use Rattle.std.proofs.lemmas.Result.{err_from_is_err_and}
 use Rattle.call_io.specs.Blocks.{held}
 use Rattle.line_input.proofs.LinesSoFar.{ended_lines, ended_whole, taken_input, taken_took}
@@ -8,7 +8,7 @@ use Rattle.trace_text.specs.Script.{said_after}
 use Rattle.trace_text.specs.declared.script.ScriptLine.TheVariants as line
 use Rattle.live_link.specs.LiveOutcome.{streams}
 use Rattle.live_link.specs.Scripts.{script_from}
-use Rattle.live_link.proofs.PointLines.{all, behind, line_fails, next_event, next_lines, on_at, on_outcome, on_over}
+use Rattle.live_link.proofs.PointLines.{all, behind, line_fails, next_event, next_lines, on_at, on_outcome}
 use Rattle.live_link.proofs.PointRounds.{still_at}
 use Rattle.live_link.proofs.ScriptEnds.{round_outcome}
 use Rattle.live_link.proofs.point_run.PointSide.turn.Goals as goal

@@ -1,4 +1,3 @@
-use Rattle.std.proofs.Common.{rules}
 use Rattle.live_link.proofs.Received.{takes_end, takes_none, takes_octet}
 use Rattle.live_link.proofs.receiver.Receiver.take.Goals as goal
 

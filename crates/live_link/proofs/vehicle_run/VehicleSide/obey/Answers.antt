@@ -1,8 +1,7 @@
-use Rattle.std.specs.Prelude.{List, [], ◌+◌}
+use Rattle.std.specs.Prelude.{List, []}
 use Rattle.std.proofs.Common.{refl, sym, ap, subst, ◌∙◌}
 use Rattle.call_io.specs.Blocks.{held}
 use Rattle.call_io.specs.Bytes.{Grew, GrewPartly}
-use Rattle.trace_model.specs.declared.event.Event.TheVariants as event
 use Rattle.trace_text.specs.EntryLine.{text_of}
 use Rattle.live_link.specs.LiveOutcome.{streams}
 use Rattle.live_link.specs.Runs.{Beat, beat_of, rounds_of}

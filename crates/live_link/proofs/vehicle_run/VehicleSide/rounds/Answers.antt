@@ -1,4 +1,4 @@
-use Rattle.std.specs.Prelude.{List, [], ◌+◌}
+use Rattle.std.specs.Prelude.{List, ◌+◌}
 use Rattle.std.proofs.Common.{subst, ◌∙◌, arith}
 use Rattle.std.proofs.lemmas.Result.{err_from_is_err_and}
 use Rattle.call_io.specs.Blocks.{held}

@@ -1,4 +1,3 @@
-use Rattle.std.specs.Prelude.{ℕ, List, Option}
 use Rattle.std.proofs.Common.{◌≡◌, ◌-◌, ◌≤◌, false}
 use Rattle.call_io.specs.Blocks.{held, sink, way}
 use Rattle.call_io.specs.Ways.{Onward}

@@ -1,5 +1,5 @@
-use Rattle.std.specs.Prelude.{ℕ, List, [], ◌+◌, length}
-use Rattle.std.proofs.Common.{refl, sym, subst}
+use Rattle.std.specs.Prelude.{[], ◌+◌, length}
+use Rattle.std.proofs.Common.{refl}
 use Rattle.std.proofs.lemmas.Result.{err_from_is_err_and}
 use Rattle.call_io.specs.Blocks.{held}
 use Rattle.link_frames.specs.declared.frame.End.TheVariants as «end»

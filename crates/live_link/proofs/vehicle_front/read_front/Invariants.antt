@@ -7,7 +7,7 @@ use Rattle.trace_text.specs.Drafts.{DraftOf}
 use Rattle.trace_text.specs.declared.draft.Draft.{Draft}
 use Rattle.live_link.specs.LiveOutcome.{LiveStreams, Over, streams}
 use Rattle.live_link.specs.inner.FrontGoes.{FrontOver}
-use Rattle.live_link.proofs.vehicle_run.read_front.Given as goal
+use Rattle.live_link.proofs.vehicle_front.read_front.Given as goal
 
 -- another line may be read, no count of faults rose, and the run stands behind the facts so far
 abbrev pub invariant-loop-front : goal.invariant-loop-front

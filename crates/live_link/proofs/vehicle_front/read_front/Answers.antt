@@ -1,7 +1,7 @@
 use Rattle.std.proofs.Common.{◌∙◌}
 use Rattle.std.proofs.lemmas.Result.{err_from_is_err_and}
 use Rattle.call_io.proofs.BlockLemmas.{Onward-append}
-use Rattle.live_link.proofs.vehicle_run.read_front.Goals as goal
+use Rattle.live_link.proofs.vehicle_front.read_front.Goals as goal
 
 pub loop-front-preserved : goal.loop-front-preserved
 loop-front-preserved g c =

@@ -1,6 +1,6 @@
 use Rattle.std.proofs.Common.{sym, ◌∙◌}
 use Rattle.live_link.proofs.FrontLemmas.{adds_fact, adds_none}
-use Rattle.live_link.proofs.vehicle_run.add.Goals as goal
+use Rattle.live_link.proofs.vehicle_front.add.Goals as goal
 
 pub returns-then-add-clause-takes : goal.returns-then-add-clause-takes
 returns-then-add-clause-takes c told d =

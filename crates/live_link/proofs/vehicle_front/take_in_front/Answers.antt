@@ -1,6 +1,6 @@
 use Rattle.std.proofs.Common.{sym}
 use Rattle.live_link.proofs.FrontLemmas.{no_facts}
-use Rattle.live_link.proofs.vehicle_run.take_in_front.Goals as goal
+use Rattle.live_link.proofs.vehicle_front.take_in_front.Goals as goal
 
 -- the facts in front of it are not all that a vehicle needs
 pub returns-in-None-clause-takes : goal.returns-in-None-clause-takes

@@ -9,7 +9,7 @@ use Rattle.live_link.specs.Scripts.{line_by_words, placed_line}
 use Rattle.live_link.specs.inner.FrontGoes.{TakesInFront, told_facts}
 use Rattle.live_link.proofs.FrontLemmas.{still_now}
 use Rattle.live_link.proofs.VehicleFront.{front_ends, front_takes, no_line, refused_here}
-use Rattle.live_link.proofs.vehicle_run.read_fact.Goals as goal
+use Rattle.live_link.proofs.vehicle_front.read_fact.Goals as goal
 
 pub returns-in_err-found-clause-goes : goal.returns-in_err-found-clause-goes
 returns-in_err-found-clause-goes g c over start from to passes f =
