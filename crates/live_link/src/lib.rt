@@ -13,6 +13,8 @@ mod receiver;
 mod running;
 mod script_lines;
 mod sending;
+#[cfg(test)]
+mod tests;
 mod vehicle_end;
 mod vehicle_front;
 mod vehicle_run;
@@ -20,4 +22,5 @@ mod words;
 
 pub use answer::{Link, Live, LiveStatus};
 pub use laws::joint_is_safe;
+pub use running::{live, live_point, live_vehicle};
 pub use words::live_words;

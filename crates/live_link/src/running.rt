@@ -16,7 +16,7 @@ use std::alloc::Global;
 use std::sync::ledger::Ledger;
 
 /// Runs the vehicle's end over its script, and over the octets from the point.
-pub(crate) fn live_vehicle<S: Source, O: Sink, I: Source, P: Sink, L: Ledger>(
+pub fn live_vehicle<S: Source, O: Sink, I: Source, P: Sink, L: Ledger>(
     alloc: Global,
     script: &mut S,
     trace: &mut O,
@@ -40,7 +40,7 @@ pub(crate) fn live_vehicle<S: Source, O: Sink, I: Source, P: Sink, L: Ledger>(
 }
 
 /// Runs the point's end over its script, and over the octets from the vehicle.
-pub(crate) fn live_point<S: Source, O: Sink, I: Source, P: Sink, L: Ledger>(
+pub fn live_point<S: Source, O: Sink, I: Source, P: Sink, L: Ledger>(
     alloc: Global,
     script: &mut S,
     trace: &mut O,
@@ -64,7 +64,7 @@ pub(crate) fn live_point<S: Source, O: Sink, I: Source, P: Sink, L: Ledger>(
 }
 
 /// Runs an end over its link. Without a link it answers that, and reads and writes nothing.
-pub(crate) fn live<S: Source, O: Sink, I: Source, P: Sink, L: Ledger>(
+pub fn live<S: Source, O: Sink, I: Source, P: Sink, L: Ledger>(
     alloc: Global,
     end: Live,
     script: &mut S,
