@@ -52,6 +52,8 @@ const COMMANDS: &str = "\
   ecall tones L N < SCRIPT   plays a script over a noisy modem\n  \
   ecall floor < SCRIPT       plays a script of vehicles at one point\n  \
   ecall relay < SCRIPT       plays a script with a relay desk behind the point\n  \
+  ecall point P < SCRIPT     runs a point's end of a live call: it listens at port P, and takes one vehicle\n  \
+  ecall vehicle P < SCRIPT   runs a vehicle's end of it: it connects to the point at port P\n  \
   ecall make N               writes the script of a number\n  \
   ecall trial N              counts what that script comes to\n  \
   ecall conform              writes the answers to known vectors";
@@ -69,6 +71,10 @@ fn write_usage<W: fmt::Write>(f: &mut fmt::Formatter<W>, word: Option<&str>) -> 
                 f,
                 "`tones` wants two numbers, 0 to 1499 and 0 to 4294967295 without leading zeros, as in \
                 `ecall tones 500 1 < SCRIPT`"
+            ),
+            "point" | "vehicle" => write!(
+                f,
+                "`{word}` wants one port, 1 to 65535 without leading zeros, as in `ecall {word} 4000 < SCRIPT`"
             ),
             "run" | "register" | "replay" | "decode" | "encode" | "frames" | "floor" | "relay" =>
                 write!(

@@ -4,12 +4,17 @@
 ghost use Rattle.std.specs.Prelude.{◌≡◌, ◌<◌};
 
 mod explanation;
+mod link;
+mod live_explanation;
 
 use crate::explanation::Explanation;
+use crate::link::run_live;
+use crate::live_explanation::LiveExplanation;
 use call_io::{RealSink, RealSource, Sink, Source};
 use ecall_top::{Status, ecall};
 use line_help::{Seen, Watch};
 use link_frames::Steps;
+use live_link::{Live, LiveStatus, live_words};
 use std::alloc::Global;
 use std::env::{self, Env};
 use std::io;
@@ -59,31 +64,44 @@ fn carry_out<I: Source, O: Sink, L: Ledger>(
     ecall(alloc, words, input, output, &mut moments)
 }
 
+/// Carries out a command that needs no link, and answers its status's number.
+fn command(rt: &HostRuntime, words: &[String]) -> u8 {
+    let mut input = Watch::over(RealSource::new(rt.reader()));
+    let mut output = RealSink::new(io::writer(rt));
+    let blank = Blank::new(1);
+    let status = carry_out::<_, _, Brand>(rt.alloc(), words, &mut input, &mut output, blank);
+    let word = words.first().map(|word| word.as_str());
+    explain(rt, status, word, input.seen());
+    status.code()
+}
+
+/// Tells a person why a live end didn't end with status 0.
+fn explain_live(rt: &impl Eprint, status: LiveStatus, end: Live) {
+    if status.code() != 0 {
+        let why = LiveExplanation { status, end };
+        let _ = eprintln!(rt; "ecall: {why}");
+    }
+}
+
+/// Runs a live end, and answers its status's number.
+fn live_end(rt: &HostRuntime, end: Live) -> u8 {
+    let mut script = RealSource::new(rt.reader());
+    let mut trace = RealSink::new(io::writer(rt));
+    let status = run_live(rt.alloc(), rt, end, &mut script, &mut trace);
+    explain_live(rt, status, end);
+    status.code()
+}
+
 fn main(rt: HostRuntime) -> ExitCode {
-    let status = match words(&rt) {
-        Ok(words) => {
-            let mut input = Watch::over(RealSource::new(rt.reader()));
-            let mut output = RealSink::new(io::writer(&rt));
-            let blank = Blank::new(1);
-            let status = carry_out::<_, _, Brand>(
-                rt.alloc(),
-                &words,
-                &mut input,
-                &mut output,
-                blank,
-            );
-            explain(
-                &rt,
-                status,
-                words.first().map(|word| word.as_str()),
-                input.seen(),
-            );
-            status
-        }
+    let code = match words(&rt) {
+        Ok(words) => match live_words(words.as_slice()) {
+            Some(end) => live_end(&rt, end),
+            None => command(&rt, words.as_slice()),
+        },
         Err(status) => {
             explain(&rt, status, None, NOTHING);
-            status
+            status.code()
         }
     };
-    ExitCode::from(status.code())
+    ExitCode::from(code)
 }

@@ -1,4 +1,4 @@
-use Rattle.ecall.proofs.main.Given as goal
+use Rattle.ecall.proofs.command.Given as goal
 
 abbrev pub ghosts-carry_out : goal.ghosts-carry_out
 ghosts-carry_out a = record { name = a.blank.name; parts = a.blank.parts }
