@@ -5,6 +5,7 @@ pub mod GatherLemmas
 pub mod GoingLemmas
 pub mod JointSafe
 pub mod LiveCloses
+pub mod LiveCompletes
 pub mod LiveRuns
 pub mod Moved
 pub mod Owed

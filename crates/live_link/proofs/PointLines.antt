@@ -24,7 +24,7 @@ use Rattle.trace_text.specs.Facts.{facts_in}
 use Rattle.trace_text.specs.Script.{Said, Script, nothing_said, said_after}
 use Rattle.trace_text.specs.declared.script.ScriptLine.{ScriptLine}
 use Rattle.trace_text.specs.declared.script.ScriptLine.TheVariants as line
-use Rattle.live_link.specs.LiveOutcome.{CutShort, LinkRunsOver, LiveOutcome, LiveStreams, Over, Ran, WantsLine, run_over}
+use Rattle.live_link.specs.LiveOutcome.{CutShort, IsStopped, LinkRunsOver, LiveOutcome, LiveStreams, Over, Ran, WantsLine, run_over}
 use Rattle.live_link.specs.PointLive.{LivePoint, at_peer_end, first_live, lines_follow}
 use Rattle.live_link.specs.Runs.{Beat, Run, at_script_end, beat_of, beats_of, run_behind}
 use Rattle.live_link.specs.Runs as ending
@@ -33,7 +33,7 @@ use Rattle.live_link.specs.Turns.{Turn, entries_of}
 use Rattle.live_link.specs.declared.answer.LiveStatus.{LiveStatus}
 use Rattle.live_link.specs.declared.answer.LiveStatus.TheVariants as status
 use Rattle.live_link.specs.declared.point_run.PointSide.{PointSide}
-use Rattle.live_link.specs.inner.Brought.{CutOff, LinkEnded, LinkOver, Standing, no_last, point_behind, point_left}
+use Rattle.live_link.specs.inner.Brought.{CutOff, LinkEnded, LinkOver, Standing, Stays, no_last, point_behind, point_left}
 use Rattle.live_link.specs.inner.PointGoes.{EndsOn, PeerAt, PointAt, PointOver, no_more}
 use Rattle.live_link.specs.inner.PointEnd.{PointStandsFor}
 use Rattle.live_link.specs.inner.Receiving.{StandsBehind}
@@ -341,7 +341,16 @@ module _ (over : Over) (start now : LiveStreams) (lines : List (List ℕ)) (scri
     },
   )
   on_outcome status.LinkCut h = (script, h.0.octets, on_ran rounds.LinkCut h.0, inl whole, h.1, h.2)
-  on_outcome (status.LinkFault f) h = (script, h.0.octets, on_ran (rounds.Faulty f) h.0, inl whole, h.1)
+  on_outcome (status.LinkFault f) h = (script, h.0.octets, on_ran (rounds.Faulty f) h.0, on_stopped h.0 h.1, h.2)
+    where
+      on_stopped : (e : LinkEnded on_over start now [] (rounds.Faulty f)) → Stays on_over [] e.octets e.run
+          → IsStopped over now.script script e.octets
+      on_stopped e stays =
+          record {
+            same = λ others.
+                on_same (e.octets ++ others) e.run (stays [] others) ∙ sym (on_same e.octets e.run (e.same []));
+            settled = inl whole;
+          }
   on_outcome status.ReadFault h = (script, h.octets, on_cut h)
   on_outcome status.WriteFault h = (script, h.octets, on_cut h)
   on_outcome status.Memory h = (script, h.octets, on_cut h)
@@ -418,7 +427,7 @@ module _ (over : Over) (start now : LiveStreams) (before : Option (List ℕ)) (o
       ∙ script_says «end».Point said (length lines + 1 + length reads.finds.0.passed) text texts (line.Event e)
       (ap (λ z. judged «end».Point said z) this ∙ says_event said new.text e reads.finds.0.says says))
       ∙ follows reads e texts) in
-      (k.0, k.1, k.2, (new.lines, k.3), k.4)
+      (k.0, k.1, k.2, k.3, (new.lines, k.4))
     where
       follows : (reads : ReadsLine old new before now.script (Ok true)) (e : Event) (texts : List (List ℕ))
           → (let r : Script = script_from «end».Point (said_after said (line.Event e))

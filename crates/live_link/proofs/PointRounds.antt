@@ -7,6 +7,7 @@ use Rattle.call_io.specs.Bytes.{Took, Grew, GrewPartly}
 use Rattle.call_io.proofs.BytesLemmas.{Grew-append, GrewPartly-after, GrewPartly-longer, GrewPartly-whole}
 use Rattle.link_frames.specs.declared.frame.End.TheVariants as «end»
 use Rattle.link_parts.specs.Messages.{message_end, message_octets}
+use Rattle.link_parts.specs.declared.fault.LinkFault.{LinkFault}
 use Rattle.link_parts.specs.Rounds.{LinkCut, Faulty, Message, Parts, Rounds, ScriptEnd, Stop, and_message, rounds_from}
 use Rattle.trace_model.specs.declared.entry.Entry.{Entry}
 use Rattle.trace_text.specs.EntryLine.{text_of}
@@ -24,7 +25,7 @@ use Rattle.live_link.specs.declared.receiver.Came.TheVariants as came
 use Rattle.live_link.specs.inner.Brought.{CutOff, LinkEnded, Rest, RoundEnds, point_behind, point_left}
 use Rattle.live_link.specs.inner.PointEnd.{PointActs, PointActsPartly, PointStandsFor}
 use Rattle.live_link.specs.inner.PointGoes.{DoneAt, EndsOn, PeerAt, PointAt, PointRead, ReadsRound, no_more}
-use Rattle.live_link.specs.inner.Receiving.{MessageCame, Receives, ScriptEnded, Stops, cut}
+use Rattle.live_link.specs.inner.Receiving.{FaultyWithin, MessageCame, Receives, ScriptEnded, Stops, cut, faulty}
 use Rattle.live_link.proofs.RoundLemmas.{cut_at, cut_of, run_twice, standing_of, turns_text}
 
 -- a run whose link stops before the round's message is whole
@@ -87,10 +88,22 @@ module _ (over : Over) (start old now : LiveStreams) (side : PointSide) (lines :
         (point_left at.left (Round first ∷ pending) rest (length at.brought.octets) others more).octets
         (GrewPartly-whole start.to now.to at.brought.sent wrote))
 
+    -- no message goes on with an octet, whatever follows it
+    link_faulty : (f : LinkFault) → FaultyWithin «end».Point start.from now.from at.brought.octets f
+        → RoundEnds over start now lines (status.LinkFault f)
+    link_faulty f h = (
+      link_ends (Faulty f) h.more h.took
+          (ap (λ z. rounds_from «end».Point [] [] (length at.brought.octets) z) (sym (append-nil h.more)) ∙ h.reads []),
+      λ more others.
+          ap (λ z. over (lines ++ more) z) (append_assoc at.brought.octets h.more others)
+          ∙ over_rounds more (h.more ++ others) (faulty f) (h.reads others),
+      h.place,
+    )
+
     pub reads_none : (how : LiveStatus) → Stops «end».Point start.from now.from at.brought.octets how
         → RoundEnds over start now lines how
     reads_none status.LinkCut h = (link_ends LinkCut h.more h.took h.reads, h.at_end, h.within)
-    reads_none (status.LinkFault f) h = (link_ends (Faulty f) h.more h.took h.reads, h.place)
+    reads_none (status.LinkFault f) h = link_faulty f h
     reads_none status.ReadFault h = message_cut h.more h.took
     reads_none status.Memory h = message_cut h.more h.took
     reads_none status.TooLong h = (

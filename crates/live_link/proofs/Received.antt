@@ -315,8 +315,9 @@ module _ (e : End) (start now left : Option (List ℕ)) (old : Receiver) (feed :
                 let at : old.place ≡ length (octets ++ more) = s.place in
                 let one : length ((octets ++ more) ++ o ∷ []) ≡ length (octets ++ more) + 1 = length-append (octets ++ more) (o ∷ []) in
                 omega (arith, so_far.within, place, at, one);
-            reads =
-                reads feed.pending
+            reads = λ rest.
+                ap (λ z. rounds_from e [] [] (length octets) z) (append_assoc (more ++ o ∷ []) feed.pending rest)
+                ∙ reads (feed.pending ++ rest)
                 ∙ ap (λ n. faulty (record { place = n; fault = f.fault; octet = o })) (sym s.place ∙ sym place)
                 ∙ ap (λ n. faulty (record { place = f.place; fault = f.fault; octet = n })) (sym octet);
           }

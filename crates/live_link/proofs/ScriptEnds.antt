@@ -1,11 +1,11 @@
 -- How a run ends at a line of its script, at the end of it, or where none can be read, for either end.
-use Rattle.std.specs.Prelude.{◌≡◌, ℕ, ◌+◌, ◌≤◌, Bool, true, false, List, [], ◌∷◌, ◌++◌, length, Option, Err}
+use Rattle.std.specs.Prelude.{◌≡◌, ℕ, ◌+◌, ◌≤◌, ◌⊎◌, Bool, true, false, List, [], ◌∷◌, ◌++◌, length, Option, Err}
 use Rattle.std.proofs.Common.{refl, sym, ap, subst, ◌∙◌, inl, inr, append_assoc}
 use Rattle.std.proofs.lemmas.Bool.{false≢true}
 use Rattle.std.proofs.lemmas.List.{append-nil}
 use Rattle.call_io.specs.Bytes.{Took, Grew, GrewPartly}
 use Rattle.line_input.specs.Feed.{Feed}
-use Rattle.line_input.specs.Lines.{lines_of, most_bytes}
+use Rattle.line_input.specs.Lines.{IsWhole, lines_of, most_bytes}
 use Rattle.line_input.specs.Reading.{MayFollow, Reading, ReadsLine}
 use Rattle.line_input.specs.Taken.{LinesSoFar}
 use Rattle.line_input.specs.declared.fault.LineFault.TheVariants as fault
@@ -13,13 +13,13 @@ use Rattle.line_input.proofs.LinesSoFar.{StopsAt, over_lines, settled_as, stoppe
 use Rattle.line_input.proofs.Takings.{at_hand}
 use Rattle.link_parts.specs.Rounds as rounds
 use Rattle.trace_text.specs.EntryLine.{text_of}
-use Rattle.live_link.specs.LiveOutcome.{CutShort, IsDecided, IsKnown, IsSettled, LinkRunsOver, LiveOutcome, LiveStreams, Over, Ran, WantsLine, run_over}
+use Rattle.live_link.specs.LiveOutcome.{CutShort, IsDecided, IsKnown, IsSettled, IsStopped, LinkRunsOver, LiveOutcome, LiveStreams, Over, Ran, WantsLine, run_over}
 use Rattle.live_link.specs.Runs.{Ending, Run, run_behind}
 use Rattle.live_link.specs.Runs as ending
 use Rattle.live_link.specs.Turns.{entries_of}
 use Rattle.live_link.specs.declared.answer.LiveStatus.{LiveStatus}
 use Rattle.live_link.specs.declared.answer.LiveStatus.TheVariants as status
-use Rattle.live_link.specs.inner.Brought.{CutOff, LinkEnded, LinkOver, RoundEnds, Standing, no_last}
+use Rattle.live_link.specs.inner.Brought.{CutOff, LinkEnded, LinkOver, RoundEnds, Standing, Stays, no_last}
 
 -- A run that stops with no further turn, and no further octet: where these are all.
 pub record IsStop (final : Run) : Type 0 where
@@ -87,14 +87,16 @@ module _ (over : Over) (start now : LiveStreams) where
         stopped_all start.script now.script feed (lines ++ passed) number IsThis stops
         (λ ls. over ls (b.octets ++ others) ≡ all) (same_all others)
 
-    known : IsKnown over now.script number script octets
+    known : IsKnown over now.script number script octets b.octets
     known =
-        settled_as (λ bytes. over (lines_of bytes) octets ≡ all) (λ bytes. over (lines_of bytes) octets ≡ over (lines_of script) octets)
-        now.script number script (λ bytes same. same ∙ sym (whole b.pending))
+        settled_as (λ bytes. (others : List ℕ) → over (lines_of bytes) (b.octets ++ others) ≡ all)
+        (λ bytes. (others : List ℕ) → over (lines_of bytes) (b.octets ++ others) ≡ over (lines_of script) octets)
+        now.script number script (λ bytes same others. same others ∙ sym (whole b.pending))
         (stopped_by start.script now.script feed (lines ++ passed) number IsThis stops
-        (λ ls. over ls octets ≡ all) (same_all b.pending))
+        (λ ls. (others : List ℕ) → over ls (b.octets ++ others) ≡ all)
+        (λ text rest this others. same_all others text rest this))
 
-    decided : IsDecided over script octets
+    abbrev decided : IsDecided over script octets
     decided =
         record {
           front = b.octets;
@@ -105,7 +107,7 @@ module _ (over : Over) (start now : LiveStreams) where
         }
 
     pub stops_known : (script octets : List ℕ) × Ran no_last over start now script octets final.ending
-        × IsKnown over now.script number script octets × IsDecided over script octets
+        × (d : IsDecided over script octets) × IsKnown over now.script number script octets d.front
     stops_known = (
       script,
       octets,
@@ -115,8 +117,8 @@ module _ (over : Over) (start now : LiveStreams) where
           (subst (λ (z : List ℕ). Grew start.to now.to z)
           (sym (ap (λ z. b.sent ++ z) stop.octets ∙ append-nil b.sent)) b.wrote)
           counted,
-      known,
       decided,
+      known,
     )
 
   -- What was taken of the script is these lines, and what follows in what is pending.
@@ -127,26 +129,59 @@ module _ (over : Over) (start now : LiveStreams) where
     taken_lines : lines_of taken_script ≡ lines ++ lines_of reading.feed.pending
     taken_lines = s.split reading.feed.pending s.taken.done
 
+    -- the script was read to its end
+    script_whole : reading.feed.ended ≡ true → IsWhole now.script taken_script
+    script_whole ended =
+        record {
+          «end» = s.taken.«end» ended;
+          within =
+              subst (λ (z : List ℕ). length z ≤ most_bytes)
+              (sym (ap (λ z. s.front ++ z) (s.taken.done ended) ∙ append-nil s.front)) s.taken.within;
+        }
+
+    -- or more of it may follow
+    script_more : reading.feed.ended ≡ false → (more : List ℕ)
+        → lines_of (taken_script ++ more) ≡ lines ++ lines_of (reading.feed.pending ++ more)
+    script_more alive more =
+        ap lines_of (append_assoc s.front reading.feed.pending more)
+        ∙ s.split (reading.feed.pending ++ more) (λ ended. absurd (false≢true (sym alive ∙ ended)))
+
     -- a run that the link stops is settled, or the script was read to its end
     link_settled : (octets : List ℕ) (run : Run) → ((more : List (List ℕ)) → over (lines ++ more) octets ≡ run)
         → IsSettled over now.script taken_script octets
     link_settled octets run same = at reading.feed.ended refl
       where
         at : (b : Bool) → reading.feed.ended ≡ b → IsSettled over now.script taken_script octets
-        at true ended =
-            inl (record {
-              «end» = s.taken.«end» ended;
-              within =
-                  subst (λ (z : List ℕ). length z ≤ most_bytes)
-                  (sym (ap (λ z. s.front ++ z) (s.taken.done ended) ∙ append-nil s.front)) s.taken.within;
-            })
+        at true ended = inl (script_whole ended)
         at false alive =
             inr (λ more.
-            ap (λ z. over (lines_of z) octets) (append_assoc s.front reading.feed.pending more)
-            ∙ ap (λ z. over z octets)
-            (s.split (reading.feed.pending ++ more) (λ ended. absurd (false≢true (sym alive ∙ ended))))
+            ap (λ z. over z octets) (script_more alive more)
             ∙ same (lines_of (reading.feed.pending ++ more))
             ∙ sym (ap (λ z. over z octets) taken_lines ∙ same (lines_of reading.feed.pending)))
+
+    -- and so it is where the octets stop it, whatever follows them
+    link_stopped : (octets : List ℕ) (run : Run) → ((more : List (List ℕ)) → over (lines ++ more) octets ≡ run)
+        → Stays over lines octets run → IsStopped over now.script taken_script octets
+    link_stopped octets run same stays =
+        record {
+          same = λ others.
+              ap (λ z. over z (octets ++ others)) taken_lines
+              ∙ stays (lines_of reading.feed.pending) others ∙ sym here;
+          settled = at reading.feed.ended refl;
+        }
+      where
+        here : over (lines_of taken_script) octets ≡ run
+        here = ap (λ z. over z octets) taken_lines ∙ same (lines_of reading.feed.pending)
+
+        at : (b : Bool) → reading.feed.ended ≡ b
+            → IsWhole now.script taken_script
+            ⊎ ((more others : List ℕ)
+            → over (lines_of (taken_script ++ more)) (octets ++ others) ≡ over (lines_of taken_script) octets)
+        at true ended = inl (script_whole ended)
+        at false alive =
+            inr (λ more others.
+            ap (λ z. over z (octets ++ others)) (script_more alive more)
+            ∙ stays (lines_of (reading.feed.pending ++ more)) others ∙ sym here)
 
     link_ran : (stop : rounds.Stop) (e : LinkEnded over start now lines stop)
         → Ran no_last over start now taken_script e.octets (ending.LinkStopped stop)
@@ -172,8 +207,8 @@ module _ (over : Over) (start now : LiveStreams) where
       taken_script,
       h.0.octets,
       link_ran (rounds.Faulty f) h.0,
-      link_settled h.0.octets h.0.run h.0.same,
-      h.1,
+      link_stopped h.0.octets h.0.run h.0.same h.1,
+      h.2,
     )
     round_outcome status.ReadFault h = (taken_script, h.octets, short_of h)
     round_outcome status.WriteFault h = (taken_script, h.octets, short_of h)

@@ -8,6 +8,7 @@ use Rattle.link_frames.specs.declared.frame.End.TheVariants as «end»
 use Rattle.line_input.specs.declared.reason.BadLine.{BadLine}
 use Rattle.link_parts.specs.Messages.{message_end, message_octets}
 use Rattle.link_parts.specs.Rounds.{LinkCut, Faulty, Rounds, Stop, and_message, parts_in, rounds_from}
+use Rattle.link_parts.specs.declared.fault.LinkFault.{LinkFault}
 use Rattle.link_parts.specs.declared.part.Part.{Part}
 use Rattle.trace_model.specs.declared.entry.Entry.{Entry}
 use Rattle.trace_text.specs.EntryLine.{text_of}
@@ -24,7 +25,7 @@ use Rattle.live_link.specs.inner.Brought.{CutOff, LinkEnded, Rest, RoundEnds, ve
 use Rattle.live_link.specs.declared.receiver.Came.{Came}
 use Rattle.live_link.specs.declared.receiver.Came.TheVariants as came
 use Rattle.live_link.specs.inner.Going.{MayReceive}
-use Rattle.live_link.specs.inner.Receiving.{MessageCame, Receives, Stops, cut}
+use Rattle.live_link.specs.inner.Receiving.{FaultyWithin, MessageCame, Receives, Stops, cut, faulty}
 use Rattle.live_link.specs.inner.VehicleEnd.{Acts, ActsPartly, EndStandsFor}
 use Rattle.live_link.specs.inner.VehicleGoes.{Exchanged, VehicleAt}
 use Rattle.live_link.proofs.RoundLemmas.{cut_at, run_twice, turns_text}
@@ -123,10 +124,23 @@ module _ (over : Over) (start old now : LiveStreams) (side : VehicleSide) (lines
         (λ others. at.brought.same others more)
         (GrewPartly-whole start.trace now.trace (text_of (entries_of at.brought.turns)) traced) (all_octets more)
 
+    -- no message goes on with an octet, whatever follows it
+    link_faulty : (f : LinkFault) → now.passes ≡ old.passes
+        → FaultyWithin «end».Vehicle start.from now.from at.brought.octets f
+        → RoundEnds over start now lines (status.LinkFault f)
+    link_faulty f passes h = (
+      link_ends (Faulty f) h.more passes h.took
+          (ap (λ z. rounds_from «end».Vehicle [] [] (length at.brought.octets) z) (sym (append-nil h.more)) ∙ h.reads []),
+      λ more others.
+          ap (λ z. over (lines ++ more) z) (append_assoc at.brought.octets h.more others)
+          ∙ over_rounds more (h.more ++ others) (faulty f) (h.reads others),
+      h.place,
+    )
+
     pub reads_none : (how : LiveStatus) → now.passes ≡ old.passes
         → Stops «end».Vehicle start.from now.from at.brought.octets how → RoundEnds over start now lines how
     reads_none status.LinkCut passes h = (link_ends LinkCut h.more passes h.took h.reads, h.at_end, h.within)
-    reads_none (status.LinkFault f) passes h = (link_ends (Faulty f) h.more passes h.took h.reads, h.place)
+    reads_none (status.LinkFault f) passes h = link_faulty f passes h
     reads_none status.ReadFault passes h = message_cut h.more h.took
     reads_none status.Memory passes h = message_cut h.more h.took
     reads_none status.TooLong passes h = (

@@ -2,6 +2,7 @@ pub mod EndFault
 pub mod Joint
 pub mod LastLine
 pub mod LiveCauses
+pub mod LiveComplete
 pub mod LiveCodes
 pub mod LiveOutcome
 pub mod LiveWords

@@ -74,16 +74,26 @@ pub record IsDecided (over : Over) (script octets : List ℕ) : Type 0 where
   pub within : length front ≤ most_bytes
   pub same : (more : List ℕ) → run_over over script (front ++ more) ≡ run_over over script octets
 
--- The run is decided by the line of this number, whatever comes behind it, or the script was read to its end.
-abbrev pub IsKnown : Over → (left : Option (List ℕ)) → (number : ℕ) → (script octets : List ℕ) → Type 0
-IsKnown over left number script octets =
-    IsSettledBy (λ bytes. run_over over bytes octets ≡ run_over over script octets) number script
+-- The run is decided by the line of this number, whatever comes behind it and behind this front of the octets, or the
+-- script was read to its end.
+abbrev pub IsKnown : Over → (left : Option (List ℕ)) → (number : ℕ) → (script octets front : List ℕ) → Type 0
+IsKnown over left number script octets front =
+    IsSettledBy (λ bytes. (more : List ℕ) → run_over over bytes (front ++ more) ≡ run_over over script octets)
+    number script
     ⊎ IsWhole left script
 
 -- The run is the same for every script that begins with these bytes, or the script was read to its end.
 abbrev pub IsSettled : Over → (left : Option (List ℕ)) → (script octets : List ℕ) → Type 0
 IsSettled over left script octets =
     IsWhole left script ⊎ ((more : List ℕ) → run_over over (script ++ more) octets ≡ run_over over script octets)
+
+-- The octets stop the run, whatever follows them: it is the same for every script that begins with these bytes, or the
+-- script was read to its end.
+pub record IsStopped (over : Over) (left : Option (List ℕ)) (script octets : List ℕ) : Type 0 where
+  pub same : (others : List ℕ) → run_over over script (octets ++ others) ≡ run_over over script octets
+  pub settled :
+      IsWhole left script
+      ⊎ ((more others : List ℕ) → run_over over (script ++ more) (octets ++ others) ≡ run_over over script octets)
 
 -- the run comes to a further line behind these: one that is refused whatever it is behind would be refused
 abbrev pub WantsLine : Over → (octets : List ℕ) → List (List ℕ) → Type 0
@@ -111,16 +121,16 @@ LiveOutcome last over old new status.Done =
     × IsDecided over script octets
 LiveOutcome last over old new (status.Refused bad) =
     (script octets : List ℕ) × Ran last over old new script octets (ending.Refused bad)
-    × IsKnown over new.script bad.line script octets × IsDecided over script octets
+    × (d : IsDecided over script octets) × IsKnown over new.script bad.line script octets d.front
 LiveOutcome last over old new status.PeerEnded =
     (script octets : List ℕ) × Ran last over old new script octets ending.PeerEnded
-    × ((number : ℕ) × IsKnown over new.script number script octets) × IsDecided over script octets
+    × (d : IsDecided over script octets) × ((number : ℕ) × IsKnown over new.script number script octets d.front)
 LiveOutcome last over old new status.LinkCut =
     (script octets : List ℕ) × Ran last over old new script octets (ending.LinkStopped rounds.LinkCut)
     × IsSettled over new.script script octets × IsAtEnd new.from × (length octets ≤ most_bytes)
 LiveOutcome last over old new (status.LinkFault fault) =
     (script octets : List ℕ) × Ran last over old new script octets (ending.LinkStopped (rounds.Faulty fault))
-    × IsSettled over new.script script octets × (fault.place < most_bytes)
+    × IsStopped over new.script script octets × (fault.place < most_bytes)
 LiveOutcome last over old new status.ReadFault =
     (script octets : List ℕ) × CutShort last over old new script octets
 LiveOutcome last over old new status.WriteFault =

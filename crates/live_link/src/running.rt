@@ -3,6 +3,7 @@
 ghost use Rattle.std.specs.Prelude.{◌≡◌, ◌≤◌};
 ghost use Rattle.link_frames.specs.declared.frame.End.TheVariants as «end»;
 ghost use Rattle.live_link.specs.LiveCauses.{IsAnswerOf, LiveReadCause, LiveWriteCause, WithLink, end_of};
+ghost use Rattle.live_link.specs.LiveComplete.{Completes};
 ghost use Rattle.live_link.specs.LiveOutcome.{LiveOutcome, ending_line, streams};
 ghost use Rattle.live_link.specs.Scripts.{point_over, run_of, vehicle_over};
 
@@ -25,6 +26,8 @@ pub fn live_vehicle<S: Source, O: Sink, I: Source, P: Sink, L: Ledger>(
     moments: &mut Steps<L>,
 ) -> LiveStatus
     ensures goes { LiveOutcome ending_line vehicle_over (streams (S.left script.old) (O.held trace.old) (I.left from.old) (P.held to.old) moments.old)
+        (streams (S.left script.new) (O.held trace.new) (I.left from.new) (P.held to.new) moments.new) result }
+    ensures complete { Completes vehicle_over (streams (S.left script.old) (O.held trace.old) (I.left from.old) (P.held to.old) moments.old)
         (streams (S.left script.new) (O.held trace.new) (I.left from.new) (P.held to.new) moments.new) result }
     ensures answers { IsAnswerOf «end».Vehicle result }
     ensures unread { LiveReadCause result (S.faults script.old) (S.faults script.new) (I.faults from.old) (I.faults from.new) }
@@ -49,6 +52,8 @@ pub fn live_point<S: Source, O: Sink, I: Source, P: Sink, L: Ledger>(
     moments: &mut Steps<L>,
 ) -> LiveStatus
     ensures goes { LiveOutcome ending_line point_over (streams (S.left script.old) (O.held trace.old) (I.left from.old) (P.held to.old) moments.old)
+        (streams (S.left script.new) (O.held trace.new) (I.left from.new) (P.held to.new) moments.new) result }
+    ensures complete { Completes point_over (streams (S.left script.old) (O.held trace.old) (I.left from.old) (P.held to.old) moments.old)
         (streams (S.left script.new) (O.held trace.new) (I.left from.new) (P.held to.new) moments.new) result }
     ensures answers { IsAnswerOf «end».Point result }
     ensures unread { LiveReadCause result (S.faults script.old) (S.faults script.new) (I.faults from.old) (I.faults from.new) }
@@ -77,6 +82,11 @@ pub fn live<S: Source, O: Sink, I: Source, P: Sink, L: Ledger>(
         (λ _ _ _ _. IsAnswerOf (end_of end) result) link.old link.new }
     ensures goes { WithLink (result ≡ LiveStatus.NoLink)
         (λ from from' to to'. LiveOutcome ending_line (run_of (end_of end))
+        (streams (S.left script.old) (O.held trace.old) (I.left from) (P.held to) moments.old)
+        (streams (S.left script.new) (O.held trace.new) (I.left from') (P.held to') moments.new) result)
+        link.old link.new }
+    ensures complete { WithLink (result ≡ LiveStatus.NoLink)
+        (λ from from' to to'. Completes (run_of (end_of end))
         (streams (S.left script.old) (O.held trace.old) (I.left from) (P.held to) moments.old)
         (streams (S.left script.new) (O.held trace.new) (I.left from') (P.held to') moments.new) result)
         link.old link.new }

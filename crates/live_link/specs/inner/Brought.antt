@@ -104,12 +104,17 @@ pub record LinkOver (over : Over) (lines : List (List ℕ)) (octets : List ℕ) 
   pub beyond : 0 < length rest
   pub wants : (more : List (List ℕ)) → (over (lines ++ more) front).ending ≡ ending.LinkStopped LinkCut
 
+-- the run is this one, whatever lines follow these, and whatever octets those
+abbrev pub Stays : Over → (lines : List (List ℕ)) → (octets : List ℕ) → Run → Type 0
+Stays over lines octets run =
+    (more : List (List ℕ)) (others : List ℕ) → over (lines ++ more) (octets ++ others) ≡ run
+
 -- how a run ends in a round
 abbrev pub RoundEnds : Over → (start now : LiveStreams) → (lines : List (List ℕ)) → LiveStatus → Type 0
 RoundEnds over start now lines status.LinkCut =
     (e : LinkEnded over start now lines LinkCut) × IsAtEnd now.from × (length e.octets ≤ most_bytes)
 RoundEnds over start now lines (status.LinkFault fault) =
-    LinkEnded over start now lines (Faulty fault) × (fault.place < most_bytes)
+    (e : LinkEnded over start now lines (Faulty fault)) × Stays over lines e.octets e.run × (fault.place < most_bytes)
 RoundEnds over start now lines status.ReadFault = CutOff over start now lines
 RoundEnds over start now lines status.WriteFault = CutOff over start now lines
 RoundEnds over start now lines status.Memory = CutOff over start now lines

@@ -64,7 +64,7 @@ pub record FaultyWithin (e : End) (start now : Option (List ℕ)) (octets : List
   pub more : List ℕ
   pub took : Took start now (octets ++ more)
   pub place : fault.place < most_bytes
-  pub reads : rounds_from e [] [] (length octets) more ≡ faulty fault
+  pub reads : (rest : List ℕ) → rounds_from e [] [] (length octets) (more ++ rest) ≡ faulty fault
 
 -- The other end wrote more octets than may be taken, and by the last that may be, the message isn't whole.
 pub record OverWithin (e : End) (start now : Option (List ℕ)) (octets : List ℕ) : Type 0 where

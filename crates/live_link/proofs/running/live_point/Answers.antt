@@ -4,6 +4,7 @@ use Rattle.call_io.proofs.BlockLemmas.{Onward-append}
 use Rattle.live_link.specs.LiveOutcome.{LiveOutcome, ending_line, streams}
 use Rattle.live_link.specs.Scripts.{point_over}
 use Rattle.live_link.proofs.LiveCloses.{closes_through}
+use Rattle.live_link.proofs.LiveCompletes.{completes}
 use Rattle.live_link.proofs.running.live_point.Goals as goal
 
 pub returns-clause-goes : goal.returns-clause-goes
@@ -18,3 +19,6 @@ returns-clause-goes g c =
     (closes_through g.O.Sink.held c.over-block.result c.run_point-status.new.trace c.close.new.trace point_over start now
     c.run_point-status.result c.close.result c.over-block.ensures.nothing onward c.close.ensures.partly
     c.run_point-status.ensures.goes c.close.ensures.closes))
+
+pub returns-clause-complete : goal.returns-clause-complete
+returns-clause-complete g c = completes point_over _ _ _ (returns-clause-goes g c)
