@@ -77,6 +77,7 @@ module _ (over : Over) (start now : LiveStreams) (t : Option (List ℕ)) where
             (subst (λ (z : List ℕ). Grew start.trace now.trace z)
             (append-nil (text_of (entries_of (run_over over script octets).turns))) r.traced));
         sent = GrewPartly-whole start.to now.to (run_over over script octets).octets r.sent;
+        counted = r.counted;
       }
 
   cut_closes : (script octets : List ℕ) → CutShort no_last over start now script octets
@@ -93,6 +94,7 @@ module _ (over : Over) (start now : LiveStreams) (t : Option (List ℕ)) where
             (subst (λ (z : List ℕ). GrewPartly start.trace now.trace z)
             (append-nil (text_of (entries_of (run_over over script octets).turns))) c.traced));
         sent = c.sent;
+        counted = c.counted;
       }
 
   module _ (how : LiveStatus)

@@ -1,11 +1,13 @@
 -- The beats of a line at the point's end: its rounds, or what it hears at once.
-use Rattle.std.specs.Prelude.{◌≡◌, ℕ, zero, suc, ◌+◌, ◌-◌, ◌<◌, Bool, true, false, List, [], ◌∷◌, ◌++◌, length, Option, Some, None, replicate, cond, ◌==◌}
+use Rattle.std.specs.Prelude.{◌≡◌, ℕ, zero, suc, ◌+◌, ◌-◌, ◌<◌, ◌≤◌, Bool, true, false, List, [], ◌∷◌, ◌++◌, length, Option, Some, None, replicate, cond, ◌==◌}
 use Rattle.std.proofs.Common.{refl, sym, ap, subst, ◌∙◌, arith}
 use Rattle.std.proofs.lemmas.List.{append-nil}
 use Rattle.call_io.specs.Bytes.{Grew, GrewPartly}
 use Rattle.call_io.proofs.BytesLemmas.{Grew-append, GrewPartly-after, GrewPartly-longer, GrewPartly-whole}
 use Rattle.link_frames.specs.declared.frame.End.TheVariants as «end»
 use Rattle.link_frames.specs.declared.note.Why.TheVariants as why
+use Rattle.line_input.specs.declared.reason.BadLine.{BadLine}
+use Rattle.link_parts.specs.Rounds.{Message, Parts, ScriptEnd, Stop, rounds_from}
 use Rattle.link_parts.specs.declared.part.Part.{Part}
 use Rattle.link_parts.specs.declared.part.Part.TheVariants.{Dials, Answers, Leaves, Rings, Takes, Carries}
 use Rattle.psap_machine.specs.Point.{Point}
@@ -15,8 +17,8 @@ use Rattle.trace_model.specs.declared.event.Event.{Event}
 use Rattle.trace_model.specs.declared.event.Event.TheVariants as event
 use Rattle.trace_text.specs.EntryLine.{text_of}
 use Rattle.live_link.specs.LiveOutcome.{LiveStreams, Over}
-use Rattle.live_link.specs.PointLive.{LivePoint, calls, does, draws, hears_in, hears_line, hears_part, in_session, is_rung, loses, nothing, passes, passes_in, round, up_hears}
-use Rattle.live_link.specs.Runs.{Beat, Round, Line, Steps, each, quiet, run_behind}
+use Rattle.live_link.specs.PointLive.{LivePoint, at_peer_end, calls, does, draws, hears_in, hears_line, hears_part, in_session, is_rung, lines_follow, loses, nothing, passes, passes_in, round, run_from, run_on, up_hears}
+use Rattle.live_link.specs.Runs.{Beat, Round, Line, Steps, beats_of, each, quiet, run_behind}
 use Rattle.live_link.specs.Turns.{entries_of}
 use Rattle.live_link.specs.declared.point_run.PointSide.{PointSide}
 use Rattle.live_link.specs.inner.Brought.{CutOff, Rest, point_left}
@@ -98,6 +100,44 @@ line_tick s (event.Deliver up c k) = refl
 line_tick s (event.Flow up d) = refl
 line_tick s (event.Tick n) = refl
 
+-- a run has no fewer rounds than were begun, but for one
+pub peer_least : (s : LivePoint) (refused : Option BadLine) (follows : Bool)
+    → s.tick ≤ (at_peer_end s refused follows).rounds + 1
+peer_least s refused true = omega arith
+peer_least s None false = omega arith
+peer_least s (Some bad) false = omega arith
+
+on_least : (s : LivePoint) (stop : Stop) (messages : List Message) → s.tick ≤ (run_on s stop messages).rounds + 1
+on_least s stop [] = omega arith
+on_least s stop (ScriptEnd ∷ messages) = peer_least s None false
+on_least s stop (Parts parts ∷ messages) =
+    let tick = round_tick s parts in
+    let more = on_least (round s parts).new stop messages in
+    omega (arith, tick, more)
+
+point_least : (s : LivePoint) (messages : List Message) (stop : Stop) (refused : Option BadLine) (beats : List Beat)
+    → s.tick ≤ (run_from s messages stop refused beats).rounds + 1
+point_least s messages stop None [] = on_least s stop messages
+point_least s messages stop (Some bad) [] = omega arith
+point_least s messages stop refused (Line e ∷ beats) =
+    let tick = line_tick s e in
+    let more = point_least (hears_line s e).new messages stop refused beats in
+    omega (arith, tick, more)
+point_least s [] stop refused (Round first ∷ beats) = omega arith
+point_least s (ScriptEnd ∷ messages) stop refused (Round first ∷ beats) = peer_least s refused (lines_follow beats)
+point_least s (Parts parts ∷ messages) stop refused (Round first ∷ beats) =
+    let tick = round_tick s parts in
+    let more = point_least (round s parts).new messages stop refused beats in
+    omega (arith, tick, more)
+
+pub point_counted : (passes start : ℕ) (s : LivePoint) (pending : List Beat) (rest : Rest) (place : ℕ)
+    (more : List (List ℕ)) (others : List ℕ) → passes ≤ start + s.tick
+    → passes ≤ start + (point_left s pending rest place more others).rounds + 1
+point_counted passes start s pending rest place more others at_most =
+    let r = rounds_from «end».Point [] [] place others in
+    let least = point_least s r.messages r.stop (rest more).refused (pending ++ beats_of (rest more).events) in
+    omega (arith, at_most, least)
+
 -- of the rounds of a line, the ones behind the next
 pub later_rounds : (done count : ℕ) → done < count
     → (first : Bool)
@@ -162,8 +202,8 @@ module _ (over : Over) (start old now : LiveStreams) (side : PointSide) (lines :
   -- a part of it is told
   pub tells_line_partly : (partly : List Entry → Type 0)
       → ((es : List Entry) → partly es → GrewPartly old.trace now.trace (text_of es))
-      → PointActsPartly partly side.end (λ s. hears_line s e) → CutOff over start now lines
-  tells_line_partly partly is acts =
+      → PointActsPartly partly side.end (λ s. hears_line s e) → now.passes ≡ old.passes → CutOff over start now lines
+  tells_line_partly partly is acts passes =
       cut_at over start now lines (at.brought.octets ++ side.receiver.octets.pending)
       (at.brought.turns ++ (hears_line at.left e).turns) at.brought.sent
       (λ more. point_left (hears_line at.left e).new pending rest (length at.brought.octets) more side.receiver.octets.pending)
@@ -177,3 +217,6 @@ module _ (over : Over) (start old now : LiveStreams) (side : PointSide) (lines :
       (λ more. GrewPartly-longer start.to now.to at.brought.sent
       (point_left (hears_line at.left e).new pending rest (length at.brought.octets) more side.receiver.octets.pending).octets
       (GrewPartly-whole start.to now.to at.brought.sent (rw to at.brought.wrote)))
+      (λ more. point_counted now.passes start.passes (hears_line at.left e).new pending rest (length at.brought.octets) more
+      side.receiver.octets.pending
+      (let at_most = at.counted in let tick = line_tick at.left e in omega (arith, passes, at_most, tick)))

@@ -39,6 +39,7 @@ use Rattle.live_link.specs.inner.PointEnd.{PointStandsFor}
 use Rattle.live_link.specs.inner.Receiving.{StandsBehind}
 use Rattle.live_link.specs.inner.ScriptGoes.{ReadsEvent, ReadsOther, RefusesEvent}
 use Rattle.live_link.proofs.OwnScript.{judged_fault, judged_line, judged_unknown, script_behind, script_none, script_refused, script_says}
+use Rattle.live_link.proofs.PointBeats.{peer_least, point_counted}
 use Rattle.live_link.proofs.PointWords.{IsNoFact, no_fact}
 use Rattle.live_link.proofs.RoundLemmas.{cut_of, standing_of}
 use Rattle.live_link.proofs.ScriptEnds.{ran_all, read_fails, reads_over, short_of, stops_known}
@@ -183,7 +184,10 @@ module _ (over : Over) (start now : LiveStreams) (before : Option (List ℕ)) (s
   line_left = point_left at.left [] (script_from «end».Point said (length lines + 1))
 
   abbrev pub line_standing : Standing over start now lines line_left
-  line_standing = standing_of over start now side.receiver lines line_left at.brought
+  line_standing =
+      standing_of over start now side.receiver lines line_left at.brought
+      (λ more others. point_counted now.passes start.passes at.left [] (script_from «end».Point said (length lines + 1))
+      (length at.brought.octets) more others at.counted)
 
   abbrev pub line_refusal : BadLine → Run
   line_refusal bad = at_script_end at.left.tick [] (Some bad)
@@ -317,6 +321,9 @@ module _ (over : Over) (start now : LiveStreams) (lines : List (List ℕ)) (scri
             (sym (on_same c.octets (over lines c.octets) refl))
             (subst (λ (z : List ℕ). GrewPartly start.trace now.trace z)
             (sym (append-nil (text_of (entries_of (over lines c.octets).turns)))) (c.traced []));
+        counted =
+            subst (λ (z : Run). now.passes ≤ start.passes + z.rounds + 1) (sym (on_same c.octets (over lines c.octets) refl))
+            (c.counted []);
         sent =
             subst (λ (z : Run). GrewPartly start.to now.to z.octets) (sym (on_same c.octets (over lines c.octets) refl))
             (c.wrote []);
@@ -391,6 +398,10 @@ module _ (over : Over) (start now : LiveStreams) (before : Option (List ℕ)) (o
         traced = at.traced;
         wrote = at.wrote;
         same = at.same;
+        counted = λ more others.
+            let r : Script = script_from «end».Point said (length lines + 1) more in
+            let least = peer_least at.left r.refused (lines_follow (beats_of r.events)) in
+            let at_most = at.counted in omega (arith, at_most, least);
       }
 
   abbrev pub peer_refusal : BadLine → Run

@@ -26,6 +26,7 @@ use Rattle.live_link.specs.inner.Brought.{CutOff, LinkEnded, Rest, RoundEnds, po
 use Rattle.live_link.specs.inner.PointEnd.{PointActs, PointActsPartly, PointStandsFor}
 use Rattle.live_link.specs.inner.PointGoes.{DoneAt, EndsOn, PeerAt, PointAt, PointRead, ReadsRound, no_more}
 use Rattle.live_link.specs.inner.Receiving.{FaultyWithin, MessageCame, Receives, ScriptEnded, Stops, cut, faulty}
+use Rattle.live_link.proofs.PointBeats.{point_counted, round_tick}
 use Rattle.live_link.proofs.RoundLemmas.{cut_at, cut_of, run_twice, standing_of, turns_text}
 
 -- a run whose link stops before the round's message is whole
@@ -87,6 +88,8 @@ module _ (over : Over) (start old now : LiveStreams) (side : PointSide) (lines :
         (λ others. GrewPartly-longer start.to now.to at.brought.sent
         (point_left at.left (Round first ∷ pending) rest (length at.brought.octets) others more).octets
         (GrewPartly-whole start.to now.to at.brought.sent wrote))
+        (λ others. point_counted now.passes start.passes at.left (Round first ∷ pending) rest (length at.brought.octets) others
+        more (let at_most = at.counted in omega (arith, passes, at_most)))
 
     -- no message goes on with an octet, whatever follows it
     link_faulty : (f : LinkFault) → FaultyWithin «end».Point start.from now.from at.brought.octets f
@@ -200,10 +203,17 @@ module _ (over : Over) (start old now : LiveStreams) (side : PointSide) (lines :
   taken : Took start.from now.from (x.octets ++ side.receiver.octets.pending)
   taken = rw from x.behind.so_far.took
 
+  further_counted : (more : List (List ℕ)) → now.passes ≤ start.passes + x.left.tick + 1
+      → now.passes ≤ start.passes + (further more).rounds + 1
+  further_counted more at_most =
+      let tick = round_tick x.left side.parts.items in
+      point_counted now.passes start.passes (round x.left side.parts.items).new pending rest (length x.octets) more
+      side.receiver.octets.pending (omega (arith, at_most, tick))
+
   -- its own message goes in part
-  pub sends_partly : now.trace ≡ old.trace → GrewPartly old.to now.to (message_octets x.left.gathered)
-      → CutOff over start now lines
-  sends_partly trace partly =
+  pub sends_partly : now.trace ≡ old.trace → now.passes ≡ old.passes
+      → GrewPartly old.to now.to (message_octets x.left.gathered) → CutOff over start now lines
+  sends_partly trace passes partly =
       cut_at over start now lines (x.octets ++ side.receiver.octets.pending) turned
       (x.sent ++ message_octets x.left.gathered) further taken (λ more. x.same more side.receiver.octets.pending)
       (rw trace
@@ -214,6 +224,7 @@ module _ (over : Over) (start old now : LiveStreams) (side : PointSide) (lines :
       (GrewPartly-whole start.trace old.trace (text_of (entries_of x.turns)) x.traced))))
       (λ more. GrewPartly-longer start.to now.to (x.sent ++ message_octets x.left.gathered) (further more).octets
       (GrewPartly-after start.to old.to now.to x.sent (message_octets x.left.gathered) x.wrote partly))
+      (λ more. further_counted more (let at_most = x.counted in omega (arith, passes, at_most)))
 
   module _ (wrote : Grew old.to now.to (message_octets x.left.gathered)) where
     all_sent : Grew start.to now.to (x.sent ++ message_octets x.left.gathered)
@@ -250,8 +261,9 @@ module _ (over : Over) (start old now : LiveStreams) (side : PointSide) (lines :
     -- a part of it is told
     pub tells_partly : (partly : List Entry → Type 0)
         → ((es : List Entry) → partly es → GrewPartly old.trace now.trace (text_of es))
-        → PointActsPartly partly side.end (λ s. round s side.parts.items) → CutOff over start now lines
-    tells_partly partly is acts =
+        → PointActsPartly partly side.end (λ s. round s side.parts.items) → now.passes ≤ old.passes + 1
+        → CutOff over start now lines
+    tells_partly partly is acts passes =
         cut_at over start now lines (x.octets ++ side.receiver.octets.pending) turned
         (x.sent ++ message_octets x.left.gathered) further taken (λ more. x.same more side.receiver.octets.pending)
         (subst (λ (z : List ℕ). GrewPartly start.trace now.trace z)
@@ -261,6 +273,7 @@ module _ (over : Over) (start old now : LiveStreams) (side : PointSide) (lines :
         (is (entries_of (round x.left side.parts.items).turns) (acts x.left x.stands))))
         (λ more. GrewPartly-longer start.to now.to (x.sent ++ message_octets x.left.gathered) (further more).octets
         (GrewPartly-whole start.to now.to (x.sent ++ message_octets x.left.gathered) all_sent))
+        (λ more. further_counted more (let at_most = x.counted in omega (arith, passes, at_most)))
 
 -- Behind its script the run goes on as rounds of a line that has no end.
 
@@ -329,7 +342,9 @@ pub on_cut : (over : Over) (start now : LiveStreams) (side : PointSide) (lines :
     (pending : List Beat) → PointAt over start now side lines rest pending → CutOff over start now lines
 on_cut over start now side lines rest pending at =
     let left = point_left at.left pending rest in
-    cut_of over start now lines left (standing_of over start now side.receiver lines left at.brought)
+    cut_of over start now lines left
+    (standing_of over start now side.receiver lines left at.brought
+    (λ more others. point_counted now.passes start.passes at.left pending rest (length at.brought.octets) more others at.counted))
 
 -- Where nothing else changed.
 module _ (over : Over) (start old now : LiveStreams) (lines : List (List ℕ)) (rest : Rest) (trace : now.trace ≡ old.trace)

@@ -1,5 +1,5 @@
 -- How a round of a run ends, and what was written by then.
-use Rattle.std.specs.Prelude.{◌≡◌, ℕ, List, ◌++◌, length}
+use Rattle.std.specs.Prelude.{◌≡◌, ℕ, ◌+◌, ◌≤◌, List, ◌++◌, length}
 use Rattle.std.proofs.Common.{sym, ap, subst, ◌∙◌, append_assoc}
 use Rattle.call_io.specs.Bytes.{Took, GrewPartly}
 use Rattle.call_io.proofs.BytesLemmas.{GrewPartly-longer, GrewPartly-whole}
@@ -34,8 +34,9 @@ abbrev pub cut_at : (over : Over) (start now : LiveStreams) (lines : List (List 
     → ((more : List (List ℕ)) → over (lines ++ more) octets ≡ run_behind turns sent (left more))
     → GrewPartly start.trace now.trace (text_of (entries_of turns))
     → ((more : List (List ℕ)) → GrewPartly start.to now.to (sent ++ (left more).octets))
+    → ((more : List (List ℕ)) → now.passes ≤ start.passes + (left more).rounds + 1)
     → CutOff over start now lines
-cut_at over start now lines octets turns sent left took same traced wrote =
+cut_at over start now lines octets turns sent left took same traced wrote counted =
     record {
       octets = octets;
       took = took;
@@ -46,12 +47,17 @@ cut_at over start now lines octets turns sent left took same traced wrote =
           traced));
       wrote = λ more.
           subst (λ (z : Run). GrewPartly start.to now.to z.octets) (sym (same more)) (wrote more);
+      counted = λ more.
+          subst (λ (z : Run). now.passes ≤ start.passes + z.rounds + 1) (sym (same more)) (counted more);
     }
 
 -- what stands, whatever reads the octets
 abbrev pub standing_of : (over : Over) (start now : LiveStreams) (r : Receiver) (lines : List (List ℕ)) (left : ℕ → Over)
-    → Brought over start now r lines left → Standing over start now lines left
-standing_of over start now r lines left b =
+    → (b : Brought over start now r lines left)
+    → ((more : List (List ℕ)) (others : List ℕ)
+    → now.passes ≤ start.passes + (left (length b.octets) more others).rounds + 1)
+    → Standing over start now lines left
+standing_of over start now r lines left b counted =
     record {
       octets = b.octets;
       pending = r.octets.pending;
@@ -62,6 +68,7 @@ standing_of over start now r lines left b =
       traced = b.traced;
       wrote = b.wrote;
       same = b.same;
+      counted = counted;
     }
 
 -- nothing more was written
@@ -74,6 +81,7 @@ cut_of over start now lines left b =
     (GrewPartly-whole start.trace now.trace (text_of (entries_of b.turns)) b.traced)
     (λ more. GrewPartly-longer start.to now.to b.sent (left (length b.octets) more b.pending).octets
     (GrewPartly-whole start.to now.to b.sent b.wrote))
+    (λ more. b.counted more b.pending)
 
 -- a round that ended in writing, or for want of memory, was cut off
 pub writing_ends : (over : Over) (start now : LiveStreams) (lines : List (List ℕ)) (how : LiveStatus)

@@ -57,6 +57,9 @@ module _ (over : Over) (start now : LiveStreams) where
             (subst (λ (z : List ℕ). GrewPartly start.trace now.trace z)
             (sym (append-nil (text_of (entries_of (over (lines ++ more) c.octets).turns)))) (c.traced more));
         sent = subst (λ (z : List (List ℕ)). GrewPartly start.to now.to (over z c.octets).octets) (sym same) (c.wrote more);
+        counted =
+            subst (λ (z : List (List ℕ)). now.passes ≤ start.passes + (over z c.octets).rounds + 1) (sym same)
+            (c.counted more);
       }
 
   -- The run stops at a line, whatever follows.

@@ -1,10 +1,12 @@
 -- The beats of a line at the vehicle's end: its rounds, or what it hears at once.
-use Rattle.std.specs.Prelude.{◌≡◌, ℕ, zero, suc, ◌+◌, ◌-◌, ◌<◌, Bool, true, false, List, [], ◌∷◌, ◌++◌, length, replicate}
+use Rattle.std.specs.Prelude.{◌≡◌, ℕ, zero, suc, ◌+◌, ◌-◌, ◌<◌, ◌≤◌, Bool, true, false, List, [], ◌∷◌, ◌++◌, length, Option, Some, None, replicate}
 use Rattle.std.proofs.Common.{refl, sym, ap, subst, ◌∙◌, arith}
 use Rattle.std.proofs.lemmas.List.{append-nil}
 use Rattle.call_io.specs.Bytes.{Grew, GrewPartly}
 use Rattle.call_io.proofs.BytesLemmas.{Grew-append, GrewPartly-after, GrewPartly-longer, GrewPartly-whole}
 use Rattle.link_frames.specs.declared.frame.End.TheVariants as «end»
+use Rattle.line_input.specs.declared.reason.BadLine.{BadLine}
+use Rattle.link_parts.specs.Rounds.{Stop, parts_in, rounds_from}
 use Rattle.link_parts.specs.declared.part.Part.{Part}
 use Rattle.link_parts.specs.declared.part.Part.TheVariants.{Dials, Answers, Leaves, Rings, Takes, Carries}
 use Rattle.trace_model.specs.declared.entry.Entry.{Entry}
@@ -12,9 +14,9 @@ use Rattle.trace_model.specs.declared.event.Event.{Event}
 use Rattle.trace_model.specs.declared.event.Event.TheVariants as event
 use Rattle.trace_text.specs.EntryLine.{text_of}
 use Rattle.live_link.specs.LiveOutcome.{LiveStreams, Over}
-use Rattle.live_link.specs.Runs.{Beat, Round, Line, Steps, beat_of, each, rounds_of, run_behind}
+use Rattle.live_link.specs.Runs.{Beat, Round, Line, Steps, beat_of, beats_of, each, rounds_of, run_behind}
 use Rattle.live_link.specs.Turns.{entries_of}
-use Rattle.live_link.specs.VehicleLive.{LiveVehicle, hears_if, hears_line, hears_part, passes, round}
+use Rattle.live_link.specs.VehicleLive.{LiveVehicle, hears_if, hears_line, hears_part, passes, round, run_from}
 use Rattle.live_link.specs.declared.vehicle_run.VehicleSide.{VehicleSide}
 use Rattle.live_link.specs.inner.Brought.{CutOff, Rest, vehicle_left}
 use Rattle.live_link.specs.inner.VehicleEnd.{Acts, ActsPartly}
@@ -65,6 +67,29 @@ line_tick s (event.DropBoth c) = refl
 line_tick s (event.Deliver up c k) = refl
 line_tick s (event.Flow up d) = refl
 line_tick s (event.Tick n) = refl
+
+-- a run has no fewer rounds than were begun, but for one
+pub vehicle_least : (s : LiveVehicle) (messages : List (List Part)) (stop : Stop) (refused : Option BadLine)
+    (beats : List Beat) → s.tick ≤ (run_from s messages stop refused beats).rounds + 1
+vehicle_least s messages stop None [] = omega arith
+vehicle_least s messages stop (Some bad) [] = omega arith
+vehicle_least s messages stop refused (Line e ∷ beats) =
+    let tick = line_tick s e in
+    let more = vehicle_least (hears_line s e).new messages stop refused beats in
+    omega (arith, tick, more)
+vehicle_least s [] stop refused (Round first ∷ beats) = omega arith
+vehicle_least s (parts ∷ messages) stop refused (Round first ∷ beats) =
+    let tick = round_tick s parts in
+    let more = vehicle_least (round s parts).new messages stop refused beats in
+    omega (arith, tick, more)
+
+pub vehicle_counted : (passes start : ℕ) (s : LiveVehicle) (pending : List Beat) (rest : Rest) (place : ℕ)
+    (more : List (List ℕ)) (others : List ℕ) → passes ≤ start + s.tick
+    → passes ≤ start + (vehicle_left s pending rest place more others).rounds + 1
+vehicle_counted passes start s pending rest place more others at_most =
+    let r = rounds_from «end».Vehicle [] [] place others in
+    let least = vehicle_least s (parts_in r.messages) r.stop (rest more).refused (pending ++ beats_of (rest more).events) in
+    omega (arith, at_most, least)
 
 -- Rounds that are left of a line's, behind so many.
 
@@ -164,8 +189,8 @@ module _ (over : Over) (start old now : LiveStreams) (side : VehicleSide) (lines
   -- a part of it is told
   pub tells_line_partly : (partly : List Entry → Type 0)
       → ((es : List Entry) → partly es → GrewPartly old.trace now.trace (text_of es))
-      → ActsPartly partly side.end (λ s. hears_line s e) → CutOff over start now lines
-  tells_line_partly partly is acts =
+      → ActsPartly partly side.end (λ s. hears_line s e) → now.passes ≡ old.passes → CutOff over start now lines
+  tells_line_partly partly is acts passes =
       cut_at over start now lines (at.brought.octets ++ side.receiver.octets.pending)
       (at.brought.turns ++ (hears_line at.left e).turns) at.brought.sent
       (λ more. vehicle_left (hears_line at.left e).new pending rest (length at.brought.octets) more side.receiver.octets.pending)
@@ -179,3 +204,6 @@ module _ (over : Over) (start old now : LiveStreams) (side : VehicleSide) (lines
       (λ more. GrewPartly-longer start.to now.to at.brought.sent
       (vehicle_left (hears_line at.left e).new pending rest (length at.brought.octets) more side.receiver.octets.pending).octets
       (GrewPartly-whole start.to now.to at.brought.sent (rw to at.brought.wrote)))
+      (λ more. vehicle_counted now.passes start.passes (hears_line at.left e).new pending rest (length at.brought.octets) more
+      side.receiver.octets.pending
+      (let at_most = at.counted in let tick = line_tick at.left e in omega (arith, passes, at_most, tick)))

@@ -1,5 +1,5 @@
 -- The vehicle's end at the start of its script, at its first event line, and where there is none.
-use Rattle.std.specs.Prelude.{ℕ, ◌+◌, List, [], ◌∷◌, ◌++◌, length, Option, None}
+use Rattle.std.specs.Prelude.{ℕ, ◌≤◌, ◌+◌, List, [], ◌∷◌, ◌++◌, length, Option, None}
 use Rattle.std.proofs.Common.{refl, sym, ap, subst, ◌∙◌, arith}
 use Rattle.call_io.specs.Bytes.{Grew, GrewPartly}
 use Rattle.call_io.proofs.BytesLemmas.{Grew-nothing, GrewPartly-nothing, Took-nothing}
@@ -111,6 +111,9 @@ module _ (over : Over) (start now : LiveStreams) (f : FrontEnded over start now)
       sent =
           subst (λ (z : Run). GrewPartly start.to to z.octets) (sym (f.same []))
           (subst (λ (z : Option (List ℕ)). GrewPartly z to (script_end ∷ [])) f.still.to wrote);
+      counted =
+          subst (λ (z : Run). now.passes ≤ start.passes + z.rounds + 1) (sym (f.same []))
+          (let kept = f.still.passes in omega (arith, kept));
     },
   )
 

@@ -67,6 +67,7 @@ module _ (over : Over) (start now : LiveStreams) (before : Option (List ℕ)) (o
           traced = rw still.trace (Grew-nothing start.trace);
           wrote = rw still.to (Grew-nothing start.to);
           same = same;
+          counted = λ more octets. let kept = still.passes in omega (arith, kept);
         }
 
     abbrev number : List (List ℕ) → ℕ

@@ -1,5 +1,5 @@
 -- The vehicle's end from one line of its script to the next, and at the end of it.
-use Rattle.std.specs.Prelude.{◌≡◌, ℕ, ◌+◌, true, false, List, [], ◌∷◌, ◌++◌, length, codes, Option, Some, None, Result, Ok, Err}
+use Rattle.std.specs.Prelude.{◌≡◌, ℕ, ◌≤◌, ◌+◌, true, false, List, [], ◌∷◌, ◌++◌, length, codes, Option, Some, None, Result, Ok, Err}
 use Rattle.std.specs.List.{AllByRecursion}
 use Rattle.std.proofs.Common.{refl, sym, ap, subst, ◌∙◌, inl, inr, arith, append_assoc, length-append}
 use Rattle.std.proofs.lemmas.List.{append-nil}
@@ -37,6 +37,7 @@ use Rattle.live_link.specs.inner.VehicleGoes.{VehicleAt, VehicleOver}
 use Rattle.live_link.specs.inner.VehicleRun.{EndsScript}
 use Rattle.live_link.proofs.OwnScript.{judged_fault, judged_line, judged_unknown, script_behind, script_none, script_refused, script_says}
 use Rattle.live_link.proofs.RoundLemmas.{cut_of, standing_of}
+use Rattle.live_link.proofs.VehicleBeats.{vehicle_counted}
 use Rattle.live_link.proofs.ScriptEnds.{ran_all, read_fails, reads_over, short_of, stops_known}
 
 -- Where nothing else changed.
@@ -69,7 +70,10 @@ module _ (over : Over) (start now : LiveStreams) (before : Option (List ℕ)) (s
   left = vehicle_left at.left [] (script_from «end».Vehicle said (length lines + 1))
 
   abbrev standing : Standing over start now lines left
-  standing = standing_of over start now side.receiver lines left at.brought
+  standing =
+      standing_of over start now side.receiver lines left at.brought
+      (λ more others. vehicle_counted now.passes start.passes at.left [] (script_from «end».Vehicle said (length lines + 1))
+      (length at.brought.octets) more others at.counted)
 
   abbrev pub number : List (List ℕ) → ℕ
   number passed = length lines + 1 + length passed
@@ -302,6 +306,9 @@ module _ (over : Over) (start now : LiveStreams) (before : Option (List ℕ)) (s
         sent =
             subst (λ (z : Run). GrewPartly start.to to z.octets) (sym (whole side.receiver.octets.pending))
             (GrewPartly-after start.to now.to to at.brought.sent (script_end ∷ []) at.brought.wrote wrote);
+        counted =
+            subst (λ (z : Run). now.passes ≤ start.passes + z.rounds + 1) (sym (whole side.receiver.octets.pending))
+            (let at_most = at.counted in omega (arith, at_most));
       },
     )
 

@@ -29,6 +29,7 @@ use Rattle.live_link.specs.inner.Receiving.{FaultyWithin, MessageCame, Receives,
 use Rattle.live_link.specs.inner.VehicleEnd.{Acts, ActsPartly, EndStandsFor}
 use Rattle.live_link.specs.inner.VehicleGoes.{Exchanged, VehicleAt}
 use Rattle.live_link.proofs.RoundLemmas.{cut_at, run_twice, turns_text}
+use Rattle.live_link.proofs.VehicleBeats.{round_tick, vehicle_counted}
 
 -- what an end that stands before a round writes first is its message, whatever comes of the round
 first_octets : (s : LiveVehicle) (messages : List (List Part)) (stop : Stop) (refused : Option BadLine) (first : Bool)
@@ -56,9 +57,9 @@ module _ (over : Over) (start old now : LiveStreams) (side : VehicleSide) (lines
       ∙ ap (λ z. run_behind at.brought.turns at.brought.sent (vehicle_behind at.left (Round first ∷ pending) (rest more) z)) reads
 
   -- the message that is written first goes in part
-  pub sends_partly : now.from ≡ old.from → now.trace ≡ old.trace
+  pub sends_partly : now.from ≡ old.from → now.trace ≡ old.trace → now.passes ≡ old.passes
       → GrewPartly old.to now.to (message_octets at.left.gathered) → CutOff over start now lines
-  sends_partly from trace partly =
+  sends_partly from trace passes partly =
       cut_at over start now lines (at.brought.octets ++ side.receiver.octets.pending) at.brought.turns at.brought.sent
       (λ more. vehicle_left at.left (Round first ∷ pending) rest (length at.brought.octets) more side.receiver.octets.pending)
       (subst (λ (z : Option (List ℕ)). Took start.from z (at.brought.octets ++ side.receiver.octets.pending)) (sym from)
@@ -67,6 +68,8 @@ module _ (over : Over) (start old now : LiveStreams) (side : VehicleSide) (lines
       (subst (λ (z : Option (List ℕ)). GrewPartly start.trace z (text_of (entries_of at.brought.turns))) (sym trace)
       (GrewPartly-whole start.trace old.trace (text_of (entries_of at.brought.turns)) at.brought.traced))
       wrote
+      (λ more. vehicle_counted now.passes start.passes at.left (Round first ∷ pending) rest (length at.brought.octets) more
+      side.receiver.octets.pending (let at_most = at.counted in omega (arith, passes, at_most)))
     where
       wrote : (more : List (List ℕ))
           → GrewPartly start.to now.to (at.brought.sent
@@ -116,13 +119,15 @@ module _ (over : Over) (start old now : LiveStreams) (side : VehicleSide) (lines
         (GrewPartly-longer start.to now.to (at.brought.sent ++ message_octets at.left.gathered) f.0
         (GrewPartly-whole start.to now.to (at.brought.sent ++ message_octets at.left.gathered) all_sent)))
 
-    abbrev message_cut : (more : List ℕ) → Took start.from now.from (at.brought.octets ++ more)
+    abbrev message_cut : now.passes ≡ old.passes → (more : List ℕ) → Took start.from now.from (at.brought.octets ++ more)
         → CutOff over start now lines
-    message_cut more took =
+    message_cut passes more took =
         cut_at over start now lines (at.brought.octets ++ more) at.brought.turns at.brought.sent
         (λ others. vehicle_left at.left (Round first ∷ pending) rest (length at.brought.octets) others more) took
         (λ others. at.brought.same others more)
         (GrewPartly-whole start.trace now.trace (text_of (entries_of at.brought.turns)) traced) (all_octets more)
+        (λ others. vehicle_counted now.passes start.passes at.left (Round first ∷ pending) rest (length at.brought.octets)
+        others more (let at_most = at.counted in omega (arith, passes, at_most)))
 
     -- no message goes on with an octet, whatever follows it
     link_faulty : (f : LinkFault) → now.passes ≡ old.passes
@@ -141,10 +146,10 @@ module _ (over : Over) (start old now : LiveStreams) (side : VehicleSide) (lines
         → Stops «end».Vehicle start.from now.from at.brought.octets how → RoundEnds over start now lines how
     reads_none status.LinkCut passes h = (link_ends LinkCut h.more passes h.took h.reads, h.at_end, h.within)
     reads_none (status.LinkFault f) passes h = link_faulty f passes h
-    reads_none status.ReadFault passes h = message_cut h.more h.took
-    reads_none status.Memory passes h = message_cut h.more h.took
+    reads_none status.ReadFault passes h = message_cut passes h.more h.took
+    reads_none status.Memory passes h = message_cut passes h.more h.took
     reads_none status.TooLong passes h = (
-      message_cut (h.more ++ h.rest) h.took,
+      message_cut passes (h.more ++ h.rest) h.took,
       record {
         front = at.brought.octets ++ h.more;
         rest = h.rest;
@@ -232,8 +237,9 @@ module _ (over : Over) (start old now : LiveStreams) (side : VehicleSide) (lines
   -- a part of it is told
   pub tells_partly : (partly : List Entry → Type 0)
       → ((es : List Entry) → partly es → GrewPartly old.trace now.trace (text_of es))
-      → ActsPartly partly side.end (λ s. round s side.parts.items) → CutOff over start now lines
-  tells_partly partly is acts =
+      → ActsPartly partly side.end (λ s. round s side.parts.items) → now.passes ≤ old.passes + 1
+      → CutOff over start now lines
+  tells_partly partly is acts passes =
       cut_at over start now lines (x.octets ++ side.receiver.octets.pending)
       (x.turns ++ (round x.left side.parts.items).turns) x.sent
       (λ more. vehicle_left (round x.left side.parts.items).new pending rest (length x.octets) more side.receiver.octets.pending)
@@ -247,3 +253,6 @@ module _ (over : Over) (start old now : LiveStreams) (side : VehicleSide) (lines
       (λ more. GrewPartly-longer start.to now.to x.sent
       (vehicle_left (round x.left side.parts.items).new pending rest (length x.octets) more side.receiver.octets.pending).octets
       (GrewPartly-whole start.to now.to x.sent (rw to x.wrote)))
+      (λ more. vehicle_counted now.passes start.passes (round x.left side.parts.items).new pending rest (length x.octets) more
+      side.receiver.octets.pending
+      (let at_most = x.counted in let tick = round_tick x.left side.parts.items in omega (arith, passes, at_most, tick)))

@@ -64,6 +64,8 @@ module _ (last : Ending → List ℕ) (over : Over) where
     pub took_octets : Took old.from new.from octets
     pub traced : GrewPartly old.trace new.trace (trace_of last (run_over over script octets))
     pub sent : GrewPartly old.to new.to (run_over over script octets).octets
+    -- the round in which it was cut short may have been begun
+    pub counted : new.passes ≤ old.passes + (run_over over script octets).rounds + 1
 
 -- The octets of the other end that decided the run are within those that it may have: whatever comes behind them, the
 -- run is the same.

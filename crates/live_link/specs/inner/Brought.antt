@@ -74,6 +74,9 @@ pub record Standing (over : Over) (start now : LiveStreams) (lines : List (List 
   pub same :
       (more : List (List ℕ)) (others : List ℕ)
       → over (lines ++ more) (octets ++ others) ≡ run_behind turns sent (left (length octets) more others)
+  pub counted :
+      (more : List (List ℕ)) (others : List ℕ)
+      → now.passes ≤ start.passes + (left (length octets) more others).rounds + 1
 
 -- These lines came, and octets at which the link stops the run, whatever lines follow.
 pub record LinkEnded (over : Over) (start now : LiveStreams) (lines : List (List ℕ)) (stop : Stop) : Type 0 where
@@ -94,6 +97,7 @@ pub record CutOff (over : Over) (start now : LiveStreams) (lines : List (List �
       (more : List (List ℕ))
       → GrewPartly start.trace now.trace (text_of (entries_of (over (lines ++ more) octets).turns))
   pub wrote : (more : List (List ℕ)) → GrewPartly start.to now.to (over (lines ++ more) octets).octets
+  pub counted : (more : List (List ℕ)) → now.passes ≤ start.passes + (over (lines ++ more) octets).rounds + 1
 
 -- Behind as many octets as may be taken the run is still within a round, whatever lines follow.
 pub record LinkOver (over : Over) (lines : List (List ℕ)) (octets : List ℕ) : Type 0 where

@@ -43,4 +43,4 @@ returns-in-Err-clause-goes g c over start script lines rest at =
     (subst (λ (z : List Beat). PointAt over start before c.args.self.now lines rest z)
     (heard_beat c.args.event.now c.in_default.not-Tick) at) refl refl
     (λ es. GrewPartly (held g.O.Sink.held c.args.trace.now) (held g.O.Sink.held c.tell_line.new.trace) (text_of es))
-    (λ es h. h) c.in-Err.ensures.err))
+    (λ es h. h) c.in-Err.ensures.err refl))

@@ -23,7 +23,7 @@ returns-in_err-send-clause-goes g c over start script from lines rest pending x 
     (sends_partly over start
     (streams script (held g.O.Sink.held c.args.trace.now) from (g.P.Sink.held c.args.to.now) c.args.moments.now)
     (streams script (held g.O.Sink.held c.args.trace.now) from (g.P.Sink.held c.send.new.to) c.args.moments.now)
-    c.args.self.now lines rest pending x refl refl
+    c.args.self.now lines rest pending x refl refl refl
     (subst (λ (z : List ℕ). GrewPartly (g.P.Sink.held c.args.to.now) (g.P.Sink.held c.send.new.to) z)
     (message_is c.args.self.now.end x.left _ x.stands c.gathered.ensures) c.in_err-send.ensures.partly)))
 
@@ -63,4 +63,4 @@ returns-in-Err-clause-goes g c over start script from lines rest pending x =
     (λ es. GrewPartly (held g.O.Sink.held c.args.trace.now) (held g.O.Sink.held c.tell_round.new.trace) (text_of es))
     (λ es h. h)
     (subst (λ (z : List Part). PointActsPartly (λ es. GrewPartly (held g.O.Sink.held c.args.trace.now) (held g.O.Sink.held c.tell_round.new.trace) (text_of es)) c.args.self.now.end (λ s. round s z))
-    c.as_slice.ensures.value c.in-Err.ensures.err)))
+    c.as_slice.ensures.value c.in-Err.ensures.err) c.in-Err.ensures.moments))

@@ -21,7 +21,7 @@ returns-in_err-empty-clause-goes g c over start script passes lines rest first p
     (sends_partly over start
     (outside (held g.O.Sink.held c.args.trace.now) (g.I.Source.left c.args.from.now) (g.P.Sink.held c.args.to.now) script passes)
     (outside (held g.O.Sink.held c.empty.new.trace) (g.I.Source.left c.args.from.now) (g.P.Sink.held c.args.to.now) script passes)
-    c.args.self.now lines rest first pending at refl c.in_err-empty.ensures.held (GrewPartly-nothing _ _)))
+    c.args.self.now lines rest first pending at refl c.in_err-empty.ensures.held refl (GrewPartly-nothing _ _)))
 
 -- the message could not be written
 pub returns-in_err-send-clause-goes : goal.returns-in_err-send-clause-goes
@@ -32,7 +32,7 @@ returns-in_err-send-clause-goes g c over start script passes lines rest first pe
     (sends_partly over start
     (outside (held g.O.Sink.held c.args.trace.now) (g.I.Source.left c.args.from.now) (g.P.Sink.held c.args.to.now) script passes)
     (outside (held g.O.Sink.held c.empty.new.trace) (g.I.Source.left c.args.from.now) (g.P.Sink.held c.send.new.to) script passes)
-    c.args.self.now lines rest first pending at refl c.in_ok-empty.ensures.held
+    c.args.self.now lines rest first pending at refl c.in_ok-empty.ensures.held refl
     (subst (λ (z : List ℕ). GrewPartly (g.P.Sink.held c.args.to.now) (g.P.Sink.held c.send.new.to) z)
     (message_is c.args.self.now.end at.left _ at.stands c.gathered.ensures) c.in_err-send.ensures.partly)))
 

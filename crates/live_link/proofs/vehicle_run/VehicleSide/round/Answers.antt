@@ -53,4 +53,4 @@ returns-in-Err-clause-goes g c over start script lines rest first pending at =
     (λ es. GrewPartly (held g.O.Sink.held c.exchange.new.trace) (held g.O.Sink.held c.tell_round.new.trace) (text_of es))
     (λ es h. h)
     (subst (λ (z : List Part). ActsPartly (λ es. GrewPartly (held g.O.Sink.held c.exchange.new.trace) (held g.O.Sink.held c.tell_round.new.trace) (text_of es)) c.exchange.new.self.end (λ s. round s z))
-    c.as_slice.ensures.value c.in-Err.ensures.err)))
+    c.as_slice.ensures.value c.in-Err.ensures.err) c.in-Err.ensures.moments))
