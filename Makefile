@@ -37,6 +37,8 @@ bench: build
 	bench/run.py $(PROGRAM)
 	bench/refuse.py $(PROGRAM)
 	bench/view.py $(PROGRAM) $(VIEW)
+	bench/live.py $(PROGRAM)
+	bench/live_noise.py $(PROGRAM)
 	bench/c.py c/out/$(shell uname -m)-unknown-linux-gnu
 
 c-library:
