@@ -13,8 +13,6 @@ mod receiver;
 mod running;
 mod script_lines;
 mod sending;
-#[cfg(test)]
-mod tests;
 mod vehicle_end;
 mod vehicle_front;
 mod vehicle_run;
