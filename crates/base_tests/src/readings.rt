@@ -1,4 +1,5 @@
 //! Readings worked out by hand from the encoding rules, of what the programs don't show.
+use per_bits::Reason::{BadOid, EmptyOpen, LongLength, NoAddition, OutOfRange, Short, SmallLarge};
 use per_bits::{Bits, Cursor, Octs, Reason, Refusal};
 use per_types::{read_additions, read_octets, read_oid, read_whole};
 
@@ -8,7 +9,7 @@ fn front(octets: &[u8], len: u32) -> Cursor<'_> {
     Cursor::of(all.part(0, len.min(all.len())))
 }
 
-fn refused<T>(place: u32, reason: Reason, value: u64) -> Result<T, Refusal> {
+fn no<T>(place: u32, reason: Reason, value: u64) -> Result<T, Refusal> {
     Err(Refusal {
         place,
         reason,
@@ -37,44 +38,21 @@ fn whole(range: Range, c: &mut Cursor<'_>) -> Result<i64, Refusal> {
 /// Octets and how many of their bits there are, the number that is read, and where the cursor then stands.
 #[test]
 fn whole_numbers(rt: HostRuntime) {
-    for (range, octets, len, wanted, place) in [
-        (Range::Dozen, [0b0000_0000].as_slice(), 4, Ok(0), 4),
-        (Range::Dozen, [0b1100_0000].as_slice(), 4, Ok(12), 4),
-        (
-            Range::Dozen,
-            [0b1101_0000].as_slice(),
-            4,
-            refused(0, Reason::OutOfRange, 13),
-            0,
-        ),
-        (
-            Range::Dozen,
-            [0b1111_0000].as_slice(),
-            3,
-            refused(0, Reason::Short, 4),
-            0,
-        ),
-        (Range::Way, [0, 0].as_slice(), 10, Ok(-512), 10),
-        (Range::Way, [0x80, 0].as_slice(), 10, Ok(0), 10),
-        (Range::Way, [0xff, 0xff].as_slice(), 16, Ok(511), 10),
-        (Range::Five, [].as_slice(), 0, Ok(5), 0),
-        (Range::All, [0; 8].as_slice(), 64, Ok(i64::MIN), 64),
-        (
-            Range::All,
-            [0x80, 0, 0, 0, 0, 0, 0, 0].as_slice(),
-            64,
-            Ok(0),
-            64,
-        ),
-        (Range::All, [0xff; 8].as_slice(), 64, Ok(i64::MAX), 64),
-        (
-            Range::All,
-            [0xff; 8].as_slice(),
-            63,
-            refused(0, Reason::Short, 64),
-            0,
-        ),
-    ] {
+    let rows: [(Range, &[u8], u32, Result<i64, Refusal>, u32); 12] = [
+        (Range::Dozen, &[0b0000_0000], 4, Ok(0), 4),
+        (Range::Dozen, &[0b1100_0000], 4, Ok(12), 4),
+        (Range::Dozen, &[0b1101_0000], 4, no(0, OutOfRange, 13), 0),
+        (Range::Dozen, &[0b1111_0000], 3, no(0, Short, 4), 0),
+        (Range::Way, &[0, 0], 10, Ok(-512), 10),
+        (Range::Way, &[0x80, 0], 10, Ok(0), 10),
+        (Range::Way, &[0xff, 0xff], 16, Ok(511), 10),
+        (Range::Five, &[], 0, Ok(5), 0),
+        (Range::All, &[0; 8], 64, Ok(i64::MIN), 64),
+        (Range::All, &[0x80, 0, 0, 0, 0, 0, 0, 0], 64, Ok(0), 64),
+        (Range::All, &[0xff; 8], 64, Ok(i64::MAX), 64),
+        (Range::All, &[0xff; 8], 63, no(0, Short, 64), 0),
+    ];
+    for (range, octets, len, wanted, place) in rows {
         let mut c = front(octets, len);
         assert_eq!(rt;
             (whole(range, &mut c), c.place()),
@@ -107,100 +85,29 @@ fn string(is_oid: bool, c: &mut Cursor<'_>) -> Result<(u32, u64), Refusal> {
 fn strings(rt: HostRuntime) {
     let mut long = [0x5a; 128];
     long[0] = 127;
-    for (is_oid, octets, skipped, wanted, place) in [
-        (false, [0].as_slice(), 0, Ok((0, 0)), 8),
-        (
-            false,
-            long.as_slice(),
-            0,
-            Ok((127, 0x5a5a_5a5a_5a5a_5a5a)),
-            1024,
-        ),
+    let rows: [(bool, &[u8], u32, Result<(u32, u64), Refusal>, u32); 19] = [
+        (false, &[0], 0, Ok((0, 0)), 8),
+        (false, &long, 0, Ok((127, 0x5a5a_5a5a_5a5a_5a5a)), 1024),
         // behind three bits: 00000001 01010101
-        (false, [0x00, 0x2a, 0xa0].as_slice(), 3, Ok((1, 0x55)), 19),
-        (
-            false,
-            [0x80].as_slice(),
-            0,
-            refused(0, Reason::LongLength, 128),
-            0,
-        ),
-        (
-            false,
-            [0xff].as_slice(),
-            0,
-            refused(0, Reason::LongLength, 255),
-            0,
-        ),
-        (
-            false,
-            [2, 1].as_slice(),
-            0,
-            refused(8, Reason::Short, 16),
-            8,
-        ),
-        (false, [0].as_slice(), 1, refused(1, Reason::Short, 8), 1),
-        (true, [1, 0x7f].as_slice(), 0, Ok((1, 0x7f)), 16),
-        (true, [1, 0x00].as_slice(), 0, Ok((1, 0)), 16),
-        (true, [2, 0x81, 0x05].as_slice(), 0, Ok((2, 0x8105)), 24),
-        (
-            true,
-            [3, 0x81, 0x05, 0x7f].as_slice(),
-            0,
-            Ok((3, 0x81057f)),
-            32,
-        ),
-        (
-            true,
-            [3, 0x81, 0x80, 0x00].as_slice(),
-            0,
-            Ok((3, 0x818000)),
-            32,
-        ),
-        (
-            true,
-            [2, 0x80, 0x01].as_slice(),
-            0,
-            refused(8, Reason::BadOid, 128),
-            8,
-        ),
-        (
-            true,
-            [1, 0x85].as_slice(),
-            0,
-            refused(8, Reason::BadOid, 133),
-            8,
-        ),
-        (
-            true,
-            [3, 0x05, 0x80, 0x01].as_slice(),
-            0,
-            refused(16, Reason::BadOid, 128),
-            8,
-        ),
-        (
-            true,
-            [2, 0x05, 0xff].as_slice(),
-            0,
-            refused(16, Reason::BadOid, 255),
-            8,
-        ),
-        (true, [0].as_slice(), 0, refused(0, Reason::BadOid, 0), 0),
-        (
-            true,
-            [0x90].as_slice(),
-            0,
-            refused(0, Reason::LongLength, 144),
-            0,
-        ),
-        (
-            true,
-            [2, 0x80].as_slice(),
-            0,
-            refused(8, Reason::Short, 16),
-            8,
-        ),
-    ] {
+        (false, &[0x00, 0x2a, 0xa0], 3, Ok((1, 0x55)), 19),
+        (false, &[0x80], 0, no(0, LongLength, 128), 0),
+        (false, &[0xff], 0, no(0, LongLength, 255), 0),
+        (false, &[2, 1], 0, no(8, Short, 16), 8),
+        (false, &[0], 1, no(1, Short, 8), 1),
+        (true, &[1, 0x7f], 0, Ok((1, 0x7f)), 16),
+        (true, &[1, 0x00], 0, Ok((1, 0)), 16),
+        (true, &[2, 0x81, 0x05], 0, Ok((2, 0x8105)), 24),
+        (true, &[3, 0x81, 0x05, 0x7f], 0, Ok((3, 0x81057f)), 32),
+        (true, &[3, 0x81, 0x80, 0x00], 0, Ok((3, 0x818000)), 32),
+        (true, &[2, 0x80, 0x01], 0, no(8, BadOid, 128), 8),
+        (true, &[1, 0x85], 0, no(8, BadOid, 133), 8),
+        (true, &[3, 0x05, 0x80, 0x01], 0, no(16, BadOid, 128), 8),
+        (true, &[2, 0x05, 0xff], 0, no(16, BadOid, 255), 8),
+        (true, &[0], 0, no(0, BadOid, 0), 0),
+        (true, &[0x90], 0, no(0, LongLength, 144), 0),
+        (true, &[2, 0x80], 0, no(8, Short, 16), 8),
+    ];
+    for (is_oid, octets, skipped, wanted, place) in rows {
         let mut c = front(octets, 1600);
         let _ = c.take(skipped);
         assert_eq!(rt;
@@ -235,75 +142,22 @@ fn sections(rt: HostRuntime) {
     let both = [
         0x7e, 0x80, 0, 0, 0, 0, 0, 0, 0x02, 0x03, 0x56, 0x05, 0x9b, 0xde,
     ];
-    for (octets, skipped, len, wanted, place) in [
+    let rows: [(&[u8], u32, u32, Result<(u8, u64, u64), Refusal>, u32); 11] = [
         // one addition with the octets ab cd: 0000000 1, 00000010, ab, cd
-        (
-            [0x01, 0x02, 0xab, 0xcd].as_slice(),
-            0,
-            32,
-            Ok((1, 1, 0xcdab)),
-            32,
-        ),
+        (&[0x01, 0x02, 0xab, 0xcd], 0, 32, Ok((1, 1, 0xcdab)), 32),
         // three additions, the second one present, behind three bits: 0000010 010 00000001 11110000
-        (
-            [0x00, 0x90, 0x0f, 0x80].as_slice(),
-            3,
-            32,
-            Ok((3, 2, 0xf0)),
-            29,
-        ),
-        (last.as_slice(), 0, 88, Ok((64, 1 << 63, 0x55)), 87),
-        (
-            both.as_slice(),
-            0,
-            112,
-            Ok((64, 0x8000_0000_0000_0002, 0xef66)),
-            111,
-        ),
-        (
-            [0x80].as_slice(),
-            0,
-            8,
-            refused(0, Reason::SmallLarge, 64),
-            0,
-        ),
-        (
-            [0x04, 0x00].as_slice(),
-            0,
-            16,
-            refused(7, Reason::NoAddition, 3),
-            7,
-        ),
-        (
-            [0x04, 0x00].as_slice(),
-            0,
-            8,
-            refused(7, Reason::Short, 3),
-            7,
-        ),
-        (
-            [0x01, 0x00].as_slice(),
-            0,
-            16,
-            refused(8, Reason::EmptyOpen, 0),
-            8,
-        ),
-        (
-            [0x01, 0x80].as_slice(),
-            0,
-            16,
-            refused(8, Reason::LongLength, 128),
-            8,
-        ),
-        (
-            [0x01, 0x01].as_slice(),
-            0,
-            16,
-            refused(16, Reason::Short, 8),
-            16,
-        ),
-        ([0x01].as_slice(), 0, 6, refused(0, Reason::Short, 7), 0),
-    ] {
+        (&[0x00, 0x90, 0x0f, 0x80], 3, 32, Ok((3, 2, 0xf0)), 29),
+        (&last, 0, 88, Ok((64, 1 << 63, 0x55)), 87),
+        (&both, 0, 112, Ok((64, 0x8000_0000_0000_0002, 0xef66)), 111),
+        (&[0x80], 0, 8, no(0, SmallLarge, 64), 0),
+        (&[0x04, 0x00], 0, 16, no(7, NoAddition, 3), 7),
+        (&[0x04, 0x00], 0, 8, no(7, Short, 3), 7),
+        (&[0x01, 0x00], 0, 16, no(8, EmptyOpen, 0), 8),
+        (&[0x01, 0x80], 0, 16, no(8, LongLength, 128), 8),
+        (&[0x01, 0x01], 0, 16, no(16, Short, 8), 16),
+        (&[0x01], 0, 6, no(0, Short, 7), 0),
+    ];
+    for (octets, skipped, len, wanted, place) in rows {
         let mut c = front(octets, len);
         let _ = c.take(skipped);
         assert_eq!(rt; (section(&mut c), c.place()), (wanted, place), "{octets:?}");
