@@ -201,7 +201,8 @@ impl PointEnd {
     /// The vehicle takes the point's call.
     fn takes<H: Listener>(&mut self, alloc: Global, call: u32, to: &mut H) -> Result<(), EndFault>
         ensures ok { OnOk result (PointActs (H.grew to.old to.new) self.old self.new (λ s. hears_part s (part.Takes call))) }
-        ensures err { OnErr result (PointActsPartly (H.partly to.old to.new) self.old (λ s. hears_part s (part.Takes call))) }
+        ensures err { OnErr result (PointActsPartly (H.partly to.old to.new) self.old (λ s. hears_part s (part.Takes
+            call))) }
         ensures stood { OnOk result (H.faults to.new ≡ H.faults to.old) }
         ensures cause { IfErr result (λ e. EndFaultCause e (H.faults to.old) (H.faults to.new)) }
         ensures counted { H.faults to.old ≤ H.faults to.new }
@@ -215,8 +216,10 @@ impl PointEnd {
 
     /// The vehicle left a call.
     fn leaves<H: Listener>(&mut self, alloc: Global, call: u32, to: &mut H) -> Result<(), EndFault>
-        ensures ok { OnOk result (PointActs (H.grew to.old to.new) self.old self.new (λ s. hears_part s (part.Leaves call))) }
-        ensures err { OnErr result (PointActsPartly (H.partly to.old to.new) self.old (λ s. hears_part s (part.Leaves call))) }
+        ensures ok { OnOk result (PointActs (H.grew to.old to.new) self.old self.new (λ s. hears_part s (part.Leaves
+            call))) }
+        ensures err { OnErr result (PointActsPartly (H.partly to.old to.new) self.old (λ s. hears_part s (part.Leaves
+            call))) }
         ensures stood { OnOk result (H.faults to.new ≡ H.faults to.old) }
         ensures cause { IfErr result (λ e. EndFaultCause e (H.faults to.old) (H.faults to.new)) }
         ensures counted { H.faults to.old ≤ H.faults to.new }
@@ -236,8 +239,10 @@ impl PointEnd {
         frame: &Frame,
         to: &mut H,
     ) -> Result<(), EndFault>
-        ensures ok { OnOk result (PointActs (H.grew to.old to.new) self.old self.new (λ s. hears_part s (part.Carries call frame.now))) }
-        ensures err { OnErr result (PointActsPartly (H.partly to.old to.new) self.old (λ s. hears_part s (part.Carries call frame.now))) }
+        ensures ok { OnOk result (PointActs (H.grew to.old to.new) self.old self.new (λ s. hears_part s (part.Carries
+            call frame.now))) }
+        ensures err { OnErr result (PointActsPartly (H.partly to.old to.new) self.old (λ s. hears_part s (part.Carries
+            call frame.now))) }
         ensures stood { OnOk result (H.faults to.new ≡ H.faults to.old) }
         ensures cause { IfErr result (λ e. EndFaultCause e (H.faults to.old) (H.faults to.new)) }
         ensures counted { H.faults to.old ≤ H.faults to.new }

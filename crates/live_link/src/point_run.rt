@@ -114,7 +114,8 @@ impl PointSide {
         requires { IsReady self.old }
         ensures going { IfOk result (λ came. MayGoOn came self.new) }
         ensures goes { ReceivesFrom (λ script to passes. streams script (held O.held trace.old) (I.left from.old) to passes)
-            (λ script to passes. streams script (held O.held trace.new) (I.left from.new) to passes) self.old self.new result }
+            (λ script to passes. streams script (held O.held trace.new) (I.left from.new) to passes) self.old self.new
+            result }
         ensures answers { Answers IsOfRound result }
         ensures unread { Unread result (I.faults from.old) (I.faults from.new) }
         ensures unwritten { Unwritten result (O.faults (sink trace.old)) (O.faults (sink trace.new)) }
@@ -137,10 +138,12 @@ impl PointSide {
         requires { IsReady self.old }
         ensures ready { OnOk result (IsReady self.new) }
         ensures goes { RepliesFrom (λ script from. streams script (held O.held trace.old) from (P.held to.old) moments.old)
-            (λ script from. streams script (held O.held trace.new) from (P.held to.new) moments.new) self.old self.new result }
+            (λ script from. streams script (held O.held trace.new) from (P.held to.new) moments.new) self.old self.new
+            result }
         ensures moments { moments.new ≤ moments.old + 1 }
         ensures answers { Answers IsOfSending result }
-        ensures unwritten { UnwrittenBoth result (O.faults (sink trace.old)) (O.faults (sink trace.new)) (P.faults to.old) (P.faults to.new) }
+        ensures unwritten { UnwrittenBoth result (O.faults (sink trace.old)) (O.faults (sink trace.new)) (P.faults
+            to.old) (P.faults to.new) }
         ensures trace_counted { O.faults (sink trace.old) ≤ O.faults (sink trace.new) }
         ensures onward { Onward (way O.held trace.old) (way O.held trace.new) }
         ensures to_counted { P.faults to.old ≤ P.faults to.new }
@@ -163,12 +166,15 @@ impl PointSide {
     ) -> Result<Came, LiveStatus>
         requires { IsReady self.old }
         ensures going { IfOk result (λ came. MayGoOn came self.new) }
-        ensures goes { PointRoundFrom (λ script. streams script (held O.held trace.old) (I.left from.old) (P.held to.old) moments.old)
-            (λ script. streams script (held O.held trace.new) (I.left from.new) (P.held to.new) moments.new) self.old self.new result }
+        ensures goes { PointRoundFrom (λ script. streams script (held O.held trace.old) (I.left from.old) (P.held
+            to.old) moments.old)
+            (λ script. streams script (held O.held trace.new) (I.left from.new) (P.held to.new) moments.new) self.old
+            self.new result }
         ensures moments { moments.new ≤ moments.old + 1 }
         ensures answers { Answers IsOfRound result }
         ensures unread { Unread result (I.faults from.old) (I.faults from.new) }
-        ensures unwritten { UnwrittenBoth result (O.faults (sink trace.old)) (O.faults (sink trace.new)) (P.faults to.old) (P.faults to.new) }
+        ensures unwritten { UnwrittenBoth result (O.faults (sink trace.old)) (O.faults (sink trace.new)) (P.faults
+            to.old) (P.faults to.new) }
         ensures from_counted { I.faults from.old ≤ I.faults from.new }
         ensures trace_counted { O.faults (sink trace.old) ≤ O.faults (sink trace.new) }
         ensures onward { Onward (way O.held trace.old) (way O.held trace.new) }
@@ -196,12 +202,15 @@ impl PointSide {
         requires ready { IsReady self.old }
         requires some { 0 < count }
         ensures going { IfOk result (λ came. MayGoOn came self.new) }
-        ensures goes { PointBeatsFrom (λ script. streams script (held O.held trace.old) (I.left from.old) (P.held to.old) moments.old)
-            (λ script. streams script (held O.held trace.new) (I.left from.new) (P.held to.new) moments.new) self.old self.new (rounds_of count) result }
+        ensures goes { PointBeatsFrom (λ script. streams script (held O.held trace.old) (I.left from.old) (P.held
+            to.old) moments.old)
+            (λ script. streams script (held O.held trace.new) (I.left from.new) (P.held to.new) moments.new) self.old
+            self.new (rounds_of count) result }
         ensures moments { moments.new ≤ moments.old + count }
         ensures answers { Answers IsOfRound result }
         ensures unread { Unread result (I.faults from.old) (I.faults from.new) }
-        ensures unwritten { UnwrittenBoth result (O.faults (sink trace.old)) (O.faults (sink trace.new)) (P.faults to.old) (P.faults to.new) }
+        ensures unwritten { UnwrittenBoth result (O.faults (sink trace.old)) (O.faults (sink trace.new)) (P.faults
+            to.old) (P.faults to.new) }
         ensures from_counted { I.faults from.old ≤ I.faults from.new }
         ensures trace_counted { O.faults (sink trace.old) ≤ O.faults (sink trace.new) }
         ensures onward { Onward (way O.held trace.old) (way O.held trace.new) }
@@ -228,11 +237,14 @@ impl PointSide {
     ) -> Result<Came, LiveStatus>
         requires { IsReady self.old }
         ensures going { IfOk result (λ came. MayGoOn came self.new) }
-        ensures goes { PointBeatsFrom (λ script. streams script (held O.held trace.old) (I.left from.old) (P.held to.old) moments.old)
-            (λ script. streams script (held O.held trace.new) (I.left from.new) (P.held to.new) moments.new) self.old self.new (beat_of event.now) result }
+        ensures goes { PointBeatsFrom (λ script. streams script (held O.held trace.old) (I.left from.old) (P.held
+            to.old) moments.old)
+            (λ script. streams script (held O.held trace.new) (I.left from.new) (P.held to.new) moments.new) self.old
+            self.new (beat_of event.now) result }
         ensures answers { Answers IsOfRound result }
         ensures unread { Unread result (I.faults from.old) (I.faults from.new) }
-        ensures unwritten { UnwrittenBoth result (O.faults (sink trace.old)) (O.faults (sink trace.new)) (P.faults to.old) (P.faults to.new) }
+        ensures unwritten { UnwrittenBoth result (O.faults (sink trace.old)) (O.faults (sink trace.new)) (P.faults
+            to.old) (P.faults to.new) }
         ensures from_counted { I.faults from.old ≤ I.faults from.new }
         ensures trace_counted { O.faults (sink trace.old) ≤ O.faults (sink trace.new) }
         ensures onward { Onward (way O.held trace.old) (way O.held trace.new) }
@@ -257,11 +269,14 @@ impl PointSide {
         moments: &mut Steps<L>,
     ) -> LiveStatus
         requires { IsReady self.old }
-        ensures goes { OnFrom (λ script. streams script (held O.held trace.old) (I.left from.old) (P.held to.old) moments.old)
-            (λ script. streams script (held O.held trace.new) (I.left from.new) (P.held to.new) moments.new) self.old result }
+        ensures goes { OnFrom (λ script. streams script (held O.held trace.old) (I.left from.old) (P.held to.old)
+            moments.old)
+            (λ script. streams script (held O.held trace.new) (I.left from.new) (P.held to.new) moments.new) self.old
+            result }
         ensures answers { IsAnswerOf «end».Point result }
         ensures unread { ReadCause result (I.faults from.old) (I.faults from.new) }
-        ensures unwritten { LiveWriteCause result (O.faults (sink trace.old)) (O.faults (sink trace.new)) (P.faults to.old) (P.faults to.new) }
+        ensures unwritten { LiveWriteCause result (O.faults (sink trace.old)) (O.faults (sink trace.new)) (P.faults
+            to.old) (P.faults to.new) }
         ensures from_counted { I.faults from.old ≤ I.faults from.new }
         ensures trace_counted { O.faults (sink trace.old) ≤ O.faults (sink trace.new) }
         ensures onward { Onward (way O.held trace.old) (way O.held trace.new) }
@@ -291,12 +306,17 @@ impl PointSide {
         requires ready { IsReady self.old }
         requires alive { lines.old.failed ≡ false }
         ensures ready { OnOk result (IsReady self.new) }
-        ensures goes { (over : Over) (start : LiveStreams) → PointOver over start (streams (S.left script.old) (held O.held trace.old) (I.left from.old) (P.held to.old) moments.old) self.old lines.old →
-            PointTurns over start (streams (S.left script.new) (held O.held trace.new) (I.left from.new) (P.held to.new) moments.new) self.new lines.new result }
+        ensures goes { (over : Over) (start : LiveStreams) →
+            PointOver over start (streams (S.left script.old) (held O.held trace.old) (I.left from.old) (P.held to.old)
+            moments.old) self.old lines.old →
+            PointTurns over start (streams (S.left script.new) (held O.held trace.new) (I.left from.new) (P.held
+            to.new) moments.new) self.new lines.new result }
         ensures read { OnOk result (HasRead lines.old lines.new) }
         ensures answers { Answers (IsAnswerOf «end».Point) result }
-        ensures unread { UnreadBoth result (S.faults script.old) (S.faults script.new) (I.faults from.old) (I.faults from.new) }
-        ensures unwritten { UnwrittenBoth result (O.faults (sink trace.old)) (O.faults (sink trace.new)) (P.faults to.old) (P.faults to.new) }
+        ensures unread { UnreadBoth result (S.faults script.old) (S.faults script.new) (I.faults from.old) (I.faults
+            from.new) }
+        ensures unwritten { UnwrittenBoth result (O.faults (sink trace.old)) (O.faults (sink trace.new)) (P.faults
+            to.old) (P.faults to.new) }
         ensures script_counted { S.faults script.old ≤ S.faults script.new }
         ensures from_counted { I.faults from.old ≤ I.faults from.new }
         ensures trace_counted { O.faults (sink trace.old) ≤ O.faults (sink trace.new) }
@@ -349,7 +369,8 @@ fn end_peer<S: Source, O: Sink>(
     trace: &mut Block<'_, O>,
 ) -> LiveStatus
     requires { lines.old.failed ≡ false }
-    ensures goes { (over : Over) (start : LiveStreams) (from to : Option (List ℕ)) (passes : ℕ) (seen : List (List ℕ)) (said : Said) →
+    ensures goes { (over : Over) (start : LiveStreams) (from to : Option (List ℕ)) (passes : ℕ) (seen : List (List ℕ))
+        (said : Said) →
         LinesSoFar start.script (S.left script.old) lines.old seen →
         PeerAt over start (streams (S.left script.old) (held O.held trace.old) from to passes) seen
         (script_from «end».Point said (length seen + 1)) →
@@ -377,11 +398,14 @@ pub(crate) fn run_point<S: Source, O: Sink, I: Source, P: Sink, L: Ledger>(
     to: &mut P,
     moments: &mut Steps<L>,
 ) -> LiveStatus
-    ensures goes { LiveOutcome no_last point_over (streams (S.left script.old) (held O.held trace.old) (I.left from.old) (P.held to.old) moments.old)
+    ensures goes { LiveOutcome no_last point_over (streams (S.left script.old) (held O.held trace.old) (I.left
+        from.old) (P.held to.old) moments.old)
         (streams (S.left script.new) (held O.held trace.new) (I.left from.new) (P.held to.new) moments.new) result }
     ensures answers { IsAnswerOf «end».Point result }
-    ensures unread { LiveReadCause result (S.faults script.old) (S.faults script.new) (I.faults from.old) (I.faults from.new) }
-    ensures unwritten { LiveWriteCause result (O.faults (sink trace.old)) (O.faults (sink trace.new)) (P.faults to.old) (P.faults to.new) }
+    ensures unread { LiveReadCause result (S.faults script.old) (S.faults script.new) (I.faults from.old) (I.faults
+        from.new) }
+    ensures unwritten { LiveWriteCause result (O.faults (sink trace.old)) (O.faults (sink trace.new)) (P.faults to.old)
+        (P.faults to.new) }
     ensures script_counted { S.faults script.old ≤ S.faults script.new }
     ensures from_counted { I.faults from.old ≤ I.faults from.new }
     ensures trace_counted { O.faults (sink trace.old) ≤ O.faults (sink trace.new) }

@@ -25,12 +25,15 @@ pub fn live_vehicle<S: Source, O: Sink, I: Source, P: Sink, L: Ledger>(
     to: &mut P,
     moments: &mut Steps<L>,
 ) -> LiveStatus
-    ensures goes { LiveOutcome ending_line vehicle_over (streams (S.left script.old) (O.held trace.old) (I.left from.old) (P.held to.old) moments.old)
+    ensures goes { LiveOutcome ending_line vehicle_over (streams (S.left script.old) (O.held trace.old) (I.left
+        from.old) (P.held to.old) moments.old)
         (streams (S.left script.new) (O.held trace.new) (I.left from.new) (P.held to.new) moments.new) result }
-    ensures complete { Completes vehicle_over (streams (S.left script.old) (O.held trace.old) (I.left from.old) (P.held to.old) moments.old)
+    ensures complete { Completes vehicle_over (streams (S.left script.old) (O.held trace.old) (I.left from.old) (P.held
+        to.old) moments.old)
         (streams (S.left script.new) (O.held trace.new) (I.left from.new) (P.held to.new) moments.new) result }
     ensures answers { IsAnswerOf «end».Vehicle result }
-    ensures unread { LiveReadCause result (S.faults script.old) (S.faults script.new) (I.faults from.old) (I.faults from.new) }
+    ensures unread { LiveReadCause result (S.faults script.old) (S.faults script.new) (I.faults from.old) (I.faults
+        from.new) }
     ensures unwritten { LiveWriteCause result (O.faults trace.old) (O.faults trace.new) (P.faults to.old) (P.faults to.new) }
     ensures script_counted { S.faults script.old ≤ S.faults script.new }
     ensures from_counted { I.faults from.old ≤ I.faults from.new }
@@ -51,12 +54,15 @@ pub fn live_point<S: Source, O: Sink, I: Source, P: Sink, L: Ledger>(
     to: &mut P,
     moments: &mut Steps<L>,
 ) -> LiveStatus
-    ensures goes { LiveOutcome ending_line point_over (streams (S.left script.old) (O.held trace.old) (I.left from.old) (P.held to.old) moments.old)
+    ensures goes { LiveOutcome ending_line point_over (streams (S.left script.old) (O.held trace.old) (I.left from.old)
+        (P.held to.old) moments.old)
         (streams (S.left script.new) (O.held trace.new) (I.left from.new) (P.held to.new) moments.new) result }
-    ensures complete { Completes point_over (streams (S.left script.old) (O.held trace.old) (I.left from.old) (P.held to.old) moments.old)
+    ensures complete { Completes point_over (streams (S.left script.old) (O.held trace.old) (I.left from.old) (P.held
+        to.old) moments.old)
         (streams (S.left script.new) (O.held trace.new) (I.left from.new) (P.held to.new) moments.new) result }
     ensures answers { IsAnswerOf «end».Point result }
-    ensures unread { LiveReadCause result (S.faults script.old) (S.faults script.new) (I.faults from.old) (I.faults from.new) }
+    ensures unread { LiveReadCause result (S.faults script.old) (S.faults script.new) (I.faults from.old) (I.faults
+        from.new) }
     ensures unwritten { LiveWriteCause result (O.faults trace.old) (O.faults trace.new) (P.faults to.old) (P.faults to.new) }
     ensures script_counted { S.faults script.old ≤ S.faults script.new }
     ensures from_counted { I.faults from.old ≤ I.faults from.new }
@@ -91,7 +97,8 @@ pub fn live<S: Source, O: Sink, I: Source, P: Sink, L: Ledger>(
         (streams (S.left script.new) (O.held trace.new) (I.left from') (P.held to') moments.new) result)
         link.old link.new }
     ensures unread { WithLink (S.faults script.new ≡ S.faults script.old)
-        (λ from from' to to'. LiveReadCause result (S.faults script.old) (S.faults script.new) (I.faults from) (I.faults from'))
+        (λ from from' to to'. LiveReadCause result (S.faults script.old) (S.faults script.new) (I.faults from)
+        (I.faults from'))
         link.old link.new }
     ensures unwritten { WithLink (O.faults trace.new ≡ O.faults trace.old)
         (λ from from' to to'. LiveWriteCause result (O.faults trace.old) (O.faults trace.new) (P.faults to) (P.faults to'))

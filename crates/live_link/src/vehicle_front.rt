@@ -41,7 +41,8 @@ pub(crate) fn read_front<S: Source, O: Sink>(
     requires few { lines.old.lines ≤ most_bytes }
     ensures runs { IfOk result (λ front. MayRun front lines.new) }
     ensures goes { (over : Over) (start : LiveStreams) (from to : Option (List ℕ)) (passes : ℕ) →
-        ((draft : DraftIs) → DraftOf draft [] → FrontOver over start (streams (S.left script.old) (held O.held trace.old) from to passes) lines.old draft) →
+        ((draft : DraftIs) → DraftOf draft [] →
+        FrontOver over start (streams (S.left script.old) (held O.held trace.old) from to passes) lines.old draft) →
         FrontRead over start (streams (S.left script.new) (held O.held trace.new) from to passes) lines.new result }
     ensures answers { Answers IsOfScript result }
     ensures unread { Unread result (S.faults script.old) (S.faults script.new) }
@@ -70,7 +71,8 @@ fn read_fact<S: Source, O: Sink>(
     ensures finds { FindsFirst lines.old lines.new result }
     ensures goes { (over : Over) (start : LiveStreams) (from to : Option (List ℕ)) (passes : ℕ) →
         FrontOver over start (streams (S.left script.old) (held O.held trace.old) from to passes) lines.old draft.old →
-        FrontStep over start (streams (S.left script.new) (held O.held trace.new) from to passes) lines.new draft.new result }
+        FrontStep over start (streams (S.left script.new) (held O.held trace.new) from to passes) lines.new draft.new
+        result }
     ensures answers { Answers IsOfScript result }
     ensures unread { Unread result (S.faults script.old) (S.faults script.new) }
     ensures unwritten { Unwritten result (O.faults (sink trace.old)) (O.faults (sink trace.new)) }

@@ -121,7 +121,8 @@ impl VehicleSide {
             (outside (held O.held trace.new) (I.left from.new) (P.held to.new)) self.old self.new result }
         ensures answers { Answers IsOfRound result }
         ensures unread { Unread result (I.faults from.old) (I.faults from.new) }
-        ensures unwritten { UnwrittenBoth result (O.faults (sink trace.old)) (O.faults (sink trace.new)) (P.faults to.old) (P.faults to.new) }
+        ensures unwritten { UnwrittenBoth result (O.faults (sink trace.old)) (O.faults (sink trace.new)) (P.faults
+            to.old) (P.faults to.new) }
         ensures from_counted { I.faults from.old ≤ I.faults from.new }
         ensures trace_counted { O.faults (sink trace.old) ≤ O.faults (sink trace.new) }
         ensures onward { Onward (way O.held trace.old) (way O.held trace.new) }
@@ -144,12 +145,15 @@ impl VehicleSide {
     ) -> Result<(), LiveStatus>
         requires { IsReady self.old }
         ensures ready { OnOk result (IsReady self.new) }
-        ensures goes { RoundFrom (λ script. streams script (held O.held trace.old) (I.left from.old) (P.held to.old) moments.old)
-            (λ script. streams script (held O.held trace.new) (I.left from.new) (P.held to.new) moments.new) self.old self.new result }
+        ensures goes { RoundFrom (λ script. streams script (held O.held trace.old) (I.left from.old) (P.held to.old)
+            moments.old)
+            (λ script. streams script (held O.held trace.new) (I.left from.new) (P.held to.new) moments.new) self.old
+            self.new result }
         ensures moments { moments.new ≤ moments.old + 1 }
         ensures answers { Answers IsOfRound result }
         ensures unread { Unread result (I.faults from.old) (I.faults from.new) }
-        ensures unwritten { UnwrittenBoth result (O.faults (sink trace.old)) (O.faults (sink trace.new)) (P.faults to.old) (P.faults to.new) }
+        ensures unwritten { UnwrittenBoth result (O.faults (sink trace.old)) (O.faults (sink trace.new)) (P.faults
+            to.old) (P.faults to.new) }
         ensures from_counted { I.faults from.old ≤ I.faults from.new }
         ensures trace_counted { O.faults (sink trace.old) ≤ O.faults (sink trace.new) }
         ensures onward { Onward (way O.held trace.old) (way O.held trace.new) }
@@ -175,12 +179,15 @@ impl VehicleSide {
         requires ready { IsReady self.old }
         requires some { 0 < count }
         ensures ready { OnOk result (IsReady self.new) }
-        ensures goes { BeatsFrom (λ script. streams script (held O.held trace.old) (I.left from.old) (P.held to.old) moments.old)
-            (λ script. streams script (held O.held trace.new) (I.left from.new) (P.held to.new) moments.new) self.old self.new (rounds_of count) result }
+        ensures goes { BeatsFrom (λ script. streams script (held O.held trace.old) (I.left from.old) (P.held to.old)
+            moments.old)
+            (λ script. streams script (held O.held trace.new) (I.left from.new) (P.held to.new) moments.new) self.old
+            self.new (rounds_of count) result }
         ensures moments { moments.new ≤ moments.old + count }
         ensures answers { Answers IsOfRound result }
         ensures unread { Unread result (I.faults from.old) (I.faults from.new) }
-        ensures unwritten { UnwrittenBoth result (O.faults (sink trace.old)) (O.faults (sink trace.new)) (P.faults to.old) (P.faults to.new) }
+        ensures unwritten { UnwrittenBoth result (O.faults (sink trace.old)) (O.faults (sink trace.new)) (P.faults
+            to.old) (P.faults to.new) }
         ensures from_counted { I.faults from.old ≤ I.faults from.new }
         ensures trace_counted { O.faults (sink trace.old) ≤ O.faults (sink trace.new) }
         ensures onward { Onward (way O.held trace.old) (way O.held trace.new) }
@@ -204,11 +211,14 @@ impl VehicleSide {
     ) -> Result<(), LiveStatus>
         requires { IsReady self.old }
         ensures ready { OnOk result (IsReady self.new) }
-        ensures goes { BeatsFrom (λ script. streams script (held O.held trace.old) (I.left from.old) (P.held to.old) moments.old)
-            (λ script. streams script (held O.held trace.new) (I.left from.new) (P.held to.new) moments.new) self.old self.new (beat_of event.now) result }
+        ensures goes { BeatsFrom (λ script. streams script (held O.held trace.old) (I.left from.old) (P.held to.old)
+            moments.old)
+            (λ script. streams script (held O.held trace.new) (I.left from.new) (P.held to.new) moments.new) self.old
+            self.new (beat_of event.now) result }
         ensures answers { Answers IsOfRound result }
         ensures unread { Unread result (I.faults from.old) (I.faults from.new) }
-        ensures unwritten { UnwrittenBoth result (O.faults (sink trace.old)) (O.faults (sink trace.new)) (P.faults to.old) (P.faults to.new) }
+        ensures unwritten { UnwrittenBoth result (O.faults (sink trace.old)) (O.faults (sink trace.new)) (P.faults
+            to.old) (P.faults to.new) }
         ensures from_counted { I.faults from.old ≤ I.faults from.new }
         ensures trace_counted { O.faults (sink trace.old) ≤ O.faults (sink trace.new) }
         ensures onward { Onward (way O.held trace.old) (way O.held trace.new) }
@@ -239,11 +249,15 @@ impl VehicleSide {
         requires alive { lines.old.failed ≡ false }
         ensures ready { OnOk result (IsReady self.new) }
         ensures read { OnOk result (HasRead lines.old lines.new) }
-        ensures goes { TurnsFrom (streams (S.left script.old) (held O.held trace.old) (I.left from.old) (P.held to.old) moments.old)
-            (streams (S.left script.new) (held O.held trace.new) (I.left from.new) (P.held to.new) moments.new) self.old self.new lines.old lines.new event.now result }
+        ensures goes { TurnsFrom (streams (S.left script.old) (held O.held trace.old) (I.left from.old) (P.held to.old)
+            moments.old)
+            (streams (S.left script.new) (held O.held trace.new) (I.left from.new) (P.held to.new) moments.new)
+            self.old self.new lines.old lines.new event.now result }
         ensures answers { Answers (IsAnswerOf «end».Vehicle) result }
-        ensures unread { UnreadBoth result (S.faults script.old) (S.faults script.new) (I.faults from.old) (I.faults from.new) }
-        ensures unwritten { UnwrittenBoth result (O.faults (sink trace.old)) (O.faults (sink trace.new)) (P.faults to.old) (P.faults to.new) }
+        ensures unread { UnreadBoth result (S.faults script.old) (S.faults script.new) (I.faults from.old) (I.faults
+            from.new) }
+        ensures unwritten { UnwrittenBoth result (O.faults (sink trace.old)) (O.faults (sink trace.new)) (P.faults
+            to.old) (P.faults to.new) }
         ensures script_counted { S.faults script.old ≤ S.faults script.new }
         ensures from_counted { I.faults from.old ≤ I.faults from.new }
         ensures trace_counted { O.faults (sink trace.old) ≤ O.faults (sink trace.new) }
@@ -272,11 +286,15 @@ impl VehicleSide {
         requires ready { IsReady self.old }
         requires alive { lines.old.failed ≡ false }
         requires few { lines.old.lines ≤ most_bytes }
-        ensures goes { EndsFrom (streams (S.left script.old) (held O.held trace.old) (I.left from.old) (P.held to.old) moments.old)
-            (streams (S.left script.new) (held O.held trace.new) (I.left from.new) (P.held to.new) moments.new) self.old lines.old first result }
+        ensures goes { EndsFrom (streams (S.left script.old) (held O.held trace.old) (I.left from.old) (P.held to.old)
+            moments.old)
+            (streams (S.left script.new) (held O.held trace.new) (I.left from.new) (P.held to.new) moments.new)
+            self.old lines.old first result }
         ensures answers { IsAnswerOf «end».Vehicle result }
-        ensures unread { LiveReadCause result (S.faults script.old) (S.faults script.new) (I.faults from.old) (I.faults from.new) }
-        ensures unwritten { LiveWriteCause result (O.faults (sink trace.old)) (O.faults (sink trace.new)) (P.faults to.old) (P.faults to.new) }
+        ensures unread { LiveReadCause result (S.faults script.old) (S.faults script.new) (I.faults from.old) (I.faults
+            from.new) }
+        ensures unwritten { LiveWriteCause result (O.faults (sink trace.old)) (O.faults (sink trace.new)) (P.faults
+            to.old) (P.faults to.new) }
         ensures script_counted { S.faults script.old ≤ S.faults script.new }
         ensures from_counted { I.faults from.old ≤ I.faults from.new }
         ensures trace_counted { O.faults (sink trace.old) ≤ O.faults (sink trace.new) }
@@ -302,11 +320,14 @@ pub(crate) fn run_vehicle<S: Source, O: Sink, I: Source, P: Sink, L: Ledger>(
     to: &mut P,
     moments: &mut Steps<L>,
 ) -> LiveStatus
-    ensures goes { LiveOutcome no_last vehicle_over (streams (S.left script.old) (held O.held trace.old) (I.left from.old) (P.held to.old) moments.old)
+    ensures goes { LiveOutcome no_last vehicle_over (streams (S.left script.old) (held O.held trace.old) (I.left
+        from.old) (P.held to.old) moments.old)
         (streams (S.left script.new) (held O.held trace.new) (I.left from.new) (P.held to.new) moments.new) result }
     ensures answers { IsAnswerOf «end».Vehicle result }
-    ensures unread { LiveReadCause result (S.faults script.old) (S.faults script.new) (I.faults from.old) (I.faults from.new) }
-    ensures unwritten { LiveWriteCause result (O.faults (sink trace.old)) (O.faults (sink trace.new)) (P.faults to.old) (P.faults to.new) }
+    ensures unread { LiveReadCause result (S.faults script.old) (S.faults script.new) (I.faults from.old) (I.faults
+        from.new) }
+    ensures unwritten { LiveWriteCause result (O.faults (sink trace.old)) (O.faults (sink trace.new)) (P.faults to.old)
+        (P.faults to.new) }
     ensures script_counted { S.faults script.old ≤ S.faults script.new }
     ensures from_counted { I.faults from.old ≤ I.faults from.new }
     ensures trace_counted { O.faults (sink trace.old) ≤ O.faults (sink trace.new) }
@@ -333,11 +354,15 @@ fn run_behind<S: Source, O: Sink, I: Source, P: Sink, L: Ledger>(
 ) -> LiveStatus
     requires { MayRun front lines.old }
     ensures goes { (over : Over) (start : LiveStreams) →
-        IsFront over start (streams (S.left script.old) (held O.held trace.old) (I.left from.old) (P.held to.old) moments.old) lines.old front →
-        LiveOutcome no_last over start (streams (S.left script.new) (held O.held trace.new) (I.left from.new) (P.held to.new) moments.new) result }
+        IsFront over start (streams (S.left script.old) (held O.held trace.old) (I.left from.old) (P.held to.old)
+        moments.old) lines.old front →
+        LiveOutcome no_last over start (streams (S.left script.new) (held O.held trace.new) (I.left from.new) (P.held
+        to.new) moments.new) result }
     ensures answers { IsAnswerOf «end».Vehicle result }
-    ensures unread { LiveReadCause result (S.faults script.old) (S.faults script.new) (I.faults from.old) (I.faults from.new) }
-    ensures unwritten { LiveWriteCause result (O.faults (sink trace.old)) (O.faults (sink trace.new)) (P.faults to.old) (P.faults to.new) }
+    ensures unread { LiveReadCause result (S.faults script.old) (S.faults script.new) (I.faults from.old) (I.faults
+        from.new) }
+    ensures unwritten { LiveWriteCause result (O.faults (sink trace.old)) (O.faults (sink trace.new)) (P.faults to.old)
+        (P.faults to.new) }
     ensures script_counted { S.faults script.old ≤ S.faults script.new }
     ensures from_counted { I.faults from.old ≤ I.faults from.new }
     ensures trace_counted { O.faults (sink trace.old) ≤ O.faults (sink trace.new) }
