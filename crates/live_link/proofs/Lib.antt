@@ -13,6 +13,7 @@ pub mod OwedRuns
 pub mod OwnScript
 pub mod PointBeats
 pub mod PointLines
+pub mod PointPeer
 pub mod PointRounds
 pub mod PointRuns
 pub mod PointSteps

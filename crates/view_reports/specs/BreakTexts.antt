@@ -1,5 +1,5 @@
--- What is told of a break of a rule: an object, or a sentence, each a line. This project's profile. Cited by what is told of
--- a line of a trace in a report.
+-- What is told of a break of a rule: an object, or a sentence, each a line. This project's profile. Cited by what is
+-- told of a line of a trace in a report.
 use Rattle.std.specs.Prelude.{ℕ, List, [], ◌∷◌, codes, decimal, Option, Some, None}
 use Rattle.std.specs.List.{concat}
 use Rattle.link_frames.specs.Legs.{least_opening, muting_limit}

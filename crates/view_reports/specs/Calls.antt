@@ -1,5 +1,5 @@
--- What is kept of a call, and of all calls of a trace, in the order in which the trace first has them come up, go down or
--- turn a voice. This project's profile. Cited by what is told of a line of a trace in a report.
+-- What is kept of a call, and of all calls of a trace, in the order in which the trace first has them come up, go
+-- down or turn a voice. This project's profile. Cited by what is told of a line of a trace in a report.
 use Rattle.std.specs.Prelude.{ℕ, nat_eq, List, Option, Some, None}
 use Rattle.std.specs.Map.{lookup}
 use Rattle.std.specs.Option.{unwrap_or}

@@ -1,5 +1,5 @@
--- What is told of a call and of a set behind all lines: an object, or a sentence, each a line. This project's profile. Cited
--- by what is told at the end of a trace in a report.
+-- What is told of a call and of a set behind all lines: an object, or a sentence, each a line. This project's
+-- profile. Cited by what is told at the end of a trace in a report.
 use Rattle.std.specs.Prelude.{ℕ, ◌-◌, List, [], ◌∷◌, codes, decimal, Option, Some, None}
 use Rattle.std.specs.List.{concat}
 use Rattle.hex.specs.Hex.{encode_lower}

@@ -1,5 +1,5 @@
--- The first line that a report says is wrong, where it judges both ends: as the verdict of an audit. This project's profile.
--- Cited by `report_laws`.
+-- The first line that a report says is wrong, where it judges both ends: as the verdict of an audit. This project's
+-- profile. Cited by `report_laws`.
 use Rattle.std.specs.Prelude.{ℕ, ◌+◌, List, [], ◌∷◌, length, Option, Some, None, Result, Ok, Err}
 use Rattle.std.specs.Option.{option_or, unwrap_or}
 use Rattle.line_input.specs.declared.reason.Reason.{Reason}
@@ -30,7 +30,8 @@ abbrev pub first_from : (tick number : ℕ) → Watch → List (List ℕ) → Op
 first_from tick number w [] = None
 first_from tick number w (line ∷ lines) =
     option_or (line_verdict w number (judged_entry tick line))
-    (first_from (tick_after tick (judged_entry tick line)) (number + 1) (watch_after w number (judged_entry tick line)) lines)
+    (first_from (tick_after tick (judged_entry tick line)) (number + 1) (watch_after w number (judged_entry tick line))
+    lines)
 
 -- what is told first of these lines
 abbrev pub first_told : List (List ℕ) → Option Verdict

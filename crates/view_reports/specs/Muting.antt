@@ -1,5 +1,5 @@
--- The stretches of muting of an end whose bound hasn't passed, in the order in which they began, and the breaks of those
--- whose bound passes. This project's profile. Cited by what is told of a line of a trace in a report.
+-- The stretches of muting of an end whose bound hasn't passed, in the order in which they began, and the breaks of
+-- those whose bound passes. This project's profile. Cited by what is told of a line of a trace in a report.
 use Rattle.std.specs.Prelude.{ℕ, ◌-◌, ◌==◌, ◌&&◌, nat_lt, Bool, List, [], ◌∷◌, ◌++◌, Option, Some, None, if◌then◌else◌}
 use Rattle.link_frames.specs.Legs.{muting_limit}
 use Rattle.link_frames.specs.declared.frame.End.{End}

@@ -1,5 +1,5 @@
--- What is kept of an end's leg of a call, and what an item of that leg makes of it. This project's profile. Cited by what
--- is told of a line of a trace in a report.
+-- What is kept of an end's leg of a call, and what an item of that leg makes of it. This project's profile. Cited by
+-- what is told of a line of a trace in a report.
 use Rattle.std.specs.Prelude.{ℕ, ◌&&◌, Bool, true, false, not, ◌||◌, Option, Some, None, if◌then◌else◌}
 use Rattle.std.specs.Bool.{beq}
 use Rattle.std.specs.Option.{unwrap_or}

@@ -66,7 +66,8 @@ watch_after w line (Err why) = w
 abbrev pub watch_from : (tick number : ℕ) → Watch → List (List ℕ) → Watch
 watch_from tick number w [] = w
 watch_from tick number w (line ∷ lines) =
-    watch_from (tick_after tick (judged_entry tick line)) (number + 1) (watch_after w number (judged_entry tick line)) lines
+    watch_from (tick_after tick (judged_entry tick line)) (number + 1) (watch_after w number (judged_entry tick line))
+    lines
 
 -- what is kept behind these lines
 abbrev pub watch_of : List (List ℕ) → Watch

@@ -1,5 +1,5 @@
--- How the next entry of a trace breaks the rules by which a trace is safe, by what is kept of the entries before it, and
--- what is kept behind it. This project's profile. Cited by what is told of a line of a trace in a report.
+-- How the next entry of a trace breaks the rules by which a trace is safe, by what is kept of the entries before it,
+-- and what is kept behind it. This project's profile. Cited by what is told of a line of a trace in a report.
 use Rattle.std.specs.Prelude.{ℕ, ◌-◌, ◌==◌, ◌&&◌, nat_lt, Bool, false, List, [], ◌++◌, Option, Some, None, if◌then◌else◌}
 use Rattle.link_frames.specs.Legs.{is_data_timer, least_opening, muting_limit}
 use Rattle.link_frames.specs.declared.frame.End.{End}
@@ -45,7 +45,8 @@ unopened (Some leg) calls n now =
 -- rule 3: a voice is muted within 20 ticks of its opening
 abbrev pub soon_of : Side → End → ℕ → (now : ℕ) → Option Break
 soon_of side e c now =
-    if side.is_up && (side.talks && nat_lt (now - side.since) least_opening) then Some (broken.Soon e c (now - side.since))
+    if side.is_up && (side.talks && nat_lt (now - side.since) least_opening)
+    then Some (broken.Soon e c (now - side.since))
     else None
 
 abbrev pub soon : CallRows → Note → (now : ℕ) → Option Break

@@ -4,7 +4,7 @@ use Rattle.call_io.specs.Blocks.{held}
 use Rattle.link_frames.specs.declared.frame.End.TheVariants as «end»
 use Rattle.live_link.specs.LiveOutcome.{streams}
 use Rattle.live_link.specs.Scripts.{script_from}
-use Rattle.live_link.proofs.PointLines.{peer_done, peer_ended, peer_fails}
+use Rattle.live_link.proofs.PointPeer.{peer_done, peer_ended, peer_fails}
 use Rattle.live_link.proofs.PointRounds.{still_peer}
 use Rattle.live_link.proofs.point_run.end_peer.Goals as goal
 
