@@ -6,13 +6,14 @@ it should."""
 import os
 import random
 import socket
-import subprocess
 import sys
 import threading
 import time
 
-HOST = "127.0.0.1"
-PORTS = range(20000, 30000)
+sys.dont_write_bytecode = True
+from linked_end import PORTS, begun, linked
+
+PAUSE = 0.002
 ROUNDS = 4_000_000
 TOGETHER = 100_000
 BOUND = 16_777_216
@@ -22,9 +23,10 @@ BLOCK = bytes(65536)
 
 
 def drain(link):
+    """Reads what comes, with pauses: else each octet wakes this process, and the end's system time is mostly that."""
     try:
         while link.recv(1 << 20):
-            pass
+            time.sleep(PAUSE)
     except OSError:
         pass
 
@@ -40,39 +42,15 @@ def send(link, octets, last):
         pass  # the end closed first
 
 
-def begun(program, end, port, script):
-    child = subprocess.Popen([program, end, str(port)], stdin=subprocess.PIPE, stdout=subprocess.DEVNULL, stderr=subprocess.DEVNULL)
-    child.stdin.write(script)
-    child.stdin.close()
-    return child
-
-
-def connected(port, point):
-    while point.poll() is None:
-        try:
-            return socket.create_connection((HOST, port))
-        except OSError:
-            time.sleep(0.005)
-    sys.exit("live: the point's port is taken; try again")
-
-
 def alone(program, end, script, octets, last=b""):
     """The status of an end to which these octets come, its processor time and the most memory that it took."""
-    with socket.socket() as listener:
-        listener.setsockopt(socket.SOL_SOCKET, socket.SO_REUSEADDR, 1)
-        port = random.choice(PORTS)
-        if end == "vehicle":
-            listener.bind((HOST, port))
-            listener.listen(1)
-        child = begun(program, end, port, script)
-        link = listener.accept()[0] if end == "vehicle" else connected(port, child)
+    with linked(program, end, script) as (child, link):
         reader = threading.Thread(target=drain, args=(link,))
         reader.start()
         send(link, octets, last)
         _, ended, used = os.wait4(child.pid, 0)
         reader.join()
-        link.close()
-        return os.waitstatus_to_exitcode(ended), used.ru_utime + used.ru_stime, used.ru_maxrss
+    return os.waitstatus_to_exitcode(ended), used.ru_utime + used.ru_stime, used.ru_maxrss
 
 
 def together(program):
@@ -120,4 +98,7 @@ def main(program):
 if __name__ == "__main__":
     if len(sys.argv) != 2:
         sys.exit(__doc__)
-    sys.exit(main(os.path.abspath(sys.argv[1])))
+    try:
+        sys.exit(main(os.path.abspath(sys.argv[1])))
+    except OSError as reason:
+        sys.exit(f"live: {reason}")

@@ -12,8 +12,9 @@ import subprocess
 import sys
 import time
 
-HOST = "127.0.0.1"
-PORTS = range(20000, 30000)
+sys.dont_write_bytecode = True
+from linked_end import linked
+
 PATIENCE = 20
 DONE, LINK_CUT, LINK_FAULT, NO_LINK = 0, 9, 10, 11
 FIRST = {"vehicle": (17, 18, 19, 32), "point": (16, 18, 20, 32)}
@@ -88,30 +89,12 @@ def exchange(link, octets):
         pass
 
 
-def connected(port, point):
-    while point.poll() is None:
-        try:
-            return socket.create_connection((HOST, port), PATIENCE)
-        except OSError:
-            time.sleep(0.005)
-    raise OSError("the point ended")
-
-
 def run(program, end, octets):
     """The status and the trace of an end to which these octets come."""
-    with socket.socket() as listener:
-        listener.setsockopt(socket.SOL_SOCKET, socket.SO_REUSEADDR, 1)
-        port = random.choice(PORTS)
-        if end == "vehicle":
-            listener.bind((HOST, port))
-            listener.listen(1)
-        child = subprocess.Popen([program, end, str(port)], stdin=subprocess.PIPE, stdout=subprocess.PIPE, stderr=subprocess.DEVNULL)
-        child.stdin.write(SCRIPT[end])
-        child.stdin.close()
-        with listener.accept()[0] if end == "vehicle" else connected(port, child) as link:
-            exchange(link, octets)
-        trace = child.stdout.read()
-        return child.wait(PATIENCE), trace
+    with linked(program, end, SCRIPT[end], subprocess.PIPE) as (child, link):
+        exchange(link, octets)
+    trace = child.stdout.read()
+    return child.wait(PATIENCE), trace
 
 
 def main(program, seconds):
