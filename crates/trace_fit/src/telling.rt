@@ -6,7 +6,7 @@ ghost use Rattle.trace_model.specs.Listener.{DeafCause};
 
 use link_frames::Note;
 use std::alloc::Global;
-use trace_model::{Deaf, Entry, Listener};
+use trace_model::{Deaf, Listener};
 
 /// Tells a listener these items, each as an entry at this tick, in ticks of 100 ms.
 pub fn tell<H: Listener>(alloc: Global, tick: u64, items: &[Note], to: &mut H) -> Result<(), Deaf>
@@ -17,7 +17,7 @@ pub fn tell<H: Listener>(alloc: Global, tick: u64, items: &[Note], to: &mut H) -
     ensures counted { H.faults to.old ≤ H.faults to.new }
 {
     for note in items {
-        to.hear(alloc, &Entry { tick, note: *note })?;
+        to.hear_item(alloc, tick, note)?;
     }
     Ok(())
 }

@@ -4,6 +4,7 @@ ghost use Rattle.trace_model.specs.Listener.{DeafCause};
 ghost use Rattle.trace_model.specs.declared.entry.Entry.{Entry};
 
 use crate::entry::Entry;
+use link_frames::Note;
 use std::alloc::Global;
 use thiserror::Error;
 
@@ -34,6 +35,17 @@ pub trait Listener {
         ensures stood { OnOk result (faults self.new ≡ faults self.old) }
         ensures cause { IfErr result (λ e. DeafCause e (faults self.old) (faults self.new)) }
         ensures counted { faults self.old ≤ faults self.new };
+
+    /// As `hear`, of an item at a tick, in ticks of 100 ms. A listener that keeps no entry need not have the item copied.
+    fn hear_item(&mut self, alloc: Global, tick: u64, item: &Note) -> Result<(), Deaf>
+        ensures ok { OnOk result (grew self.old self.new (record { tick = tick; note = item.now } ∷ [])) }
+        ensures err { OnErr result (partly self.old self.new (record { tick = tick; note = item.now } ∷ [])) }
+        ensures stood { OnOk result (faults self.new ≡ faults self.old) }
+        ensures cause { IfErr result (λ e. DeafCause e (faults self.old) (faults self.new)) }
+        ensures counted { faults self.old ≤ faults self.new }
+    {
+        self.hear(alloc, &Entry { tick, note: *item })
+    }
 
     // An unchanged listener grew by nothing.
     ghost unchanged: { (a : Self) → grew a a [] };

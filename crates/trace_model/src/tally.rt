@@ -41,15 +41,15 @@ impl Tally {
         [self.entries, self.calls, self.shown, self.acked, self.ticks]
     }
 
-    /// Counts an entry.
-    fn count(&mut self, entry: &Entry)
-        ensures { self.new ≡ tallied self.old entry.now }
+    /// Counts the entry that an item at a tick is.
+    fn count(&mut self, tick: u64, item: &Note)
+        ensures { self.new ≡ tallied self.old (record { tick = tick; note = item.now }) }
     {
         self.entries = count_one(self.entries, true);
-        self.calls = count_one(self.calls, is_up_point(&entry.note));
-        self.shown = count_one(self.shown, is_shown_set(&entry.note));
-        self.acked = count_one(self.acked, is_acked_set(&entry.note));
-        self.ticks = entry.tick;
+        self.calls = count_one(self.calls, is_up_point(item));
+        self.shown = count_one(self.shown, is_shown_set(item));
+        self.acked = count_one(self.acked, is_acked_set(item));
+        self.ticks = tick;
     }
 }
 
@@ -113,11 +113,18 @@ impl Listener for Tally {
 
     ghost faults = { λ _. 0 };
 
-    fn hear(&mut self, _alloc: Global, entry: &Entry) -> Result<(), Deaf>
+    fn hear(&mut self, alloc: Global, entry: &Entry) -> Result<(), Deaf>
         ensures heard { TallyGrew self.old self.new (entry.now ∷ []) }
         ensures always { result ≡ Ok tt }
     {
-        self.count(entry);
+        self.hear_item(alloc, entry.tick, &entry.note)
+    }
+
+    fn hear_item(&mut self, _alloc: Global, tick: u64, item: &Note) -> Result<(), Deaf>
+        ensures heard { TallyGrew self.old self.new (record { tick = tick; note = item.now } ∷ []) }
+        ensures always { result ≡ Ok tt }
+    {
+        self.count(tick, item);
         Ok(())
     }
 

@@ -4,8 +4,9 @@ ghost use Rattle.trace_model.specs.Listener.{DeafCause};
 ghost use Rattle.trace_text.specs.TextListener.{sink, sink_name, TextGrew, TextGrewPartly};
 ghost use Rattle.trace_text.specs.inner.TextListenerLaws.{TextGrew-nothing, TextGrew-append, TextGrewPartly-whole, TextGrewPartly-after, TextGrewPartly-longer};
 
-use crate::write::write_entry;
+use crate::write::write_item;
 use call_io::Sink;
+use link_frames::Note;
 use std::alloc::Global;
 use trace_model::{Deaf, Entry, Listener};
 
@@ -32,7 +33,7 @@ impl<'a, O: Sink> Listener for TextOut<'a, O> {
 
     ghost faults = { λ to. O.faults (sink to) };
 
-    fn hear(&mut self, _alloc: Global, entry: &Entry) -> Result<(), Deaf>
+    fn hear(&mut self, alloc: Global, entry: &Entry) -> Result<(), Deaf>
         ensures ok { OnOk result (TextGrew O.held O.way self.old self.new (entry.now ∷ [])) }
         ensures err { OnErr result (TextGrewPartly O.held O.way self.old self.new (entry.now ∷ [])) }
         ensures write { IfErr result (λ e. e ≡ Deaf.Write) }
@@ -40,7 +41,19 @@ impl<'a, O: Sink> Listener for TextOut<'a, O> {
         ensures cause { IfErr result (λ e. DeafCause e (O.faults (sink self.old)) (O.faults (sink self.new))) }
         ensures counted { O.faults (sink self.old) ≤ O.faults (sink self.new) }
     {
-        match write_entry(entry, self.out) {
+        self.hear_item(alloc, entry.tick, &entry.note)
+    }
+
+    fn hear_item(&mut self, _alloc: Global, tick: u64, item: &Note) -> Result<(), Deaf>
+        ensures ok { OnOk result (TextGrew O.held O.way self.old self.new (record { tick = tick; note = item.now } ∷ [])) }
+        ensures err { OnErr result
+            (TextGrewPartly O.held O.way self.old self.new (record { tick = tick; note = item.now } ∷ [])) }
+        ensures write { IfErr result (λ e. e ≡ Deaf.Write) }
+        ensures stood { OnOk result (O.faults (sink self.new) ≡ O.faults (sink self.old)) }
+        ensures cause { IfErr result (λ e. DeafCause e (O.faults (sink self.old)) (O.faults (sink self.new))) }
+        ensures counted { O.faults (sink self.old) ≤ O.faults (sink self.new) }
+    {
+        match write_item(tick, item, self.out) {
             Ok(()) => Ok(()),
             Err(_) => Err(Deaf::Write),
         }

@@ -66,57 +66,59 @@ fn push_tick<const N: usize>(line: &mut ArrayVec<u8, N>, tick: u64)
         .unwrap();
 }
 
-/// Builds the line of an entry whose item has no octets of a set.
-fn short_line(line: &mut ShortText, entry: &Entry)
+/// Builds the line of an item at a tick, which has no octets of a set.
+fn short_line(line: &mut ShortText, tick: u64, item: &Note)
     requires empty { line.old.items ≡ [] }
-    requires short { note_has_octets entry.now.note ≡ false }
-    ensures { line.new.items ≡ line_of entry.now }
+    requires short { note_has_octets item.now ≡ false }
+    ensures { line.new.items ≡ line_of (record { tick = tick; note = item.now }) }
 {
-    push_tick(line, entry.tick);
-    push_note_words(line, &entry.note);
+    push_tick(line, tick);
+    push_note_words(line, item);
     line.push(b'\n');
 }
 
-/// Builds the line of an entry whose item has the octets of a set.
-fn long_line(line: &mut LongText, entry: &Entry)
+/// Builds the line of an item at a tick, which has the octets of a set.
+fn long_line(line: &mut LongText, tick: u64, item: &Note)
     requires empty { line.old.items ≡ [] }
-    requires long { note_has_octets entry.now.note ≡ true }
-    ensures { line.new.items ≡ line_of entry.now }
+    requires long { note_has_octets item.now ≡ true }
+    ensures { line.new.items ≡ line_of (record { tick = tick; note = item.now }) }
 {
-    push_tick(line, entry.tick);
-    push_note_words(line, &entry.note);
+    push_tick(line, tick);
+    push_note_words(line, item);
     line.push(b'\n');
 }
 
-/// Writes the line of an entry whose item has no octets of a set. After a failure a front of it was written.
-fn write_short<O: Sink>(entry: &Entry, out: &mut O) -> Result<(), Failed>
-    requires short { note_has_octets entry.now.note ≡ false }
-    ensures ok { OnOk result (Grew (O.held out.old) (O.held out.new) (line_of entry.now)) }
-    ensures partly { OnErr result (GrewPartly (O.held out.old) (O.held out.new) (line_of entry.now)) }
+/// Writes the line of an item at a tick, which has no octets of a set. After a failure a front of it was written.
+fn write_short<O: Sink>(tick: u64, item: &Note, out: &mut O) -> Result<(), Failed>
+    requires short { note_has_octets item.now ≡ false }
+    ensures ok { OnOk result (Grew (O.held out.old) (O.held out.new) (line_of (record { tick = tick; note = item.now }))) }
+    ensures partly { OnErr result (GrewPartly (O.held out.old) (O.held out.new)
+        (line_of (record { tick = tick; note = item.now }))) }
     ensures stood { OnOk result (O.faults out.new ≡ O.faults out.old) }
     ensures cause { OnErr result (Rose (O.faults out.old) (O.faults out.new)) }
     ensures counted { O.faults out.old ≤ O.faults out.new }
     ensures onward { Onward (O.way out.old) (O.way out.new) }
 {
     let mut line = ShortText::new();
-    short_line(&mut line, entry);
+    short_line(&mut line, tick, item);
     write_all(out, &line)
 }
 
-/// Writes the line of an entry whose item has the octets of a set. After a failure a front of it was written.
+/// Writes the line of an item at a tick, which has the octets of a set. After a failure a front of it was written.
 // Never inlined: a call has room for the longest line, which a short one would pay for, too.
 #[inline(never)]
-fn write_long<O: Sink>(entry: &Entry, out: &mut O) -> Result<(), Failed>
-    requires long { note_has_octets entry.now.note ≡ true }
-    ensures ok { OnOk result (Grew (O.held out.old) (O.held out.new) (line_of entry.now)) }
-    ensures partly { OnErr result (GrewPartly (O.held out.old) (O.held out.new) (line_of entry.now)) }
+fn write_long<O: Sink>(tick: u64, item: &Note, out: &mut O) -> Result<(), Failed>
+    requires long { note_has_octets item.now ≡ true }
+    ensures ok { OnOk result (Grew (O.held out.old) (O.held out.new) (line_of (record { tick = tick; note = item.now }))) }
+    ensures partly { OnErr result (GrewPartly (O.held out.old) (O.held out.new)
+        (line_of (record { tick = tick; note = item.now }))) }
     ensures stood { OnOk result (O.faults out.new ≡ O.faults out.old) }
     ensures cause { OnErr result (Rose (O.faults out.old) (O.faults out.new)) }
     ensures counted { O.faults out.old ≤ O.faults out.new }
     ensures onward { Onward (O.way out.old) (O.way out.new) }
 {
     let mut line = LongText::new();
-    long_line(&mut line, entry);
+    long_line(&mut line, tick, item);
     write_all(out, &line)
 }
 
@@ -129,9 +131,22 @@ pub fn write_entry<O: Sink>(entry: &Entry, out: &mut O) -> Result<(), Failed>
     ensures counted { O.faults out.old ≤ O.faults out.new }
     ensures onward { Onward (O.way out.old) (O.way out.new) }
 {
-    if has_octets(&entry.note) {
-        write_long(entry, out)
+    write_item(entry.tick, &entry.note, out)
+}
+
+/// Writes the line of the entry that an item at a tick is. After a failure a front of it was written.
+pub(crate) fn write_item<O: Sink>(tick: u64, item: &Note, out: &mut O) -> Result<(), Failed>
+    ensures ok { OnOk result (Grew (O.held out.old) (O.held out.new) (line_of (record { tick = tick; note = item.now }))) }
+    ensures partly { OnErr result (GrewPartly (O.held out.old) (O.held out.new)
+        (line_of (record { tick = tick; note = item.now }))) }
+    ensures stood { OnOk result (O.faults out.new ≡ O.faults out.old) }
+    ensures cause { OnErr result (Rose (O.faults out.old) (O.faults out.new)) }
+    ensures counted { O.faults out.old ≤ O.faults out.new }
+    ensures onward { Onward (O.way out.old) (O.way out.new) }
+{
+    if has_octets(item) {
+        write_long(tick, item, out)
     } else {
-        write_short(entry, out)
+        write_short(tick, item, out)
     }
 }

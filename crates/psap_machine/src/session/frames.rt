@@ -54,7 +54,8 @@ impl Session {
         if self.is_over() {
             items.clear()
         } else if self.shown.has(request) {
-            fill(items, &[self.sends(Frame::Ack(request))])
+            items.clear();
+            items.push(self.sends(Frame::Ack(request)));
         } else if request.number() <= self.asked {
             self.shows(request, octets, items)
         } else {

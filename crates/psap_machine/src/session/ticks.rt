@@ -105,10 +105,9 @@ impl Session {
         ensures { items.new.items ≡ (if to_next 5 self.now.in_phase == 0
             then note.Send «end».Point self.now.call frame ∷ [] else []) }
     {
+        items.clear();
         if self.in_phase.is_multiple_of(REPEATS_EVERY) {
-            fill(items, &[self.sends(frame)])
-        } else {
-            items.clear()
+            items.push(self.sends(frame));
         }
     }
 
