@@ -1,5 +1,5 @@
 -- Unit ticks: n of them give what the lines give once n ticks have gone, where no line acts before.
-use Rattle.std.proofs.Common.{◌≡◌, ◌≤◌, ℕ, zero, suc, List, [], Some, None, refl, sym, ap, arith, rules, ◌∙◌, IfSome}
+use Rattle.std.proofs.Common.{◌≡◌, ◌≤◌, ◌<◌, ℕ, zero, suc, List, [], Some, None, refl, sym, ap, arith, rules, ◌∙◌, IfSome}
 use Rattle.std.specs.Prelude.{Option}
 use Rattle.std.proofs.lemmas.Bool.Decides.{nat_tests}
 use Rattle.link_frames.specs.declared.note.Note.{Note}
@@ -67,6 +67,10 @@ ticks_pass zero s kept least due = absurd (omega arith)
 ticks_pass (suc n) s kept least due =
     let leaves : Leaves n (aged 1 s) = due_leaves n (deadlines (aged 1 s) (aged 1 s).phase) due in
     (ticks_act n s leaves, aged_kept n s kept leaves)
+
+-- before what is due n unit ticks only let the sums grow
+pub ticks_rest : (n : ℕ) (s : Point) → IfSome (due_of s) (λ due. n < due) → units n s ≡ silent (aged n s)
+ticks_rest n s due = quiet_ticks n s (due_leaves n (deadlines (aged 1 s) (aged 1 s).phase) due)
 
 -- What is due is the least number of unit ticks that give an item.
 

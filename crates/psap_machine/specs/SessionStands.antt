@@ -1,7 +1,7 @@
 -- Which states of the answering point's session a `Session` stands for: one equation for each of its fields, where its
 -- two sums agree up to the greatest u32, and what every such state keeps. This project's profile. Cited by the
 -- contracts of `Session`, and by what stands on it.
-use Rattle.std.specs.Prelude.{◌≡◌, ℕ, List, [], ◌∷◌, Option, Some, None, min, ◌-◌, ◌^◌}
+use Rattle.std.specs.Prelude.{◌≡◌, ◌⊎◌, ℕ, List, [], ◌∷◌, Option, Some, None, min, ◌-◌, ◌^◌}
 use Rattle.audio_switch.specs.Switch.{Switching}
 use Rattle.audio_switch.specs.declared.switch.Stretch.TheVariants.{Muted, Open}
 use Rattle.link_frames.specs.Legs.{Kept, muting_limit}
@@ -49,3 +49,7 @@ pub record SessionIs (session : Session) (s : Point) : Type 0 where
 pub record SessionStandsFor (session : Session) (s : Point) : Type 0 where
   pub is : SessionIs session s
   pub kept : IsKept s
+
+-- The session waits for nothing: it only talks, or is over.
+abbrev pub WaitsForNothing : Session → Type 0
+WaitsForNothing session = (session.phase ≡ phase.Talking) ⊎ (session.phase ≡ phase.Over)

@@ -40,20 +40,20 @@ enum Phase {
     Over,
 }
 
-/// The answering point's session of one call.
+/// The answering point's session of one call. What changes as ticks pass stands in front, side by side.
 #[derive(Debug, Drop)]
 pub struct Session {
     call: u32,
     phase: Phase,
-    /// The greatest request asked, and 0 before the first; all from 1 to it were asked.
-    asked: u8,
-    /// The requests whose set was shown.
-    shown: Requests,
-    /// The request whose set was shown last.
-    last: Option<Request>,
     /// The ticks in the phase; the number stays at its greatest.
     in_phase: u32,
     voice: Switch,
+    /// The greatest request asked, and 0 before the first; all from 1 to it were asked.
+    asked: u8,
+    /// The request whose set was shown last.
+    last: Option<Request>,
+    /// The requests whose set was shown.
+    shown: Requests,
 }
 
 impl Session {
@@ -85,11 +85,11 @@ impl Session {
         let session = Session {
             call,
             phase: Phase::Listening,
-            asked: 0,
-            shown: Requests::none(),
-            last: None,
             in_phase: 0,
             voice: Switch::muted(MOST_MUTED),
+            asked: 0,
+            last: None,
+            shown: Requests::none(),
         };
         session.comes_up(items);
         session
@@ -113,11 +113,11 @@ impl Session {
         let session = Session {
             call,
             phase: Phase::Talking,
-            asked: 0,
-            shown: Requests::none(),
-            last: None,
             in_phase: 0,
             voice: Switch::opened(MOST_MUTED),
+            asked: 0,
+            last: None,
+            shown: Requests::none(),
         };
         session.comes_up(items);
         session

@@ -1,8 +1,9 @@
 //! What the session does as ticks pass. After EN 16062.
-ghost use Rattle.std.specs.Prelude.{◌≡◌, IsTrue};
+ghost use Rattle.std.specs.Prelude.{◌≡◌, ◌↔◌, ◌≤◌, ◌<◌, ◌+◌, None, IsTrue, IfSome};
 
 use super::{LONGEST_ASKING, LONGEST_LISTENING, Phase, REPEATS_EVERY, Session, TELLING};
-use link_frames::{Answer, End, Frame, Items, Note, Timer, Why, fill};
+use link_frames::{Answer, End, Frame, Items, Note, Steps, Timer, Why, fill};
+use std::sync::ledger::Ledger;
 
 impl Session {
     ghost use Rattle.std.specs.Prelude.{true, [], ◌∷◌, ◌==◌, if◌then◌else◌};
@@ -13,8 +14,8 @@ impl Session {
     ghost use Rattle.link_frames.specs.declared.frame.End.TheVariants as «end»;
     ghost use Rattle.link_frames.specs.declared.note.Note.TheVariants as note;
     ghost use Rattle.psap_machine.specs.Point.{Point, Over};
-    ghost use Rattle.psap_machine.specs.PointRows.{acts, due_of};
-    ghost use Rattle.psap_machine.specs.SessionStands.{SessionIs, SessionStandsFor};
+    ghost use Rattle.psap_machine.specs.PointRows.{acts, due_of, units};
+    ghost use Rattle.psap_machine.specs.SessionStands.{SessionIs, SessionStandsFor, WaitsForNothing};
     ghost use Rattle.psap_machine.specs.inner.Ageing.{aged_in, SessionIsDue};
 
     /// The least ticks that a timer or a repeat of the phase has left.
@@ -32,6 +33,7 @@ impl Session {
     }
 
     /// Each sum that runs, `n` ticks later; a voice is muted for at most its limit.
+    #[inline]
     pub(super) fn age(&mut self, n: u32)
         ensures { self.new ≡ aged_in n self.old self.old.phase }
     {
@@ -40,6 +42,27 @@ impl Session {
             let room = self.voice.room().unwrap_or(n);
             self.voice.pass(n.min(room));
         }
+    }
+
+    /// Whether it waits for nothing: it only talks, or is over, and does nothing however many ticks pass.
+    pub fn waits_for_nothing(&self) -> bool
+        ensures state { IsTrue result ↔ WaitsForNothing self.now }
+        ensures due { (s : Point) → SessionStandsFor self.now s → IsTrue result ↔ (due_of s ≡ None) }
+    {
+        matches!(self.phase, Phase::Talking | Phase::Over)
+    }
+
+    /// Lets `n` ticks of 100 ms pass in which the session does nothing: at least one, and fewer than `due`.
+    #[inline]
+    pub fn rest<L: Ledger>(&mut self, n: u32, moments: &mut Steps<L>)
+        requires least { 1 ≤ n }
+        requires due { (s : Point) → SessionStandsFor self.old s → IfSome (due_of s) (λ due. n < due) }
+        ensures ticks { Does SessionStandsFor SessionStandsFor self.old self.new [] (units n) }
+        ensures waits { WaitsForNothing self.old → WaitsForNothing self.new }
+        ensures moments { moments.new ≡ moments.old + 1 }
+    {
+        moments.tick();
+        self.age(n);
     }
 
     /// What the timers and repeats do that have no ticks left; mostly all have some.
