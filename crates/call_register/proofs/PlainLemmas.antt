@@ -5,6 +5,7 @@ use Rattle.std.specs.Str.{IsAscii, IsUtf8}
 use Rattle.std.proofs.lemmas.Bool.{agree_below, agree_below_at, eqb-true, ltb-true}
 use Rattle.std.proofs.lemmas.Str.{IsUtf8-from_ascii}
 use Rattle.hex.specs.Hex.{encode_lower, encode_with, lower_digits}
+use Rattle.hex.proofs.HexLemmas.{IsAscii-encode_with}
 use Rattle.json.specs.Print.{escape, escape_byte, escape_letter, quoted}
 use Rattle.per_bits.specs.Parts.{AreOctets}
 use Rattle.msd_values.specs.Alphabet.{alphabet, is_vin_character}
@@ -43,6 +44,11 @@ ascii (c ∷ cs) all (suc i) = ascii cs (second_true (nat_lt c 128) (list_all (�
 -- an identification number is text
 pub vin_is_text : (text : List ℕ) → IsVin text → IsUtf8 text
 vin_is_text text vin = IsUtf8-from_ascii text (ascii text (vin_passes (λ c. nat_lt c 128) text refl vin.1))
+
+-- hexadecimal digits are text
+pub hexadecimal_is_text : (octets : List ℕ) → IsUtf8 (encode_lower octets)
+hexadecimal_is_text octets =
+    IsUtf8-from_ascii (encode_lower octets) (IsAscii-encode_with lower_digits octets (ascii lower_digits refl))
 
 -- ---- escapes
 

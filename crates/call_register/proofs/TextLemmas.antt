@@ -1,122 +1,229 @@
--- The text of a table's JSON value is the table's text.
-use Rattle.std.proofs.Common.{◌≡◌, ℕ, ◌||◌, false, true, List, [], ◌∷◌, ◌++◌, map, Option, Some, None, codes, decimal, refl, sym, ap, ◌∙◌, append_assoc}
+-- The text of a table's tokens is the table's text. The tokens are stated with those that come behind them.
+use Rattle.std.proofs.Common.{◌≡◌, ℕ, Bool, true, false, List, [], ◌∷◌, ◌++◌, fold, map, Option, Some, None, codes, decimal, refl, sym, ap, ◌∙◌, append_assoc}
 use Rattle.std.specs.List.{concat, join_with_byte}
 use Rattle.std.specs.Option.{option_map}
+use Rattle.std.proofs.lemmas.List.{append-nil}
 use Rattle.hex.specs.Hex.{encode_lower}
-use Rattle.json.specs.Print.{quoted}
-use Rattle.serde_json.specs.Data.{Data}
-use Rattle.serde_json.specs.View.{items_of}
-use Rattle.serde_json.specs.Written.{compact_text, has_float, items_have_float, items_text}
-use Rattle.serde_json.proofs.OnLiterals.{serde_json_on_literals}
+use Rattle.json.specs.Token.{Token, begin_object, end_object, begin_array, end_array, key, string, number, null}
+use Rattle.json.specs.Print.{print, print_from, quoted, separator}
+use Rattle.json.proofs.OnLiterals.{json_on_literals}
 use Rattle.link_frames.specs.declared.note.Why.{Why}
 use Rattle.link_frames.specs.declared.note.Why.TheVariants as why
 use Rattle.trace_text.specs.EntryLine.{why_word}
 use Rattle.call_register.specs.Rows.{Row, Rows}
 use Rattle.call_register.specs.Text.{array_text, in_quotes, or_null, row_text, set_text, table_text}
 use Rattle.call_register.specs.Vins.{vin_of}
-use Rattle.call_register.specs.inner.Data.{number_data, row_data, set_data, table_data, text_data, until_data, why_data}
+use Rattle.call_register.specs.inner.Tokens.{text_token, until_token, why_token, with_row, with_set, with_sets, with_table}
 use Rattle.call_register.specs.declared.record.Ending.{Ending}
 use Rattle.call_register.specs.declared.record.ShownSet.{ShownSet}
 
--- ---- arrays
+-- ---- what is told, and the tokens behind it
 
-items_joined : (d : Data) (ds : List Data) →
-    compact_text d ++ items_text true (items_of ds) ≡ join_with_byte 44 (map compact_text (d ∷ ds)) ++ 93 ∷ []
-items_joined d [] = refl
-items_joined d (e ∷ ds) =
-    ap (λ l. compact_text d ++ 44 ∷ l) (items_joined e ds)
-    ∙ sym (append_assoc (compact_text d) (44 ∷ join_with_byte 44 (map compact_text (e ∷ ds))) (93 ∷ []))
+-- a set that was shown, with this token for its identification number
+abbrev set_then_by : Token → ShownSet → List Token → List Token
+set_then_by vin set rest =
+    begin_object
+    ∷ key (codes "octets") ∷ string (encode_lower set.octets)
+    ∷ key (codes "request") ∷ number (decimal set.request)
+    ∷ key (codes "tick") ∷ number (decimal set.tick)
+    ∷ key (codes "vin") ∷ vin
+    ∷ end_object ∷ rest
 
-array_is : (ds : List Data) → 91 ∷ items_text false (items_of ds) ≡ array_text (map compact_text ds)
-array_is [] = refl
-array_is (d ∷ ds) = ap (λ l. 91 ∷ l) (items_joined d ds)
+abbrev set_then : ShownSet → List Token → List Token
+set_then set = set_then_by (text_token (vin_of set.octets)) set
 
--- ---- parts that may be null
+-- each item, with what comes behind all
+abbrev each_then : {A : Type 0} → (A → List Token → List Token) → List A → List Token → List Token
+each_then one [] rest = rest
+each_then one (x ∷ xs) rest = one x (each_then one xs rest)
 
-text_is : (o : Option (List ℕ)) → compact_text (text_data o) ≡ or_null (option_map quoted o)
-text_is None = refl
-text_is (Some text) = refl
+abbrev array_then : {A : Type 0} → (A → List Token → List Token) → List A → List Token → List Token
+array_then one xs rest = begin_array ∷ each_then one xs (end_array ∷ rest)
 
-until_is : (o : Option Ending) → compact_text (until_data o) ≡ or_null (option_map (λ ending. decimal ending.tick) o)
-until_is None = refl
-until_is (Some ending) = refl
+abbrev row_then : ℕ × Row → List Token → List Token
+row_then row rest =
+    begin_object
+    ∷ key (codes "call") ∷ number (decimal row.0)
+    ∷ key (codes "from") ∷ number (decimal row.1.from)
+    ∷ key (codes "sets") ∷ array_then set_then row.1.sets
+    (key (codes "until") ∷ until_token row.1.ending
+    ∷ key (codes "why") ∷ why_token row.1.ending
+    ∷ end_object ∷ rest)
+
+-- what stands behind these tokens after each item, and what comes behind it
+with_each : {A : Type 0} (with : List Token → A → List Token) (one : A → List Token → List Token)
+    → ((tokens rest : List Token) (x : A) → with tokens x ++ rest ≡ tokens ++ one x rest)
+    → (tokens rest : List Token) (xs : List A) → fold with tokens xs ++ rest ≡ tokens ++ each_then one xs rest
+with_each with one is tokens rest [] = refl
+with_each with one is tokens rest (x ∷ xs) =
+    with_each with one is (with tokens x) rest xs ∙ is tokens (each_then one xs rest) x
+
+-- the same of an array
+with_array : {A : Type 0} (with : List Token → A → List Token) (one : A → List Token → List Token)
+    → ((tokens rest : List Token) (x : A) → with tokens x ++ rest ≡ tokens ++ one x rest)
+    → (tokens rest : List Token) (xs : List A) →
+    (fold with (tokens ++ begin_array ∷ []) xs ++ end_array ∷ []) ++ rest ≡ tokens ++ array_then one xs rest
+with_array with one is tokens rest xs =
+    append_assoc (fold with (tokens ++ begin_array ∷ []) xs) (end_array ∷ []) rest
+    ∙ with_each with one is (tokens ++ begin_array ∷ []) (end_array ∷ rest) xs
+    ∙ append_assoc tokens (begin_array ∷ []) (each_then one xs (end_array ∷ rest))
+
+with_set-then : (tokens rest : List Token) (set : ShownSet) → with_set tokens set ++ rest ≡ tokens ++ set_then set rest
+with_set-then tokens rest set = simp append_assoc
+
+with_row-then : (tokens rest : List Token) (row : ℕ × Row) → with_row tokens row ++ rest ≡ tokens ++ row_then row rest
+with_row-then tokens rest row =
+    let front = tokens ++ (
+    begin_object
+    ∷ key (codes "call") ∷ number (decimal row.0)
+    ∷ key (codes "from") ∷ number (decimal row.1.from)
+    ∷ key (codes "sets") ∷ []
+    ) in
+    let back = key (codes "until") ∷ until_token row.1.ending
+    ∷ key (codes "why") ∷ why_token row.1.ending
+    ∷ end_object ∷ rest in
+    let regrouped : with_row tokens row ++ rest ≡ with_sets front row.1.sets ++ back = simp append_assoc in
+    regrouped
+    ∙ with_array with_set set_then with_set-then front back row.1.sets
+    ∙ append_assoc tokens _ (array_then set_then row.1.sets back)
+
+-- ---- pieces of a text, and the text behind them
+
+abbrev pieces_then : List (List ℕ) → List ℕ → List ℕ
+pieces_then [] rest = rest
+pieces_then (x ∷ xs) rest = x ++ pieces_then xs rest
+
+concat-append : (xs : List (List ℕ)) (rest : List ℕ) → concat xs ++ rest ≡ pieces_then xs rest
+concat-append [] rest = refl
+concat-append (x ∷ xs) rest = append_assoc x (concat xs) rest ∙ ap (λ l. x ++ l) (concat-append xs rest)
+
+-- ---- what is printed
+
+-- the text of a value, wherever its tokens stand
+abbrev Prints : {A : Type 0} → (A → List Token → List Token) → (A → List ℕ) → Type 0
+Prints {A} one text =
+    (after_value : Bool) (rest : List Token) (x : A) →
+    print_from after_value (one x rest) ≡ separator after_value begin_object ++ (text x ++ print_from true rest)
+
+-- some items of an array, with its end
+each_printed : {A : Type 0} (one : A → List Token → List Token) (text : A → List ℕ) → Prints one text
+    → (after_value : Bool) (rest : List Token) (x : A) (xs : List A) →
+    print_from after_value (each_then one (x ∷ xs) (end_array ∷ rest))
+    ≡ separator after_value begin_object ++ (join_with_byte 44 (map text (x ∷ xs)) ++ 93 ∷ print_from true rest)
+unfolding print_from
+each_printed one text prints after_value rest x [] = prints after_value (end_array ∷ rest) x
+each_printed one text prints after_value rest x (y ∷ ys) =
+    prints after_value (each_then one (y ∷ ys) (end_array ∷ rest)) x
+    ∙ ap (λ l. separator after_value begin_object ++ (text x ++ l)) (each_printed one text prints true rest y ys)
+    ∙ ap (λ l. separator after_value begin_object ++ l)
+    (sym (append_assoc (text x) (44 ∷ join_with_byte 44 (map text (y ∷ ys))) (93 ∷ print_from true rest)))
+
+array_printed : {A : Type 0} (one : A → List Token → List Token) (text : A → List ℕ) → Prints one text
+    → (rest : List Token) (xs : List A) →
+    print_from false (array_then one xs rest) ≡ array_text (map text xs) ++ print_from true rest
+unfolding print_from
+array_printed one text prints rest [] = refl
+array_printed one text prints rest (x ∷ xs) =
+    ap (λ l. 91 ∷ l) (each_printed one text prints false rest x xs
+    ∙ sym (append_assoc (join_with_byte 44 (map text (x ∷ xs))) (93 ∷ []) (print_from true rest)))
 
 word_is : (w : Why) → quoted (why_word w) ≡ in_quotes (why_word w)
-unfolding serde_json_on_literals
+unfolding json_on_literals
 word_is why.Release = refl
 word_is why.Hangup = refl
 word_is why.Lost = refl
 
-why_is : (o : Option Ending) →
-    compact_text (why_data o) ≡ or_null (option_map (λ ending. in_quotes (why_word ending.why)) o)
-why_is None = refl
-why_is (Some ending) = word_is ending.why
-
--- ---- objects
-
-set_is : (set : ShownSet) → compact_text (set_data set) ≡ set_text set
-unfolding serde_json_on_literals
-set_is set =
-    ap (λ vin. concat (
+-- the pieces of a set in front of its identification number
+abbrev set_front : ShownSet → List (List ℕ)
+set_front set =
     codes "{\"octets\":" ∷ quoted (encode_lower set.octets)
     ∷ codes ",\"request\":" ∷ decimal set.request
     ∷ codes ",\"tick\":" ∷ decimal set.tick
-    ∷ codes ",\"vin\":" ∷ vin
-    ∷ codes "}" ∷ []
-    )) (text_is (vin_of set.octets))
+    ∷ codes ",\"vin\":" ∷ []
 
-sets_are : (sets : List ShownSet) → map compact_text (map set_data sets) ≡ map set_text sets
-sets_are [] = refl
-sets_are (set ∷ sets) = λ i. set_is set i ∷ sets_are sets i
+set_printed : Prints set_then set_text
+unfolding json_on_literals
+set_printed after_value rest set = by (vin_of set.octets)
+  where
+    pieces : (vin : List ℕ) →
+        separator after_value begin_object
+        ++ pieces_then (set_front set ++ vin ∷ codes "}" ∷ []) (print_from true rest)
+        ≡ separator after_value begin_object
+        ++ (concat (set_front set ++ vin ∷ codes "}" ∷ []) ++ print_from true rest)
+    pieces vin =
+        ap (λ l. separator after_value begin_object ++ l)
+        (sym (concat-append (set_front set ++ vin ∷ codes "}" ∷ []) (print_from true rest)))
 
-row_is : (row : ℕ × Row) → compact_text (row_data row) ≡ row_text row
-unfolding serde_json_on_literals
-row_is row =
-    let sets = array_is (map set_data row.1.sets) ∙ ap array_text (sets_are row.1.sets) in
-    let until = until_is row.1.ending in
-    let word = why_is row.1.ending in
-    λ i. concat (
+    by : (vin : Option (List ℕ)) →
+        print_from after_value (set_then_by (text_token vin) set rest)
+        ≡ separator after_value begin_object
+        ++ (concat (set_front set ++ or_null (option_map quoted vin) ∷ codes "}" ∷ []) ++ print_from true rest)
+    by None = pieces (codes "null")
+    by (Some vin) = pieces (quoted vin)
+
+-- the pieces of a row in front of its sets
+abbrev row_front : ℕ × Row → List (List ℕ)
+row_front row =
     codes "{\"call\":" ∷ decimal row.0
     ∷ codes ",\"from\":" ∷ decimal row.1.from
-    ∷ codes ",\"sets\":" ∷ sets i
-    ∷ codes ",\"until\":" ∷ until i
-    ∷ codes ",\"why\":" ∷ word i
-    ∷ codes "}" ∷ []
-    )
+    ∷ codes ",\"sets\":" ∷ []
 
-rows_are : (rows : Rows) → map compact_text (map row_data rows) ≡ map row_text rows
-rows_are [] = refl
-rows_are (row ∷ rows) = λ i. row_is row i ∷ rows_are rows i
+-- and those behind its sets
+abbrev row_back : (until word : List ℕ) → List (List ℕ)
+row_back until word = codes ",\"until\":" ∷ until ∷ codes ",\"why\":" ∷ word ∷ codes "}" ∷ []
+
+row_printed : Prints row_then row_text
+unfolding json_on_literals
+row_printed after_value rest row = by row.1.ending
+  where
+    sets : List ℕ
+    sets = array_text (map set_text row.1.sets)
+
+    told : (until word : List ℕ) → List ℕ
+    told until word =
+        separator after_value begin_object
+        ++ (concat (row_front row ++ sets ∷ row_back until word) ++ print_from true rest)
+
+    front : (back : List Token) →
+        print_from after_value (
+        begin_object
+        ∷ key (codes "call") ∷ number (decimal row.0)
+        ∷ key (codes "from") ∷ number (decimal row.1.from)
+        ∷ key (codes "sets") ∷ array_then set_then row.1.sets back
+        )
+        ≡ separator after_value begin_object ++ pieces_then (row_front row) (sets ++ print_from true back)
+    front back =
+        ap (λ l. separator after_value begin_object ++ pieces_then (row_front row) l)
+        (array_printed set_then set_text set_printed back row.1.sets)
+
+    pieces : (until word : List ℕ) →
+        separator after_value begin_object
+        ++ pieces_then (row_front row) (sets ++ pieces_then (row_back until word) (print_from true rest))
+        ≡ told until word
+    pieces until word =
+        ap (λ l. separator after_value begin_object ++ l)
+        (sym (concat-append (row_front row ++ sets ∷ row_back until word) (print_from true rest)))
+
+    by : (ending : Option Ending) →
+        print_from after_value (row_then (row.0, record { from = row.1.from; sets = row.1.sets; ending = ending }) rest)
+        ≡ told (or_null (option_map (λ e. decimal e.tick) ending))
+        (or_null (option_map (λ e. in_quotes (why_word e.why)) ending))
+    by None =
+        front (key (codes "until") ∷ null ∷ key (codes "why") ∷ null ∷ end_object ∷ rest)
+        ∙ pieces (codes "null") (codes "null")
+    by (Some ending) =
+        front (
+        key (codes "until") ∷ number (decimal ending.tick)
+        ∷ key (codes "why") ∷ string (why_word ending.why)
+        ∷ end_object ∷ rest
+        )
+        ∙ pieces (decimal ending.tick) (quoted (why_word ending.why))
+        ∙ ap (told (decimal ending.tick)) (word_is ending.why)
 
 -- the text of a table
-pub table_is : (rows : Rows) → compact_text (table_data rows) ≡ table_text rows
-unfolding table_text
-table_is rows = array_is (map row_data rows) ∙ ap array_text (rows_are rows)
-
--- ---- no floats
-
-text_whole : (o : Option (List ℕ)) → has_float (text_data o) ≡ false
-text_whole None = refl
-text_whole (Some text) = refl
-
-number_whole : (o : Option ℕ) → has_float (number_data o) ≡ false
-number_whole None = refl
-number_whole (Some n) = refl
-
-sets_whole : (sets : List ShownSet) → items_have_float (items_of (map set_data sets)) ≡ false
-sets_whole [] = refl
-sets_whole (set ∷ sets) = λ i. (text_whole (vin_of set.octets) i || false) || sets_whole sets i
-
-row_whole : (row : ℕ × Row) → has_float (row_data row) ≡ false
-row_whole row =
-    let until = number_whole (option_map (λ e. e.tick) row.1.ending) in
-    let word = text_whole (option_map (λ e. why_word e.why) row.1.ending) in
-    λ i. sets_whole row.1.sets i || (until i || (word i || false))
-
-rows_whole : (rows : Rows) → items_have_float (items_of (map row_data rows)) ≡ false
-rows_whole [] = refl
-rows_whole (row ∷ rows) = λ i. row_whole row i || rows_whole rows i
-
--- a table has no floats
-pub table_whole : (rows : Rows) → has_float (table_data rows) ≡ false
-table_whole rows = rows_whole rows
+pub table_is : (rows : Rows) → print (with_table [] rows) ≡ table_text rows
+unfolding table_text print_from
+table_is rows =
+    ap print (sym (append-nil (with_table [] rows)) ∙ with_array with_row row_then with_row-then [] [] rows)
+    ∙ array_printed row_then row_text row_printed [] rows
+    ∙ append-nil (table_text rows)

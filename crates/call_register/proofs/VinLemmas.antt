@@ -19,8 +19,8 @@ joined_all vin =
     ∙ take-append-drop 3 vin
 
 -- octets that are read as a set have its number
-pub vin_of-read : (octets : List ℕ) (msd : Msd) → reading_of octets ≡ Ok (tree msd) → vin_of octets ≡ Some msd.vin
-vin_of-read octets msd is = ap vin_in is ∙ ap Some (joined_all msd.vin)
+pub vin_of_read : (octets : List ℕ) (msd : Msd) → reading_of octets ≡ Ok (tree msd) → vin_of octets ≡ Some msd.vin
+vin_of_read octets msd is = ap vin_in is ∙ ap Some (joined_all msd.vin)
 
 -- octets that are refused have none
 pub vin_of-refused : (octets : List ℕ) (refusal : Refusal) → reading_of octets ≡ Err refusal → vin_of octets ≡ None

@@ -1,3 +1,3 @@
-pub mod Data
 pub mod Grown
 pub mod Heard
+pub mod Tokens

@@ -1,18 +1,17 @@
 //! The register, as a listener of a trace.
-ghost use Rattle.std.specs.Prelude.{◌≡◌, [], map, string_bytes, IfOk, OnOk, OnErr};
+ghost use Rattle.std.specs.Prelude.{◌≡◌, [], string_bytes, IfOk, OnOk, OnErr};
 ghost use Rattle.link_frames.specs.declared.note.Note.TheVariants as note;
-ghost use Rattle.serde_json.specs.View.{view};
 ghost use Rattle.call_register.specs.Table.{table};
 ghost use Rattle.call_register.specs.Text.{table_text};
-ghost use Rattle.call_register.specs.inner.Data.{row_data};
 ghost use Rattle.call_register.specs.inner.Heard.{at_call, heard, with_call, with_ending, with_set};
+ghost use Rattle.call_register.specs.inner.Tokens.{with_table};
 
 use crate::record::{CallRecord, Ending, ShownSet};
-use crate::text::record_value;
+use crate::text::write_record;
 use call_io::Memory;
 use indexmap::IndexMap;
+use json::Writer;
 use link_frames::{End, Note, Why};
-use serde_json::{Value, push};
 use std::alloc::{AllocError, Global};
 use std::marker::Model;
 use trace_model::{Deaf, Entry, Listener};
@@ -125,23 +124,29 @@ impl Register {
         }
     }
 
-    /// Each call as JSON, in order.
-    fn values(&self, alloc: Global) -> Result<Vec<Value>, AllocError>
-        ensures { IfOk result (λ vs. map view vs.items ≡ map row_data self.now) }
+    /// Writes each call, in order.
+    fn write(&self, out: &mut Writer) -> Result<(), AllocError>
+        ensures tokens { OnOk result (out.new.tokens ≡ with_table out.old.tokens self.now) }
+        ensures before { out.new.before ≡ out.old.before }
     {
-        let mut values = Vec::new(alloc);
+        out.begin_array()?;
         for (call, kept) in &self.calls {
-            push(&mut values, record_value(alloc, *call, kept)?)?;
+            write_record(out, *call, kept)?;
         }
-        Ok(values)
+        out.end_array()
     }
 
     /// The text, unless there is no memory.
+    #[tactic(auto, using(crate::proofs::TextLemmas::table_is))]
     fn text(&self, alloc: Global) -> Result<String, AllocError>
         ensures { IfOk result (λ text. string_bytes text ≡ table_text self.now) }
     {
-        let whole = Value::from(self.values(alloc)?);
-        whole.to_string(alloc)
+        let mut out = Writer::new(Vec::new(alloc));
+        self.write(&mut out)?;
+        match String::from_utf8(out.into_inner()) {
+            Ok(text) => Ok(text),
+            Err(_) => unreachable!(),
+        }
     }
 
     /// The register as compact JSON: an array with one object for each call, in the order in which they came up.
