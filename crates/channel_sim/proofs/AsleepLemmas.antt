@@ -1,16 +1,18 @@
 -- Calls in whose sessions nothing is due: which of the first stay so when a call changes, and that they rest.
-use Rattle.std.proofs.Common.{◌≡◌, ℕ, zero, suc, ◌+◌, ◌-◌, ◌<◌, ◌≤◌, ◌⊎◌, inl, inr, Option, Some, None, IfSome, List, [], ◌∷◌, ◌++◌, length, get_or, take, refl, ap, sym, ◌∙◌, subst, arith}
+use Rattle.std.proofs.Common.{◌≡◌, ℕ, zero, suc, ◌+◌, ◌-◌, ◌<◌, ◌≤◌, ◌⊎◌, inl, inr, Option, Some, None, IfSome, List, [], ◌∷◌, ◌++◌, length, get_or, take, drop, refl, ap, sym, ◌∙◌, subst, arith, rules}
 use Rattle.std.proofs.Math.ListN.{set}
 use Rattle.std.proofs.lemmas.List.{length-set, length-append, take_more, take_more_set}
 use Rattle.std.specs.List.{AllByRecursion, remove}
 use Rattle.psap_machine.specs.declared.session.Session.{Session}
 use Rattle.psap_machine.specs.Point.{Point}
 use Rattle.psap_machine.specs.PointRows as point
+use Rattle.psap_machine.specs.SessionStands.{SessionStandsFor, WaitsForNothing}
 use Rattle.channel_sim.specs.declared.calls.call.Call as kept_call
 use Rattle.channel_sim.specs.World.{Call}
 use Rattle.channel_sim.specs.inner.Asleep.{NothingDue, Sleeps, AreAsleep, DueLater, Waits, AreWaiting}
 use Rattle.channel_sim.specs.Lag.{SessionLags, SeatLags, CallLags, CallsLag}
 use Rattle.channel_sim.specs.Quiet.{SessionRests, CallRests, IsQuietCall}
+use Rattle.channel_sim.proofs.CatchLemmas.{same_item, same_length}
 use Rattle.channel_sim.proofs.EndJump.{point_later}
 use Rattle.channel_sim.proofs.LagLemmas.{as_sum}
 
@@ -92,7 +94,36 @@ one_more_sleeps i xs y inside h one = subst (AllByRecursion Sleeps) (sym (take_m
 pub one_more_waits : (tick i : ℕ) (xs : List kept_call.Call) (d : kept_call.Call) → i < length xs → AllByRecursion (Waits tick) (take i xs) → Waits tick (get_or xs i d) → AllByRecursion (Waits tick) (take (i + 1) xs)
 one_more_waits tick i xs d inside h one = subst (AllByRecursion (Waits tick)) (sym (take_more xs i d inside)) (last_too (Waits tick) (take i xs) (get_or xs i d) h one)
 
+sleeps_in : (xs : List kept_call.Call) (i : ℕ) (d : kept_call.Call) → i < length xs → AllByRecursion Sleeps xs → Sleeps (get_or xs i d)
+sleeps_in [] i d inside h = absurd (omega arith)
+sleeps_in (x ∷ xs) zero d inside h = h.0
+sleeps_in (x ∷ xs) (suc i) d inside h = sleeps_in xs i d (omega arith) h.1
+
+-- of calls that all slept, those that stand as they were sleep
+pub sleeps_at : (before now : List kept_call.Call) (i : ℕ) (d : kept_call.Call) → i < length now → drop i now ≡ drop i before → AllByRecursion Sleeps before → Sleeps (get_or now i d)
+sleeps_at before now i d inside rest h =
+    subst Sleeps (sym (same_item before now i d inside rest)) (sleeps_in before i d (same_length before now i inside rest) h)
+
+all_joined : (m : ℕ) (xs ys : List kept_call.Call) → AllByRecursion Sleeps xs → AllByRecursion Sleeps (take m ys) → AllByRecursion Sleeps (take (length xs + m) (xs ++ ys))
+all_joined m [] ys h rest = let e : m ≡ 0 + m = omega arith in subst (λ k. AllByRecursion Sleeps (take k ys)) e rest
+all_joined m (x ∷ xs) ys h rest =
+    let e : suc (length xs + m) ≡ length (x ∷ xs) + m = omega arith in
+    subst (λ k. AllByRecursion Sleeps (take k (x ∷ xs ++ ys))) e (h.0, all_joined m xs ys h.1 rest)
+
+-- some that sleep, and others of which some do
+pub asleep_joined : (n m : ℕ) (xs ys : List kept_call.Call) → length xs ≡ n → AllByRecursion Sleeps xs → AreAsleep m ys → AreAsleep (n + m) (xs ++ ys)
+asleep_joined n m xs ys e h rest =
+    let inside : m ≤ length ys = rest.within in
+    record {
+      within = omega (arith, length-append xs ys);
+      sleep = subst (λ k. AllByRecursion Sleeps (take (k + m) (xs ++ ys))) e (all_joined m xs ys h rest.sleep);
+    }
+
 -- What they stand for rests.
+
+-- in a session that waits for nothing, nothing is due
+pub none_due : (kept : Session) (s : Point) → WaitsForNothing kept → SessionStandsFor kept s → point.due_of s ≡ None
+none_due kept s none h = search rules
 
 none_later : (n : ℕ) (o : Option ℕ) → o ≡ None → IfSome o (λ due. n < due)
 none_later n None e = tt
@@ -105,7 +136,7 @@ still_none m kept s none h = at (point.due_of s) refl
     at : (o : Option ℕ) → point.due_of s ≡ o → point.due_of s ≡ None
     at None e = e
     at (Some due) e =
-        let late : IfSome (point.due_of (point.aged m h.was)) (λ d. due < d) = point_later m due h.was (none_later (m + due) (point.due_of h.was) (none h.was h.stands)) in
+        let late : IfSome (point.due_of (point.aged m h.was)) (λ d. due < d) = point_later m due h.was (none_later (m + due) (point.due_of h.was) (none_due kept h.was none h.stands)) in
         let wrong : due < due = subst (λ o. IfSome o (λ d. due < d)) (ap point.due_of (sym h.aged) ∙ e) late in
         absurd (omega arith)
 
@@ -118,9 +149,13 @@ seat_rests m n (Some k) (Some s) h none = record { due = none_later n (point.due
 call_rests : (floor clock n : ℕ) (x : kept_call.Call) (k : Call) → CallLags floor clock x k → Sleeps x → CallRests n k
 call_rests floor clock n x k h sleeps = seat_rests (clock - x.passed) n x.session k.session h.session sleeps
 
+-- and so it is later than any number of ticks
+pub rest_later : (n : ℕ) (kept : Session) (s : Point) → WaitsForNothing kept → SessionStandsFor kept s → IfSome (point.due_of s) (λ due. n < due)
+rest_later n kept s none h = none_later n (point.due_of s) (none_due kept s none h)
+
 due_later : (n : ℕ) (a : Option Session) → NothingDue a → DueLater n a
 due_later n None none = tt
-due_later n (Some kept) none = λ s stands. none_later n (point.due_of s) (none s stands)
+due_later n (Some kept) none = λ s stands. rest_later n kept s none stands
 
 sleepers_wait : (tick : ℕ) (xs : List kept_call.Call) → AllByRecursion Sleeps xs → AllByRecursion (Waits tick) xs
 sleepers_wait tick [] h = tt

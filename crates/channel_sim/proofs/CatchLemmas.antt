@@ -1,12 +1,13 @@
--- Each call caught up, one behind the other.
-use Rattle.std.proofs.Common.{◌≡◌, ℕ, ◌+◌, ◌<◌, ◌≤◌, List, [], ◌∷◌, ◌++◌, length, get_or, take, drop, ap, sym, ◌∙◌, subst, arith, add-one, drop-cons, length-drop, append-nil}
+-- Each call caught up, one behind the other, and calls in two parts.
+use Rattle.std.proofs.Common.{◌≡◌, ℕ, zero, suc, ◌+◌, ◌<◌, ◌≤◌, Bool, true, false, if◌then◌else◌, List, [], ◌∷◌, ◌++◌, length, get_or, take, drop, refl, ap, sym, ◌∙◌, subst, arith, add-one, drop-cons, length-drop, append-nil}
+use Rattle.std.specs.Option.{is_some}
 use Rattle.std.proofs.Math.ListN.{set}
-use Rattle.std.proofs.lemmas.List.{take_more_set, drop-set-lt, drop_all}
+use Rattle.std.proofs.lemmas.List.{take_more_set, drop-set-lt, drop_all, take-append-drop}
 use Rattle.channel_sim.specs.declared.calls.call.Call as kept
-use Rattle.channel_sim.specs.World.{Call}
+use Rattle.channel_sim.specs.World.{Call, session_count}
 use Rattle.channel_sim.specs.Lag.{CallLags, CallsLag}
 use Rattle.channel_sim.proofs.ArrivalLemmas.{lag_append}
-use Rattle.channel_sim.proofs.ChangeLemmas.{lag_at}
+use Rattle.channel_sim.proofs.ChangeLemmas.{lag_at, same_lengths}
 use Rattle.channel_sim.proofs.StepLemmas.{take_all}
 
 -- where the rests are one, the index is inside of both
@@ -40,7 +41,53 @@ rest_more before now i y inside rest =
     let b = drop-cons before i y inside' in
     drop-set-lt (i + 1) now i y (omega arith) ∙ rw add-one (cc)
 
+-- the first ones, so many, are all of them
+pub all_caught : (floor tick n : ℕ) (before now : List kept.Call) (ks : List Call) → length before ≤ n → length now ≤ n → CallsLag floor (λ c. tick) before ks → CallsLag tick (λ c. tick) (take n now) (take n ks) → CallsLag tick (λ c. tick) now ks
+all_caught floor tick n before now ks old new h done =
+    let all : length ks ≤ n = subst (λ m. m ≤ n) (same_lengths floor (λ c. tick) before ks h) old in
+    subst (λ xs. CallsLag tick (λ c. tick) xs ks) (take_all n now new) (subst (CallsLag tick (λ c. tick) (take n now)) (take_all n ks all) done)
+
 -- a slice written back over all of a list
 pub written_back : (len : ℕ) (ys os : List kept.Call) → length ys ≡ length os → len ≡ length os → take len (ys ++ drop (length ys) os) ≡ ys
 written_back len ys os same whole =
     ap (λ z. take len (ys ++ z)) (drop_all (length ys) os (omega arith)) ∙ ap (take len) (append-nil ys) ∙ take_all len ys (omega arith)
+
+-- Calls in two parts: the first ones, so many, and the others.
+
+pub lag_front : (floor : ℕ) (clock : ℕ → ℕ) (n : ℕ) (xs : List kept.Call) (ks : List Call) → CallsLag floor clock xs ks → CallsLag floor clock (take n xs) (take n ks)
+lag_front floor clock zero [] [] h = tt
+lag_front floor clock (suc n) [] [] h = tt
+lag_front floor clock n [] (k ∷ ks) h = absurd h
+lag_front floor clock n (x ∷ xs) [] h = absurd h
+lag_front floor clock zero (x ∷ xs) (k ∷ ks) h = tt
+lag_front floor clock (suc n) (x ∷ xs) (k ∷ ks) h = (h.0, lag_front floor clock n xs ks h.1)
+
+pub lag_back : (floor : ℕ) (clock : ℕ → ℕ) (n : ℕ) (xs : List kept.Call) (ks : List Call) → CallsLag floor clock xs ks → CallsLag floor clock (drop n xs) (drop n ks)
+lag_back floor clock zero [] [] h = tt
+lag_back floor clock (suc n) [] [] h = tt
+lag_back floor clock n [] (k ∷ ks) h = absurd h
+lag_back floor clock n (x ∷ xs) [] h = absurd h
+lag_back floor clock zero (x ∷ xs) (k ∷ ks) h = h
+lag_back floor clock (suc n) (x ∷ xs) (k ∷ ks) h = lag_back floor clock n xs ks h.1
+
+lag_joined : (floor : ℕ) (clock : ℕ → ℕ) (xs ys : List kept.Call) (ks js : List Call) → CallsLag floor clock xs ks → CallsLag floor clock ys js → CallsLag floor clock (xs ++ ys) (ks ++ js)
+lag_joined floor clock [] ys [] js h rest = rest
+lag_joined floor clock [] ys (k ∷ ks) js h rest = absurd h
+lag_joined floor clock (x ∷ xs) ys [] js h rest = absurd h
+lag_joined floor clock (x ∷ xs) ys (k ∷ ks) js h rest = (h.0, lag_joined floor clock xs ys ks js h.1 rest)
+
+pub lag_parts : (floor : ℕ) (clock : ℕ → ℕ) (n : ℕ) (xs ys : List kept.Call) (ks : List Call) → CallsLag floor clock xs (take n ks) → CallsLag floor clock ys (drop n ks) → CallsLag floor clock (xs ++ ys) ks
+lag_parts floor clock n xs ys ks h rest = subst (CallsLag floor clock (xs ++ ys)) (take-append-drop n ks) (lag_joined floor clock xs ys (take n ks) (drop n ks) h rest)
+
+nothing_before : (n : ℕ) → 0 + n ≡ n
+nothing_before n = omega arith
+
+pub count_parts : (n : ℕ) (ks : List Call) → session_count (take n ks) + session_count (drop n ks) ≡ session_count ks
+count_parts zero [] = refl
+count_parts (suc n) [] = refl
+count_parts zero (k ∷ ks) = nothing_before (session_count (k ∷ ks))
+count_parts (suc n) (k ∷ ks) = at (is_some k.session) (session_count (take n ks)) (session_count (drop n ks)) (session_count ks) (count_parts n ks)
+  where
+    at : (b : Bool) (a c s : ℕ) → a + c ≡ s → (if b then a + 1 else a) + c ≡ (if b then s + 1 else s)
+    at true a c s e = omega arith
+    at false a c s e = e

@@ -11,7 +11,7 @@ pub mod CallsKept
 mod CallsLemmas
 -- a call that comes up at both ends keeps a world that fits
 pub mod CallUp
--- each call caught up, one behind the other
+-- each call caught up, one behind the other, and calls in two parts
 mod CatchLemmas
 -- one call changed among calls that stand for calls
 mod ChangeLemmas

@@ -3,7 +3,7 @@
 ghost use Rattle.std.specs.Prelude.{◌≡◌, ◌≤◌, ◌<◌, ◌-◌, ◌+◌, Option, Some, None, IfSome, ◌^◌};
 ghost use Rattle.psap_machine.specs.Point.{Point};
 ghost use Rattle.psap_machine.specs.PointRows as point;
-ghost use Rattle.psap_machine.specs.SessionStands.{SessionStandsFor};
+ghost use Rattle.psap_machine.specs.SessionStands.{SessionStandsFor, WaitsForNothing};
 ghost use Rattle.channel_sim.specs.Lag.{SessionLags, VehicleLags};
 ghost use Rattle.ivs_machine.specs.IvsStands.{IvsStandsFor};
 ghost use Rattle.ivs_machine.specs.Vehicle.{Vehicle};
@@ -48,6 +48,25 @@ pub(crate) fn pass_quietly<L: Ledger>(
         }
         session.pass_into(n, moments, items);
         left -= u64::from(n);
+    }
+}
+
+/// Lets so many ticks pass in a session that waits for nothing.
+#[inline]
+pub(crate) fn rest_by<L: Ledger>(session: &mut Session, lag: u64, moments: &mut Steps<L>)
+    requires { WaitsForNothing session.old }
+    ensures waits { WaitsForNothing session.new }
+    ensures lags { (s : Point) → SessionLags lag session.old s → SessionLags 0 session.new s }
+    ensures passes { lag < 2 ^ 32 → moments.new ≤ moments.old + 1 }
+    ensures still { lag ≡ 0 → moments.new ≡ moments.old }
+{
+    let mut left = lag;
+    while left > u64::from(u32::MAX) {
+        session.rest(u32::MAX, moments);
+        left -= u64::from(u32::MAX);
+    }
+    if left > 0 {
+        session.rest(left as u32, moments);
     }
 }
 

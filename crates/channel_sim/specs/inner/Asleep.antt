@@ -5,13 +5,13 @@ use Rattle.std.specs.List.{AllByRecursion}
 use Rattle.psap_machine.specs.declared.session.Session.{Session}
 use Rattle.psap_machine.specs.Point.{Point}
 use Rattle.psap_machine.specs.PointRows.{due_of}
-use Rattle.psap_machine.specs.SessionStands.{SessionStandsFor}
+use Rattle.psap_machine.specs.SessionStands.{SessionStandsFor, WaitsForNothing}
 use Rattle.channel_sim.specs.declared.calls.call.Call.{Call}
 
--- whatever state this session stands for, nothing is due in it
+-- this session, if it is there, waits for nothing
 abbrev pub NothingDue : Option Session → Type 0
 NothingDue None = Unit {0}
-NothingDue (Some session) = (s : Point) → SessionStandsFor session s → due_of s ≡ None
+NothingDue (Some session) = WaitsForNothing session
 
 abbrev pub Sleeps : Call → Type 0
 Sleeps k = NothingDue k.session

@@ -1,11 +1,12 @@
 //! Which of the first calls have sessions that do nothing for now, or however many ticks pass.
 
 ghost use Rattle.std.specs.Prelude.{◌≡◌, ◌≤◌, ◌<◌, ◌-◌, ◌+◌, ℕ, List, true, Some, None, ◌^◌};
+ghost use Rattle.std.specs.List.{AllByRecursion};
 ghost use Rattle.channel_sim.specs.World as model;
 ghost use Rattle.channel_sim.specs.Lag.{CallsLag};
 ghost use Rattle.channel_sim.specs.inner.Asleep.{AreAsleep, AreWaiting, Sleeps, Waits};
 
-use super::call::catch_up;
+use super::call::{catch_up, rest_up};
 use super::{Call, Calls};
 use crate::quiet::due_at;
 use link_frames::{Items, Steps};
@@ -23,26 +24,61 @@ pub(crate) fn catch_each_up<L: Ledger>(
     ensures passes { (floor : ℕ) (ks : List model.Call) → CallsLag floor (λ c. tick) calls.old ks → floor ≤ tick →
         tick < floor + 2 ^ 32 → moments.new ≤ moments.old + model.session_count ks }
 {
-    calls.asleep = catch_listed_up(&mut calls.list, tick, items, moments);
+    calls.asleep = catch_parts_up(&mut calls.list, calls.asleep, tick, items, moments);
+}
+
+/// Passes the session of each of these calls up to this tick, up to which it does nothing: the first ones, so many, do
+/// nothing however many ticks pass. Gives in how many of the first ones that is so then. `items` is room.
+fn catch_parts_up<L: Ledger>(
+    calls: &mut [Call],
+    asleep: usize,
+    tick: u64,
+    items: &mut Items,
+    moments: &mut Steps<L>,
+) -> usize
+    requires { AreAsleep asleep calls.old }
+    ensures asleep { AreAsleep result calls.new }
+    ensures lags { (floor : ℕ) (ks : List model.Call) → CallsLag floor (λ c. tick) calls.old ks → floor ≤ tick →
+        CallsLag tick (λ c. tick) calls.new ks }
+    ensures passes { (floor : ℕ) (ks : List model.Call) → CallsLag floor (λ c. tick) calls.old ks → floor ≤ tick →
+        tick < floor + 2 ^ 32 → moments.new ≤ moments.old + model.session_count ks }
+{
+    let (sleeping, others) = calls.split_at_mut(asleep);
+    rest_each(sleeping, tick, moments);
+    asleep + catch_listed_up(others, tick, items, moments)
+}
+
+/// Passes the session of each of these calls, which does nothing however many ticks pass, up to this tick.
+fn rest_each<L: Ledger>(calls: &mut [Call], tick: u64, moments: &mut Steps<L>)
+    requires { AllByRecursion Sleeps calls.old }
+    ensures asleep { AllByRecursion Sleeps calls.new }
+    ensures lags { (floor : ℕ) (ks : List model.Call) → CallsLag floor (λ c. tick) calls.old ks → floor ≤ tick →
+        CallsLag tick (λ c. tick) calls.new ks }
+    ensures passes { (floor : ℕ) (ks : List model.Call) → CallsLag floor (λ c. tick) calls.old ks → floor ≤ tick →
+        tick < floor + 2 ^ 32 → moments.new ≤ moments.old + model.session_count ks }
+{
+    for call in calls {
+        rest_up(call, tick, moments);
+    }
 }
 
 /// Passes the session of each of these calls up to this tick, up to which it does nothing, and gives in how many of the
 /// first ones the session, if it is there, does nothing however many ticks pass. `items` is room.
 fn catch_listed_up<L: Ledger>(
-    calls: &mut Vec<Call>,
+    calls: &mut [Call],
     tick: u64,
     items: &mut Items,
     moments: &mut Steps<L>,
 ) -> usize
-    ensures asleep { AreAsleep result calls.new.items }
-    ensures lags { (floor : ℕ) (ks : List model.Call) → CallsLag floor (λ c. tick) calls.old.items ks → floor ≤ tick →
-        CallsLag tick (λ c. tick) calls.new.items ks }
-    ensures passes { (floor : ℕ) (ks : List model.Call) → CallsLag floor (λ c. tick) calls.old.items ks → floor ≤ tick →
+    ensures asleep { AreAsleep result calls.new }
+    ensures lags { (floor : ℕ) (ks : List model.Call) → CallsLag floor (λ c. tick) calls.old ks → floor ≤ tick →
+        CallsLag tick (λ c. tick) calls.new ks }
+    ensures passes { (floor : ℕ) (ks : List model.Call) → CallsLag floor (λ c. tick) calls.old ks → floor ≤ tick →
         tick < floor + 2 ^ 32 → moments.new ≤ moments.old + model.session_count ks }
 {
     let mut asleep = 0;
     let mut all = true;
-    for call in calls.iter_mut() {
+    for call in calls {
         catch_up(call, tick, items, moments);
         all = sleeps_too(all, call);
         if all {
@@ -57,7 +93,7 @@ fn is_asleep(call: &Call) -> bool
     ensures { result ≡ true → Sleeps call.now }
 {
     match &call.session {
-        Some(session) => session.due().is_none(),
+        Some(session) => session.waits_for_nothing(),
         None => true,
     }
 }

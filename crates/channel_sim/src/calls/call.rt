@@ -8,10 +8,11 @@ ghost use Rattle.channel_sim.specs.World as model;
 ghost use Rattle.channel_sim.specs.inner.Acts.{pushed, CallDid};
 ghost use Rattle.channel_sim.specs.Handing.{full};
 ghost use Rattle.channel_sim.specs.Lag.{CallLags};
+ghost use Rattle.channel_sim.specs.inner.Asleep.{Sleeps};
 ghost use Rattle.channel_sim.specs.inner.Passes.{once_if};
 
 use crate::kept::KeptFrame;
-use crate::quiet::{due_at, pass_quietly};
+use crate::quiet::{due_at, pass_quietly, rest_by};
 use crate::sends::Sends;
 use link_frames::{End, Frame, Items, Steps, Why};
 use psap_machine::{PointEvent, Session};
@@ -19,12 +20,12 @@ use std::alloc::{AllocError, Global};
 use std::sync::ledger::Ledger;
 
 /// A call with a leg up: the point's session, where its leg is up, the tick up to which it was passed, and the frames
-/// sent: up by the vehicle, down by the point.
+/// sent: up by the vehicle, down by the point. What changes as ticks pass stands in front, side by side.
 #[derive(Drop)]
 pub(crate) struct Call {
-    pub(crate) number: u32,
-    pub(crate) session: Option<Session>,
     pub(crate) passed: u64,
+    pub(crate) session: Option<Session>,
+    pub(crate) number: u32,
     pub(crate) up: Sends,
     pub(crate) down: Sends,
 }
@@ -35,9 +36,9 @@ impl Call {
         ensures { result ≡ record { number = number; session = None; passed = passed; up = []; down = [] } }
     {
         Call {
-            number,
-            session: None,
             passed,
+            session: None,
+            number,
             up: Sends::new(alloc),
             down: Sends::new(alloc),
         }
@@ -119,6 +120,22 @@ pub(crate) fn catch_up<L: Ledger>(
 {
     if let Some(session) = &mut call.session {
         pass_quietly(session, tick.saturating_sub(call.passed), items, moments);
+    }
+    call.passed = tick;
+}
+
+/// Passes a call's session, which does nothing however many ticks pass, up to a tick.
+#[inline]
+pub(super) fn rest_up<L: Ledger>(call: &mut Call, tick: u64, moments: &mut Steps<L>)
+    requires { Sleeps call.old }
+    ensures same { call.new ≡ record call.old { session = call.new.session; passed = tick } }
+    ensures asleep { Sleeps call.new }
+    ensures caught { (floor : ℕ) (k : model.Call) → CallLags floor tick call.old k → CallLags floor tick call.new k }
+    ensures passes { (floor : ℕ) (k : model.Call) → CallLags floor tick call.old k → tick < floor + 2 ^ 32 →
+        moments.new ≤ moments.old + once_if k.session }
+{
+    if let Some(session) = &mut call.session {
+        rest_by(session, tick.saturating_sub(call.passed), moments);
     }
     call.passed = tick;
 }

@@ -1,0 +1,39 @@
+use Rattle.channel_sim.proofs.BoundLemmas.{count_more_passed, count_taken}
+use Rattle.std.proofs.Common.{◌<◌, length, ap, sym, subst, arith}
+use Rattle.channel_sim.specs.Lag.{CallLags}
+use Rattle.channel_sim.proofs.CatchLemmas.{rest_more, caught_more, all_caught, same_item, same_length}
+use Rattle.channel_sim.proofs.AsleepLemmas.{one_more_sleeps, sleeps_at}
+use Rattle.channel_sim.proofs.calls.asleep.rest_each.Goals as goal
+
+pub rest_up-requires : goal.rest_up-requires
+rest_up-requires g c =
+    let i = c.loop-call.call-index in
+    let inside : i < length c.loop-call.call-items = omega arith in
+    sleeps_at c.args.calls.now c.loop-call.call-items i _ inside c.loop-call.invariant.rest c.requires
+
+pub loop-call-preserved : goal.loop-call-preserved
+loop-call-preserved g c =
+    let i = c.loop-call.call-index in
+    let inside : i < length c.loop-call.call-items = omega arith in
+    record {
+      done = λ floor ks h low.
+          caught_more floor c.args.tick c.args.calls.now c.loop-call.call-items ks i _ c.rest_up.new.call inside h low
+          (c.loop-call.invariant.done floor ks h low) c.loop-call.invariant.rest (λ k lags. c.rest_up.ensures.caught floor k lags) (ap (λ x. x.passed) c.rest_up.ensures.same);
+      passes =
+          λ floor ks h low small.
+          count_more_passed floor c.args.tick c.loop-call.moments c.rest_up.new.moments c.args.moments.now c.args.calls.now ks i _ h
+          (same_length c.args.calls.now c.loop-call.call-items i inside c.loop-call.invariant.rest) (c.loop-call.invariant.passes floor ks h low small)
+          (λ k lags. c.rest_up.ensures.passes floor k (subst (λ x. CallLags floor c.args.tick x k) (sym (same_item c.args.calls.now c.loop-call.call-items i _ inside c.loop-call.invariant.rest)) lags) small);
+      sleep = one_more_sleeps i c.loop-call.call-items c.rest_up.new.call inside c.loop-call.invariant.sleep c.rest_up.ensures.asleep;
+      rest = rest_more c.args.calls.now c.loop-call.call-items i c.rest_up.new.call inside c.loop-call.invariant.rest;
+    }
+
+pub returns-clause-lags : goal.returns-clause-lags
+returns-clause-lags g c =
+    λ floor ks h low.
+    all_caught floor c.args.tick c.loop-call.call-index c.args.calls.now c.loop-call.call-items ks (omega arith) (omega arith) h (c.loop-call.invariant.done floor ks h low)
+
+pub returns-clause-passes : goal.returns-clause-passes
+returns-clause-passes g c =
+    λ floor ks h low small.
+    omega (arith, count_taken c.loop-call.call-index ks, c.loop-call.invariant.passes floor ks h low small)
