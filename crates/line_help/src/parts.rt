@@ -1,6 +1,6 @@
 //! The parts of a text round each byte of one value: the lines of an input, the words of a line, the words of a choice.
 
-ghost use Rattle.std.specs.Prelude.{◌≡◌, ◌+◌, ◌∷◌, None, count_by, slice_get, IfSome};
+ghost use Rattle.std.specs.Prelude.{◌≡◌, ◌+◌, ◌≤◌, ◌∷◌, None, count_by, length, slice_get, IfSome};
 ghost use Rattle.std.specs.List.{position};
 ghost use Rattle.std.specs.Option.{option_copied};
 ghost use Rattle.memchr.specs.Find.{is_byte};
@@ -47,9 +47,17 @@ fn find(separator: u8, text: &[u8]) -> Option<usize>
 }
 
 /// How many parts there are.
-#[tactic(auto, using(crate::proofs::PartsLemmas::count_places))]
 pub(crate) fn part_count(separator: u8, text: &[u8]) -> usize
     ensures { result ≡ count_by (is_byte separator) text.now + 1 }
 {
-    memchr_iter(separator, text).count() + 1
+    separator_count(separator, text) + 1
+}
+
+/// How many of the bytes are this one.
+#[tactic(auto, using(crate::proofs::PartsLemmas::count_places))]
+pub(crate) fn separator_count(separator: u8, text: &[u8]) -> usize
+    ensures count { result ≡ count_by (is_byte separator) text.now }
+    ensures few { result ≤ length text.now }
+{
+    memchr_iter(separator, text).count()
 }

@@ -5,6 +5,7 @@ ghost use Rattle.call_io.specs.Counts.{Rose};
 ghost use Rattle.line_input.specs.Characters.{is_newline};
 ghost use Rattle.line_help.specs.Keeping.{Keeps, lines_behind};
 
+use crate::parts::separator_count;
 use crate::seen::Seen;
 use arrayvec::ArrayVec;
 use call_io::{Failed, Source};
@@ -177,5 +178,5 @@ fn shift(text: &mut [u8], count: usize)
 fn newlines(bytes: &[u8]) -> u64
     ensures { result ≡ count_by is_newline bytes.now }
 {
-    bytes.iter().filter(|byte| **byte == b'\n').count() as u64
+    separator_count(b'\n', bytes) as u64
 }
