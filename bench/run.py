@@ -54,7 +54,11 @@ LIBRARY_DIGITS = [
     ("io.rs", r"        for \(digits, octet\) in .*?\n        }\n", "        crate::digits::encode_to_slice(octets, &mut self.text[start..]);\n"),
 ]
 # the commands that read or write many of these digits, as in OTHERS
-DIGITS = [(["run"], "scripts.py", ["mixed"], 2_000), (["register"], "scripts.py", ["mixed"], 2_000), (["frames"], "stream.py", [], 20_000)]
+DIGITS = [
+    *((["run"], "scripts.py", [kind], SCRIPTS[kind]) for kind in ("mixed", "calls", "flows")),
+    *OTHERS[:3],
+    (["frames"], "stream.py", [], 20_000),
+]
 # vehicles on the floor that is measured, and the calls of each, which are doubled then
 FLOOR = (64, 200)
 
@@ -293,7 +297,7 @@ def beside_library_digits(program, plain, library, known, folder):
     print("\nHexadecimal digits: processor time of `ecall`, of the plain program, and of the plain program with the digits of the library `hex`")
     print(f"{'command':>10} {'input':>8} {'ecall':>8} {'plain':>8} {'ratio':>6} {'library':>8} {'ratio':>6}")
     for words, maker, kind, count in [(["decode"], None, ["known"], None), *DIGITS]:
-        path = inputs(program, folder, maker, kind, count) if maker else known
+        path = inputs(program, folder, maker, kind, count) if count else known
         commands = [[which, *words] for which in (program, plain, library)]
         same_text(commands, path)
         ours, own, theirs = least(commands, path)
