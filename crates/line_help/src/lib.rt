@@ -1,5 +1,5 @@
-//! What a person is told of a line that is refused, or that breaks a rule: which word it is and what may stand there, or
-//! which end and call. It is found by a second look at the line, behind the call that judged it.
+//! What a person is told of a line that is refused, or that breaks a rule: which word it is and what may stand there,
+//! or which end and call. It is found by a second look at the line, behind the call that judged it.
 #![tactic(auto)]
 
 mod breaks;

@@ -46,7 +46,8 @@ impl<'a> Seen<'a> {
 
     /// The number of the last line that was begun, from 1.
     pub fn last_line(&self) -> u64
-        ensures { result ≡ min (self.now.ended + (count_by (is_byte newline) self.now.text.now + 1)) 18446744073709551615 }
+        ensures { result ≡
+            min (self.now.ended + (count_by (is_byte newline) self.now.text.now + 1)) 18446744073709551615 }
     {
         let ended = part_count(b'\n', self.text) as u64;
         self.ended.saturating_add(ended)
@@ -54,7 +55,8 @@ impl<'a> Seen<'a> {
 
     /// The last line in front of the one of this number that says something, where it is kept whole.
     pub fn before(&self, number: u64) -> Option<Numbered<'a>>
-        ensures { IfSome result (λ line. (line.number < number) × IsKept self.now.ended self.now.text.now line.number line.text.now) }
+        ensures { IfSome result (λ line. (line.number < number)
+            × IsKept self.now.ended self.now.text.now line.number line.text.now) }
     {
         let mut found = None;
         let mut here = self.ended;

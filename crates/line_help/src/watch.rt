@@ -75,7 +75,8 @@ impl<S: Source> Source for Watch<S> {
         ensures ended { OnErr result (ended_of self.new ≡ ended_of self.old) }
 
         ensures bound { IfOk result (λ n. n ≤ length into.new) }
-        ensures bytes { IfOk result (λ n. Took (S.left (source_of self.old)) (S.left (source_of self.new)) (take n into.new)) }
+        ensures bytes { IfOk result (λ n. Took (S.left (source_of self.old)) (S.left (source_of self.new))
+            (take n into.new)) }
         ensures end { IfOk result (λ n. 0 < length into.old → EndsExactly (S.left (source_of self.old)) n) }
         ensures kept { OnErr result (S.left (source_of self.new) ≡ S.left (source_of self.old)) }
         ensures cause { OnErr result (Rose (S.faults (source_of self.old)) (S.faults (source_of self.new))) }

@@ -1,15 +1,14 @@
 -- The numbers that decimal digits spell.
-use Rattle.std.proofs.Common.{◌≡◌, ℕ, ◌+◌, ◌-◌, ◌*◌, ◌<◌, ◌≤◌, Bool, true, false, List, [], ◌∷◌, length, get_or, refl, arith, rules, zero, suc, ◌&&◌, ◌^◌, Result, Ok, Err, Option, Some, None, ltb, IsSome, IfSome, ◌↔◌, ap, sym, ◌∙◌}
+use Rattle.std.proofs.Common.{◌≡◌, ℕ, ◌+◌, ◌-◌, ◌*◌, ◌<◌, ◌≤◌, Bool, true, false, List, [], ◌∷◌, length, get_or, refl, arith, rules, zero, suc, ◌&&◌, ◌^◌, Result, Ok, Err, Option, Some, None, ltb, leb, IfSome, if◌then◌else◌, ap, sym, ◌∙◌}
 use Rattle.std.specs.List.{list_all}
 use Rattle.std.specs.Str.{IsAscii}
 use Rattle.std.proofs.lemmas.Bool.{ltb-true, lt-ltb}
 use Rattle.std.proofs.lemmas.Grind.{common_steps}
-use Rattle.std.proofs.lemmas.Str.Parse.{IsNumeralModel, numerals_by_fold, parse_digits}
+use Rattle.std.proofs.lemmas.Str.Parse.{IsNumeralModel, numerals_by_fold, parse_plain}
 use Rattle.std.specs.Str.Parse.{ParsesUnsigned}
-use Rattle.std.specs.Option.{SomeIff}
 use Rattle.std.specs.Result.{OkIff, result_ok}
-use Rattle.std.specs.declared.num.ParseIntError.{ParseIntError}
-use Rattle.line_input.specs.Numbers.{is_digit, number_after, number_of, is_plain_number, positive}
+use Rattle.line_input.specs.Numbers.{is_digit, number_after, number_of, is_plain_number, positive_below}
+use Rattle.line_input.specs.inner.Plain.{begins_plain_number}
 
 -- the digits and the numbers of a script are those that std parses
 pub digits_model : IsNumeralModel (λ ds. list_all is_digit ds ≡ true) number_of
@@ -41,35 +40,48 @@ IsAscii-digits [] all i = omega arith
 IsAscii-digits (c ∷ cs) all zero = digit_below c (first_true (is_digit c) (list_all is_digit cs) all)
 IsAscii-digits (c ∷ cs) all (suc i) = IsAscii-digits cs (second_true (is_digit c) (list_all is_digit cs) all) i
 
--- what parsing gives for digits
-pub SomeIff-from_parse : (bits : ℕ) (digits : List ℕ) (r : Result ℕ ParseIntError) → ParsesUnsigned bits 10 digits r → list_all is_digit digits ≡ true → 0 < length digits
-    → SomeIff (result_ok r) (number_of digits < 2 ^ bits) (number_of digits)
-SomeIff-from_parse bits digits r parses all some = by_answer r (parse_digits digits_model bits digits r parses all)
-  where
-    by_answer : (r : Result ℕ ParseIntError) → OkIff r ((0 < length digits) × (number_of digits < 2 ^ bits)) (number_of digits)
-        → SomeIff (result_ok r) (number_of digits < 2 ^ bits) (number_of digits)
-    by_answer (Ok n) is = (is.0.1, is.1)
-    by_answer (Err e) fails = λ small. fails (some, small)
+-- no number from 1 on is one without digits, or one that is too large
+none-if_not : (a b c : Bool) (n : ℕ) → (a ≡ true → c ≡ true → ⊥) → (if (a && b) && c then Some n else None) ≡ None
+none-if_not true true true n never = absurd (never refl refl)
+none-if_not true true false n never = refl
+none-if_not true false c n never = refl
+none-if_not false b c n never = refl
 
--- a plain number that fits is a positive one
-pub positive-fits : (text : List ℕ) (n : ℕ) (r : Option ℕ) → is_plain_number text ≡ true → SomeIff (Some n) (number_of text < 2 ^ 32) (number_of text)
-    → (IsSome r ↔ (0 < n)) → IfSome r (λ p. p ≡ n) → r ≡ positive text
-positive-fits text n r plain fits some value =
-    let first : 48 < get_or text 0 0 = ltb-true _ _ (second_true (list_all is_digit text) (ltb 48 (get_or text 0 0)) plain) in
-    let least : 0 < number_of text = number_of-some text first in
-    let test : ltb (number_of text) (2 ^ 32) ≡ true = lt-ltb _ _ fits.0 in
-    let is : positive text ≡ Some (number_of text) = rw (plain, test) refl in
-    by_case r (some.1 (omega (arith, fits.1))) value ∙ ap Some fits.1 ∙ sym is
+some_bytes : (text : List ℕ) → 48 < get_or text 0 0 → 0 < length text
+some_bytes [] first = absurd (omega arith)
+some_bytes (c ∷ cs) first = omega arith
+
+-- what parsing gives where the first byte is a digit from 1 to 9, and so no sign
+pub positive-from_parse : {E : Type 0} (bits : ℕ) (text : List ℕ) (r : Result ℕ E) → begins_plain_number text ≡ true
+    → ParsesUnsigned bits 10 text r → result_ok r ≡ positive_below (2 ^ bits) text
+positive-from_parse {E = E} bits text r begins parses =
+    let over : ltb 48 (get_or text 0 0) ≡ true = first_true (ltb 48 (get_or text 0 0)) (leb (get_or text 0 0) 57) begins in
+    let first : 48 < get_or text 0 0 = ltb-true _ _ over in
+    by_answer r over (some_bytes text first) (parse_plain digits_model bits text r parses (λ plus. omega (arith, first, plus)))
   where
-    by_case : (r : Option ℕ) → IsSome r → IfSome r (λ p. p ≡ n) → r ≡ Some n
-    by_case None has value = let never : ⊥ = cc in absurd never
-    by_case (Some p) has value = ap Some value
+    by_answer : (r : Result ℕ E) → ltb 48 (get_or text 0 0) ≡ true → 0 < length text
+        → OkIff r ((list_all is_digit text ≡ true) × (0 < length text) × (number_of text < 2 ^ bits)) (number_of text)
+        → result_ok r ≡ positive_below (2 ^ bits) text
+    by_answer (Ok n) over some is =
+        let fits : ltb (number_of text) (2 ^ bits) ≡ true = lt-ltb _ _ is.0.2 in
+        let whole : positive_below (2 ^ bits) text ≡ Some (number_of text) = rw (is.0.0, over, fits) refl in
+        ap Some is.1 ∙ sym whole
+    by_answer (Err e) over some fails = sym (none-if_not (list_all is_digit text) (ltb 48 (get_or text 0 0)) (ltb (number_of text) (2 ^ bits)) (number_of text)
+        (λ digits fits. fails (digits, some, ltb-true _ _ fits)))
+
+-- what is no text has a byte that is no digit
+pub not_digits : (bits : ℕ) (text : List ℕ) → (IsAscii text → ⊥) → positive_below bits text ≡ None
+not_digits bits text strange = none-if_not (list_all is_digit text) _ _ _ (λ digits fits. strange (IsAscii-digits text digits))
 
 pub number_of-plain : (text : List ℕ) → is_plain_number text ≡ true → 0 < number_of text
 number_of-plain text plain = number_of-some text (ltb-true _ _ (second_true (list_all is_digit text) (ltb 48 (get_or text 0 0)) plain))
 
--- what digits spell is from 1 on, where it is below a limit
-pub given-positive : (text : List ℕ) (r : Option ℕ) (P : Type 0) → is_plain_number text ≡ true → SomeIff r P (number_of text)
-    → IfSome r (λ n. 0 < n)
-given-positive text None P plain given = tt
-given-positive text (Some n) P plain given = let some = number_of-plain text plain in omega (arith, some, given.1)
+-- a number from 1 on is one
+pub positive_below-some : (limit : ℕ) (text : List ℕ) → IfSome (positive_below limit text) (λ n. 0 < n)
+positive_below-some limit text = by_test (is_plain_number text) _ (number_of-plain text)
+  where
+    by_test : (plain fits : Bool) → (plain ≡ true → 0 < number_of text)
+        → IfSome (if plain && fits then Some (number_of text) else None) (λ n. 0 < n)
+    by_test true true some = some refl
+    by_test true false some = tt
+    by_test false fits some = tt

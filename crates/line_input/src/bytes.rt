@@ -75,8 +75,8 @@ impl Bytes {
         self.at < self.lines_end && may_begin(self.block[self.at])
     }
 
-    /// The next byte, or none at the end of the input. The source is read where no byte is pending, and not again once it
-    /// said that it ended.
+    /// The next byte, or none at the end of the input. The source is read where no byte is pending, and not again once
+    /// it said that it ended.
     pub fn next<I: Source>(&mut self, source: &mut I) -> Result<Option<u8>, LineFault>
         ensures next { NextByte self.old self.new (I.left source.old) (I.left source.new) result }
         ensures limit { self.new.given ≤ most_bytes }

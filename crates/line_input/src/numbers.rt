@@ -1,9 +1,8 @@
 //! Numbers in decimal digits, as lines have them.
 
-ghost use Rattle.std.specs.Prelude.{◌≡◌, ◌<◌, ◌≤◌, ◌^◌, pos, neg_ℤ, ◌≤ℤ◌, ◌<ℤ◌, length, IsTrue, IfSome};
-ghost use Rattle.std.specs.Option.{SomeIff};
-ghost use Rattle.std.specs.List.{list_all};
-ghost use Rattle.line_input.specs.Numbers.{is_digit, is_plain_number, is_natural as is_natural_number, number_of, positive, positive_below, natural_below, negative_from, signed_natural, signed_within};
+ghost use Rattle.std.specs.Prelude.{◌≡◌, ◌<◌, ◌≤◌, ◌^◌, pos, neg_ℤ, ◌≤ℤ◌, ◌<ℤ◌, IsTrue, IfSome};
+ghost use Rattle.line_input.specs.Numbers.{positive, positive_below, natural_below, negative_from, signed_natural, signed_within};
+ghost use Rattle.line_input.specs.inner.Plain.{begins_plain_number};
 
 use crate::words::is_word;
 
@@ -12,10 +11,7 @@ pub fn read_positive_u32(text: &[u8]) -> Option<u32>
     ensures value { result ≡ positive text.now }
     ensures low { IfSome result (λ n. 0 < n) }
 {
-    if !is_plain(text) {
-        return None;
-    }
-    read_digits(text)
+    u32::try_from(read_plain(text)?).ok()
 }
 
 /// A number from 1 on, below a limit of at most 256.
@@ -24,11 +20,8 @@ pub fn read_positive_u8(text: &[u8], limit: u16) -> Option<u8>
     ensures value { result ≡ positive_below limit text.now }
     ensures range { IfSome result (λ n. (1 ≤ n) × (n < limit)) }
 {
-    if !is_plain(text) {
-        return None;
-    }
-    let number = read_digits(text)?;
-    if number < u32::from(limit) {
+    let number = read_plain(text)?;
+    if number < u64::from(limit) {
         Some(number as u8)
     } else {
         None
@@ -39,7 +32,7 @@ pub fn read_positive_u8(text: &[u8], limit: u16) -> Option<u8>
 pub fn read_u8(text: &[u8]) -> Option<u8>
     ensures { result ≡ natural_below 256 text.now }
 {
-    let number = read_u32(text)?;
+    let number = read_u64(text)?;
     if number < 256 {
         Some(number as u8)
     } else {
@@ -47,26 +40,22 @@ pub fn read_u8(text: &[u8]) -> Option<u8>
     }
 }
 
-/// A number from 0 to 4294967295 in decimal digits. There is none where the text is empty, has any other byte, as a sign,
-/// or a zero in front of other digits, or spells more.
+/// A number from 0 to 4294967295 in decimal digits. There is none where the text is empty, has any other byte, as a
+/// sign, or a zero in front of other digits, or spells more.
 pub fn read_u32(text: &[u8]) -> Option<u32>
     ensures { result ≡ natural_below (2 ^ 32) text.now }
 {
-    if is_natural(text) {
-        read_digits(text)
-    } else {
-        None
-    }
+    u32::try_from(read_u64(text)?).ok()
 }
 
 /// A number from 0 to 18446744073709551615.
 pub fn read_u64(text: &[u8]) -> Option<u64>
     ensures { result ≡ natural_below (2 ^ 64) text.now }
 {
-    if is_natural(text) {
-        read_long_digits(text)
+    if is_word(text, "0") {
+        Some(0)
     } else {
-        None
+        read_plain(text)
     }
 }
 
@@ -91,12 +80,9 @@ fn read_negative(digits: &[u8], limit: u32) -> Option<i32>
     ensures low { IfSome result (λ z. neg_ℤ (pos limit) ≤ℤ z) }
     ensures high { IfSome result (λ z. z ≤ℤ pos 0) }
 {
-    if !is_plain(digits) {
-        return None;
-    }
-    let number = read_digits(digits)?;
-    if number <= limit {
-        Some((-i64::from(number)) as i32)
+    let number = read_plain(digits)?;
+    if number <= u64::from(limit) {
+        Some((-(number as i64)) as i32)
     } else {
         None
     }
@@ -117,44 +103,31 @@ fn read_natural(text: &[u8], limit: u32) -> Option<i32>
     }
 }
 
-/// Whether a text is the digit 0, or digits without a zero in front.
-fn is_natural(text: &[u8]) -> bool
-    ensures { result ≡ is_natural_number text.now }
+/// A number from 1 to 18446744073709551615.
+#[inline]
+fn read_plain(text: &[u8]) -> Option<u64>
+    ensures value { result ≡ positive_below (2 ^ 64) text.now }
+    ensures low { IfSome result (λ n. 0 < n) }
 {
-    is_plain(text) || is_word(text, "0")
-}
-
-/// Whether a text is digits, without a zero in front.
-fn is_plain(text: &[u8]) -> bool
-    ensures { result ≡ is_plain_number text.now }
-{
-    is_digits(text) && !text.is_empty() && text[0] != b'0'
-}
-
-/// Whether each byte is a decimal digit.
-fn is_digits(text: &[u8]) -> bool
-    ensures { result ≡ list_all is_digit text.now }
-{
-    text.iter().all(|byte| b'0' <= *byte && *byte <= b'9')
-}
-
-/// The number that digits spell, where it is below 2^32.
-fn read_digits(text: &[u8]) -> Option<u32>
-    requires digits { IsTrue (list_all is_digit text.now) }
-    requires some { 0 < length text.now }
-    ensures { SomeIff result (number_of text.now < 2 ^ 32) (number_of text.now) }
-{
-    match str::from_utf8(text) {
-        Ok(digits) => digits.parse::<u32>().ok(),
-        Err(_) => None,
+    if begins_plain(text) {
+        read_digits(text)
+    } else {
+        None
     }
 }
 
-/// The number that digits spell, where it is below 2^64.
-fn read_long_digits(text: &[u8]) -> Option<u64>
-    requires digits { IsTrue (list_all is_digit text.now) }
-    requires some { 0 < length text.now }
-    ensures { SomeIff result (number_of text.now < 2 ^ 64) (number_of text.now) }
+/// Whether a text begins with a digit from 1 to 9.
+#[inline]
+fn begins_plain(text: &[u8]) -> bool
+    ensures { result ≡ begins_plain_number text.now }
+{
+    matches!(text, [b'1'..=b'9', ..])
+}
+
+/// The number that a text spells which begins with a digit from 1 to 9, so with no sign, where it is below 2^64.
+fn read_digits(text: &[u8]) -> Option<u64>
+    requires { IsTrue (begins_plain_number text.now) }
+    ensures { result ≡ positive_below (2 ^ 64) text.now }
 {
     match str::from_utf8(text) {
         Ok(digits) => digits.parse::<u64>().ok(),

@@ -6,8 +6,8 @@ ghost use Rattle.line_input.specs.ReasonCode.{reason_code};
 /// Why a line is refused, in the order of the reasons' numbers.
 #[derive(Clone, Copy, Debug, PartialEq, Eq)]
 pub enum Reason {
-    /// The first word, or a later word of a fixed choice, is none of those that may stand there; or a text is no vehicle
-    /// identification number, or no list of energies.
+    /// The first word, or a later word of a fixed choice, is none of those that may stand there; or a text is no
+    /// vehicle identification number, or no list of energies.
     Word,
     /// A number is not in decimal digits without leading zeros, or out of its range.
     Number,
@@ -17,8 +17,8 @@ pub enum Reason {
     LineLong,
     /// A byte is none of 32 to 126.
     Text,
-    /// A word is not an even number of hexadecimal digits, or has too many octets, or two are no candidate of additional
-    /// data.
+    /// A word is not an even number of hexadecimal digits, or has too many octets, or two are no candidate of
+    /// additional data.
     Hex,
     /// The first event line, or a line that asks for a set, comes without the facts that it needs.
     Missing,

@@ -48,8 +48,8 @@ impl Legs {
         self.up.get(&call).copied()
     }
 
-    /// An item moves the leg of this call. Behind it the legs stand for the entries with this one, if they stood for those
-    /// before, whose ticks aren't above this one.
+    /// An item moves the leg of this call. Behind it the legs stand for the entries with this one, if they stood for
+    /// those before, whose ticks aren't above this one.
     pub fn hear(&mut self, call: u32, note: &Note, now: u64) -> Result<(), Memory>
         ensures voices { OnOk result ((q : ℕ) → voice_at self.new q
             ≡ changed (voice_at self.old) call (voice_behind (voice_at self.old call) note.now now) q) }

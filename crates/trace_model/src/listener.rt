@@ -36,7 +36,8 @@ pub trait Listener {
         ensures cause { IfErr result (λ e. DeafCause e (faults self.old) (faults self.new)) }
         ensures counted { faults self.old ≤ faults self.new };
 
-    /// As `hear`, of an item at a tick, in ticks of 100 ms. A listener that keeps no entry need not have the item copied.
+    /// As `hear`, of an item at a tick, in ticks of 100 ms. A listener that keeps no entry need not have the item
+    /// copied.
     fn hear_item(&mut self, alloc: Global, tick: u64, item: &Note) -> Result<(), Deaf>
         ensures ok { OnOk result (grew self.old self.new (record { tick = tick; note = item.now } ∷ [])) }
         ensures err { OnErr result (partly self.old self.new (record { tick = tick; note = item.now } ∷ [])) }
