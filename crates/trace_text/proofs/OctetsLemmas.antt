@@ -1,18 +1,19 @@
 -- The octets of a ready set, and of a candidate of additional data.
-use Rattle.std.proofs.Common.{◌≡◌, ℕ, ◌-◌, eqb, eq-eqb, ◌/◌, ◌≤◌, true, leb, ltb, List, ◌++◌, length, take, drop, replicate, Option, Some, None, Result, Ok, Err, refl, ap, sym, ◌∙◌, arith}
+use Rattle.std.proofs.Common.{◌≡◌, ℕ, ◌-◌, eqb, eq-eqb, ◌/◌, ◌≤◌, ◌<◌, Bool, true, false, IsTrue, leb, ltb, List, [], ◌++◌, length, take, drop, replicate, Option, Some, None, Result, Ok, Err, refl, ap, sym, ◌∙◌, arith}
 use Rattle.std.proofs.Math.Seq.{take-append_seam}
 use Rattle.hex.proofs.HexLemmas.{decode_of-ok}
 use Rattle.std.specs.List.{list_all}
 use Rattle.std.specs.Result.{result_ok}
 use Rattle.std.proofs.lemmas.Bool.{cond_both, lt-ltb, le-leb}
-use Rattle.std.proofs.lemmas.List.{append-nil, drop-replicate, length-replicate}
+use Rattle.std.proofs.lemmas.List.{append-nil, drop-replicate, drop_all, length-replicate}
 use Rattle.hex.specs.Hex.{decode_of}
 use Rattle.hex.specs.declared.error.FromHexError.{FromHexError}
 use Rattle.msd_fit.specs.Candidates.{candidate_of}
 use Rattle.trace_text.specs.EntryLines.{is_lower_digit, set_octets}
 use Rattle.trace_text.specs.FactLines.{candidate_from, padded, set_of}
 use Rattle.trace_text.specs.Hexadecimal.{octets_of}
-use Rattle.trace_text.specs.inner.Decoding.{DecodesTo, few_of}
+use Rattle.trace_text.specs.inner.Decoding.{DecodesTo, DecodesNone, few_of}
+use Rattle.trace_text.specs.inner.Placing.{filled}
 
 -- what was decoded to the front of zeros is a ready set
 pub set_of-decodes : (text new : List ℕ) (zeros : ℕ) → zeros ≡ 140 → DecodesTo text (replicate zeros 0) new → set_of (octets_of text) ≡ Some new
@@ -67,15 +68,36 @@ set_octets-digits text long lower =
     let test : eqb (length text) 280 ≡ true = eq-eqb (length text) 280 long in
     rw (test, lower) refl
 
--- a set of 140 octets has no zero octets behind it
-pub full-set : (text : List ℕ) → length text ≡ 280 → list_all is_lower_digit text ≡ true → set_of (octets_of text) ≡ set_octets text
-full-set text long lower = by_case (octets_of text) refl ∙ sym (set_octets-digits text long lower)
+-- what fills the room of a set is the set that 280 digits of lower case spell
+full-decodes : (text old new : List ℕ) → length text ≡ 280 → list_all is_lower_digit text ≡ true → length old ≡ 140
+    → DecodesTo text old new → Some new ≡ set_octets text
+full-decodes text old new long lower room decodes =
+    let octets : List ℕ = decodes.0 in
+    let sized = decode_of-ok text octets decodes.3 in
+    let some : ltb 0 (length text) ≡ true = lt-ltb _ _ decodes.1 in
+    let none : drop (length octets) old ≡ [] = drop_all (length octets) old (omega (arith, sized.2, long, room)) in
+    let whole : new ≡ octets = decodes.4 ∙ ap (λ (r : List ℕ). octets ++ r) none ∙ append-nil octets in
+    let spelled : octets_of text ≡ Some octets = rw (some, decodes.3) refl in
+    ap Some whole ∙ sym spelled ∙ sym (set_octets-digits text long lower)
+
+-- where nothing is decoded, the digits spell no set
+full-none : (text : List ℕ) (room : ℕ) → length text ≡ 280 → list_all is_lower_digit text ≡ true → room ≡ 140
+    → DecodesNone text room → None ≡ set_octets text
+full-none text room long lower sized none =
+    by_case (octets_of text) refl ∙ sym (set_octets-digits text long lower)
   where
-    by_case : (r : Option (List ℕ)) → octets_of text ≡ r → set_of r ≡ r
+    by_case : (r : Option (List ℕ)) → octets_of text ≡ r → None ≡ r
     by_case None e = refl
     by_case (Some octets) e =
-        let sized = decode_of-ok text octets (octets_of-decodes text octets e) in
-        let full : length octets ≡ 140 = omega (arith, sized.2, long) in
-        let small : leb (length octets) 140 ≡ true = le-leb _ _ (omega (arith, full)) in
-        let none : 140 - length octets ≡ 0 = omega (arith, full) in
-        rw small (ap Some (ap (λ n. octets ++ replicate n 0) none ∙ append-nil octets))
+        let decoded : decode_of text ≡ Ok octets = octets_of-decodes text octets e in
+        let half = decode_of-ok text octets decoded in
+        let many : room < length octets = none octets (omega (arith, long)) decoded in
+        let never : ⊥ = omega (arith, half.2, long, many, sized) in
+        absurd never
+
+-- a room of a set is filled where 280 digits of lower case spell one
+pub full-set : (done : Bool) (text old new : List ℕ) → length text ≡ 280 → list_all is_lower_digit text ≡ true
+    → length old ≡ 140 → (IsTrue done → DecodesTo text old new) → (done ≡ false → DecodesNone text (length old))
+    → filled done new ≡ set_octets text
+full-set true text old new long lower room decodes _ = full-decodes text old new long lower room (decodes refl)
+full-set false text old new long lower room _ fails = full-none text (length old) long lower room (fails refl)

@@ -1,4 +1,5 @@
 pub mod Decoding
 pub mod Drafting
 pub mod NextWords
+pub mod Placing
 pub mod TextListenerLaws

@@ -22,6 +22,7 @@ pub fn read_direction(text: &[u8]) -> Option<bool>
 }
 
 /// `vehicle` or `point`.
+#[inline]
 pub fn read_end(text: &[u8]) -> Option<End>
     ensures { result ≡ end_of text.now }
 {

@@ -2,6 +2,7 @@
 
 ghost use Rattle.std.specs.Prelude.{◌≡◌};
 ghost use Rattle.trace_text.specs.EntryLines.{entry_of};
+ghost use Rattle.trace_text.specs.inner.Placing.{placed};
 ghost use Rattle.line_input.specs.Lines.{line_answer};
 
 mod choices;
@@ -12,6 +13,7 @@ mod next_words;
 
 use items::read_note;
 use line_input::{BadLine, Line, Reason};
+use link_frames::Note;
 use next_words::NextWords;
 use trace_model::Entry;
 
@@ -20,8 +22,12 @@ use trace_model::Entry;
 pub fn read_entry(line: &Line<'_>) -> Result<Entry, BadLine>
     ensures { result ≡ line_answer line.now (entry_of line.now.text) }
 {
-    match read_text(line.text()) {
-        Ok(entry) => Ok(entry),
+    let mut entry = Entry {
+        tick: 0,
+        note: Note::Nothing,
+    };
+    match read_text(line.text(), &mut entry) {
+        Ok(()) => Ok(entry),
         Err(reason) => Err(BadLine {
             line: line.number(),
             reason,
@@ -29,12 +35,12 @@ pub fn read_entry(line: &Line<'_>) -> Result<Entry, BadLine>
     }
 }
 
+/// Puts the entry that a text says in place.
 #[tactic(auto, unfolding(crate::specs::EntryLines::entry_of))]
-fn read_text(text: &[u8]) -> Result<Entry, Reason>
-    ensures { result ≡ entry_of text.now }
+fn read_text(text: &[u8], into: &mut Entry) -> Result<(), Reason>
+    ensures { placed result into.new ≡ entry_of text.now }
 {
     let mut words = NextWords::of(text);
-    let tick = words.tick()?;
-    let note = read_note(&mut words)?;
-    Ok(Entry { tick, note })
+    into.tick = words.tick()?;
+    read_note(&mut words, &mut into.note)
 }

@@ -10,6 +10,7 @@ ghost use Rattle.trace_text.specs.EntryLines.{is_lower_digit, set_octets};
 ghost use Rattle.trace_text.specs.FactLines.{candidate_from, set_of};
 ghost use Rattle.trace_text.specs.Hexadecimal.{octets_of, content_of};
 ghost use Rattle.trace_text.specs.inner.Decoding.{DecodesTo, DecodesNone, few_of};
+ghost use Rattle.trace_text.specs.inner.Placing.{filled};
 
 use arrayvec::ArrayVec;
 use line_input::is_word;
@@ -27,14 +28,14 @@ pub fn read_set_octets(text: &[u8]) -> Option<[u8; 140]>
     }
 }
 
-/// The 140 octets of a set, in 280 hexadecimal digits of lower case.
-pub fn read_full_set(text: &[u8]) -> Option<[u8; 140]>
-    ensures { result ≡ set_octets text.now }
+/// Puts the 140 octets of a set, in 280 hexadecimal digits of lower case, in place. False where the text has none.
+pub fn read_full_set(text: &[u8], into: &mut [u8; 140]) -> bool
+    ensures { filled result into.new ≡ set_octets text.now }
 {
     if text.len() == 280 && is_lower(text) {
-        read_set_octets(text)
+        decode_front(text, into)
     } else {
-        None
+        false
     }
 }
 

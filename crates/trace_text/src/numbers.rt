@@ -16,6 +16,7 @@ pub fn read_positive(text: &[u8]) -> Option<Positive>
 }
 
 /// A request, 1 to 255.
+#[inline]
 pub fn read_request(text: &[u8]) -> Option<Request>
     ensures { result ≡ positive_below 256 text.now }
 {

@@ -12,8 +12,8 @@ use msd_values::Msd;
 use per_bits::Refusal;
 
 /// The most octets that a summary has, with a space in front: `ok`, a message of 3 digits, an identification number of
-/// 17 characters, a timestamp of 10 digits and two angles of 11 characters each. A refusal has fewer: `refused`, a place
-/// of 10 digits, a reason of 3 and a value of 20.
+/// 17 characters, a timestamp of 10 digits and two angles of 11 characters each. A refusal has fewer: `refused`, a
+/// place of 10 digits, a reason of 3 and a value of 20.
 pub const LONGEST_SUMMARY: usize = 60;
 
 /// Appends the summary of the set that octets show, or of their refusal. They are decoded once, and not copied.

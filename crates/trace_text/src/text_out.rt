@@ -45,7 +45,8 @@ impl<'a, O: Sink> Listener for TextOut<'a, O> {
     }
 
     fn hear_item(&mut self, _alloc: Global, tick: u64, item: &Note) -> Result<(), Deaf>
-        ensures ok { OnOk result (TextGrew O.held O.way self.old self.new (record { tick = tick; note = item.now } ∷ [])) }
+        ensures ok { OnOk result
+            (TextGrew O.held O.way self.old self.new (record { tick = tick; note = item.now } ∷ [])) }
         ensures err { OnErr result
             (TextGrewPartly O.held O.way self.old self.new (record { tick = tick; note = item.now } ∷ [])) }
         ensures write { IfErr result (λ e. e ≡ Deaf.Write) }

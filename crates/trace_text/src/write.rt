@@ -91,7 +91,8 @@ fn long_line(line: &mut LongText, tick: u64, item: &Note)
 /// Writes the line of an item at a tick, which has no octets of a set. After a failure a front of it was written.
 fn write_short<O: Sink>(tick: u64, item: &Note, out: &mut O) -> Result<(), Failed>
     requires short { note_has_octets item.now ≡ false }
-    ensures ok { OnOk result (Grew (O.held out.old) (O.held out.new) (line_of (record { tick = tick; note = item.now }))) }
+    ensures ok { OnOk result (Grew (O.held out.old) (O.held out.new)
+        (line_of (record { tick = tick; note = item.now }))) }
     ensures partly { OnErr result (GrewPartly (O.held out.old) (O.held out.new)
         (line_of (record { tick = tick; note = item.now }))) }
     ensures stood { OnOk result (O.faults out.new ≡ O.faults out.old) }
@@ -109,7 +110,8 @@ fn write_short<O: Sink>(tick: u64, item: &Note, out: &mut O) -> Result<(), Faile
 #[inline(never)]
 fn write_long<O: Sink>(tick: u64, item: &Note, out: &mut O) -> Result<(), Failed>
     requires long { note_has_octets item.now ≡ true }
-    ensures ok { OnOk result (Grew (O.held out.old) (O.held out.new) (line_of (record { tick = tick; note = item.now }))) }
+    ensures ok { OnOk result (Grew (O.held out.old) (O.held out.new)
+        (line_of (record { tick = tick; note = item.now }))) }
     ensures partly { OnErr result (GrewPartly (O.held out.old) (O.held out.new)
         (line_of (record { tick = tick; note = item.now }))) }
     ensures stood { OnOk result (O.faults out.new ≡ O.faults out.old) }
@@ -136,7 +138,8 @@ pub fn write_entry<O: Sink>(entry: &Entry, out: &mut O) -> Result<(), Failed>
 
 /// Writes the line of the entry that an item at a tick is. After a failure a front of it was written.
 pub(crate) fn write_item<O: Sink>(tick: u64, item: &Note, out: &mut O) -> Result<(), Failed>
-    ensures ok { OnOk result (Grew (O.held out.old) (O.held out.new) (line_of (record { tick = tick; note = item.now }))) }
+    ensures ok { OnOk result (Grew (O.held out.old) (O.held out.new)
+        (line_of (record { tick = tick; note = item.now }))) }
     ensures partly { OnErr result (GrewPartly (O.held out.old) (O.held out.new)
         (line_of (record { tick = tick; note = item.now }))) }
     ensures stood { OnOk result (O.faults out.new ≡ O.faults out.old) }

@@ -43,10 +43,11 @@ impl<'a> NextWords<'a> {
     ghost use Rattle.std.specs.Prelude.{◌≡◌};
     ghost use Rattle.std.specs.Str.{bytes_eq};
     ghost use Rattle.trace_text.specs.EntryLine.{spaced};
-    ghost use Rattle.trace_text.specs.EntryLines.{next_answer, next_attempt, next_call, next_dial, next_end, next_item, next_kind, next_leg, next_net, next_octets, next_request, next_set, next_tick, next_timer, next_voice, next_why, no_more};
+    ghost use Rattle.trace_text.specs.EntryLines.{next_answer, next_attempt, next_call, next_dial, next_end, next_item, next_kind, next_leg, next_net, next_octets, next_request, next_tick, next_timer, next_voice, next_why, no_more};
     ghost use Rattle.trace_text.specs.Summary.{summary_words};
     ghost use Rattle.line_input.specs.Words.{words};
     ghost use Rattle.trace_text.specs.inner.NextWords.{next_word, told, word_told};
+    ghost use Rattle.trace_text.specs.inner.Placing.{placed};
 
     /// All words of a line.
     pub fn of(text: &'a [u8]) -> NextWords<'a>
@@ -56,6 +57,7 @@ impl<'a> NextWords<'a> {
     }
 
     /// The next word.
+    #[inline]
     fn word(&mut self) -> Result<&'a [u8], Reason>
         ensures { word_told result self.new ≡ next_word self.old }
     {
@@ -70,6 +72,7 @@ impl<'a> NextWords<'a> {
     }
 
     /// A tick, 0 to 18446744073709551615.
+    #[inline]
     pub fn tick(&mut self) -> Result<u64, Reason>
         ensures { told result self.new ≡ next_tick self.old }
     {
@@ -77,6 +80,7 @@ impl<'a> NextWords<'a> {
     }
 
     /// A call, 0 to 4294967295; it is 0 outside a call.
+    #[inline]
     pub fn call(&mut self) -> Result<u32, Reason>
         ensures { told result self.new ≡ next_call self.old }
     {
@@ -84,6 +88,7 @@ impl<'a> NextWords<'a> {
     }
 
     /// A request, 1 to 255.
+    #[inline]
     pub fn request(&mut self) -> Result<Request, Reason>
         ensures { told result self.new ≡ next_request self.old }
     {
@@ -91,6 +96,7 @@ impl<'a> NextWords<'a> {
     }
 
     /// The attempt of a frame that carries a set, 0 to 255.
+    #[inline]
     pub fn attempt(&mut self) -> Result<u8, Reason>
         ensures { told result self.new ≡ next_attempt self.old }
     {
@@ -105,6 +111,7 @@ impl<'a> NextWords<'a> {
     }
 
     /// `vehicle` or `point`.
+    #[inline]
     pub fn end(&mut self) -> Result<End, Reason>
         ensures { told result self.new ≡ next_end self.old }
     {
@@ -119,6 +126,7 @@ impl<'a> NextWords<'a> {
     }
 
     /// One direction of the voice, true for `open`.
+    #[inline]
     pub fn voice(&mut self) -> Result<bool, Reason>
         ensures { told result self.new ≡ next_voice self.old }
     {
@@ -147,6 +155,7 @@ impl<'a> NextWords<'a> {
     }
 
     /// The first word of a frame.
+    #[inline]
     pub fn kind(&mut self) -> Result<FrameKind, Reason>
         ensures { told result self.new ≡ next_kind self.old }
     {
@@ -160,14 +169,19 @@ impl<'a> NextWords<'a> {
         read_item(self.word()?).ok_or(Reason::Word)
     }
 
-    /// The octets of a set.
-    pub fn octets(&mut self) -> Result<[u8; OCTETS], Reason>
-        ensures { told result self.new ≡ next_octets self.old }
+    /// The octets of a set, put in place.
+    pub fn octets(&mut self, into: &mut [u8; OCTETS]) -> Result<(), Reason>
+        ensures { told (placed result into.new) self.new ≡ next_octets self.old }
     {
-        read_full_set(self.word()?).ok_or(Reason::Hex)
+        if read_full_set(self.word()?, into) {
+            Ok(())
+        } else {
+            Err(Reason::Hex)
+        }
     }
 
     /// An end and a call.
+    #[inline]
     pub fn leg(&mut self) -> Result<(End, u32), Reason>
         ensures { told result self.new ≡ next_leg self.old }
     {
@@ -176,17 +190,8 @@ impl<'a> NextWords<'a> {
         Ok((end, call))
     }
 
-    /// A call, a request and the octets of a set.
-    pub fn set(&mut self) -> Result<(u32, Request, [u8; OCTETS]), Reason>
-        ensures { told result self.new ≡ next_set self.old }
-    {
-        let call = self.call()?;
-        let request = self.request()?;
-        let octets = self.octets()?;
-        Ok((call, request, octets))
-    }
-
     /// No further word may follow.
+    #[inline]
     pub fn no_more(&self) -> Result<(), Reason>
         ensures { result ≡ no_more self.now }
     {
