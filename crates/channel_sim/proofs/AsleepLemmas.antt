@@ -1,5 +1,5 @@
 -- Calls in whose sessions nothing is due: which of the first stay so when a call changes, and that they rest.
-use Rattle.std.proofs.Common.{◌≡◌, ℕ, zero, suc, ◌+◌, ◌-◌, ◌<◌, ◌≤◌, ◌⊎◌, inl, inr, Option, Some, None, IfSome, List, [], ◌∷◌, ◌++◌, length, get_or, take, drop, refl, ap, sym, ◌∙◌, subst, arith, rules}
+use Rattle.std.proofs.Common.{◌≡◌, ℕ, zero, suc, ◌+◌, ◌-◌, ◌<◌, ◌≤◌, inl, Option, Some, None, IfSome, List, [], ◌∷◌, ◌++◌, length, get_or, take, drop, refl, ap, sym, ◌∙◌, subst, arith, rules}
 use Rattle.std.proofs.Math.ListN.{set}
 use Rattle.std.proofs.lemmas.List.{length-set, length-append, take_more, take_more_set}
 use Rattle.std.specs.List.{AllByRecursion, remove}
@@ -7,11 +7,14 @@ use Rattle.psap_machine.specs.declared.session.Session.{Session}
 use Rattle.psap_machine.specs.Point.{Point}
 use Rattle.psap_machine.specs.PointRows as point
 use Rattle.psap_machine.specs.SessionStands.{SessionStandsFor, WaitsForNothing}
+use Rattle.trace_model.specs.History.{Sent}
 use Rattle.channel_sim.specs.declared.calls.call.Call as kept_call
 use Rattle.channel_sim.specs.World.{Call}
-use Rattle.channel_sim.specs.inner.Asleep.{NothingDue, Sleeps, AreAsleep, DueLater, Waits, AreWaiting}
+use Rattle.channel_sim.specs.inner.Asleep.{NothingDue, Sleeps, AreAsleep, Waits, AreWaiting}
+use Rattle.channel_sim.specs.inner.Seats.{DueLater}
 use Rattle.channel_sim.specs.Lag.{SessionLags, SeatLags, CallLags, CallsLag}
-use Rattle.channel_sim.specs.Quiet.{SessionRests, CallRests, IsQuietCall}
+use Rattle.channel_sim.specs.inner.Past.{AreOver, HandsNothing}
+use Rattle.channel_sim.specs.Quiet.{SessionRests, CallRests, FramesRest, IsQuietCall}
 use Rattle.channel_sim.proofs.CatchLemmas.{same_item, same_length}
 use Rattle.channel_sim.proofs.EndJump.{point_later}
 use Rattle.channel_sim.proofs.LagLemmas.{as_sum}
@@ -153,7 +156,7 @@ call_rests floor clock n x k h sleeps = seat_rests (clock - x.passed) n x.sessio
 pub rest_later : (n : ℕ) (kept : Session) (s : Point) → WaitsForNothing kept → SessionStandsFor kept s → IfSome (point.due_of s) (λ due. n < due)
 rest_later n kept s none h = none_later n (point.due_of s) (none_due kept s none h)
 
-due_later : (n : ℕ) (a : Option Session) → NothingDue a → DueLater n a
+pub due_later : (n : ℕ) (a : Option Session) → NothingDue a → DueLater n a
 due_later n None none = tt
 due_later n (Some kept) none = λ s stands. rest_later n kept s none stands
 
@@ -184,23 +187,23 @@ call_waits floor before x k h wait =
     let sum : (before + 1) - x.passed ≡ (before - x.passed) + 1 = omega arith in
     seat_waits (before - x.passed) ((before + 1) - x.passed) x.session k.session sum h.session wait
 
-quiet_asleep : (floor n tick : ℕ) (clock : ℕ → ℕ) (f : ℕ) (xs : List kept_call.Call) (ks : List Call) → CallsLag floor clock xs ks → AllByRecursion Sleeps (take f xs) → AllByRecursion (λ k. IsQuietCall n 0 0 tick k) (take f ks)
-quiet_asleep floor n tick clock zero [] [] h sleep = tt
-quiet_asleep floor n tick clock (suc f) [] [] h sleep = tt
-quiet_asleep floor n tick clock f [] (k ∷ ks) h sleep = absurd h
-quiet_asleep floor n tick clock f (x ∷ xs) [] h sleep = absurd h
-quiet_asleep floor n tick clock zero (x ∷ xs) (k ∷ ks) h sleep = tt
-quiet_asleep floor n tick clock (suc f) (x ∷ xs) (k ∷ ks) h sleep =
-    (record { session = call_rests floor (clock k.number) n x k h.0 sleep.0; up = tt; down = tt }, quiet_asleep floor n tick clock f xs ks h.1 sleep.1)
+over_rests : (n delay tick : ℕ) (xs : List Sent) → AreOver delay tick xs → FramesRest n delay tick xs
+over_rests n zero tick xs h = tt
+over_rests n (suc d) tick [] h = tt
+over_rests n (suc d) tick (x ∷ xs) h = (inl h.0, over_rests n (suc d) tick xs h.1)
 
-none_taken : {A : Type 0} (P : A → Type 0) (xs : List A) → AllByRecursion P (take 0 xs)
-none_taken P [] = tt
-none_taken P (x ∷ xs) = tt
-
--- the first calls are quiet, where they sleep while both flows are off, or there are none
-pub front_quiet : (floor n tick up down : ℕ) (clock : ℕ → ℕ) (f : ℕ) (xs : List kept_call.Call) (ks : List Call) → CallsLag floor clock xs ks → AllByRecursion Sleeps (take f xs) → (f ≡ 0) ⊎ ((up ≡ 0) × (down ≡ 0)) → AllByRecursion (λ k. IsQuietCall n up down tick k) (take f ks)
-front_quiet floor n tick up down clock f xs ks h sleep (inl none) =
-    subst (λ m. AllByRecursion (λ k. IsQuietCall n up down tick k) (take m ks)) (sym none) (none_taken (λ k. IsQuietCall n up down tick k) ks)
-front_quiet floor n tick up down clock f xs ks h sleep (inr off) =
-    subst (λ u. AllByRecursion (λ k. IsQuietCall n u down tick k) (take f ks)) (sym off.0)
-    (subst (λ d. AllByRecursion (λ k. IsQuietCall n 0 d tick k) (take f ks)) (sym off.1) (quiet_asleep floor n tick clock f xs ks h sleep))
+-- the first calls are quiet, where they sleep, and no flow hands a frame of them over any more
+pub front_quiet : (floor n tick up down : ℕ) (clock : ℕ → ℕ) (f : ℕ) (xs : List kept_call.Call) (ks : List Call) → CallsLag floor clock xs ks → AllByRecursion Sleeps (take f xs) → AllByRecursion (HandsNothing up down tick) (take f xs) → AllByRecursion (λ k. IsQuietCall n up down tick k) (take f ks)
+front_quiet floor n tick up down clock zero [] [] h sleep over = tt
+front_quiet floor n tick up down clock (suc f) [] [] h sleep over = tt
+front_quiet floor n tick up down clock f [] (k ∷ ks) h sleep over = absurd h
+front_quiet floor n tick up down clock f (x ∷ xs) [] h sleep over = absurd h
+front_quiet floor n tick up down clock zero (x ∷ xs) (k ∷ ks) h sleep over = tt
+front_quiet floor n tick up down clock (suc f) (x ∷ xs) (k ∷ ks) h sleep over = (
+  record {
+    session = call_rests floor (clock k.number) n x k h.0 sleep.0;
+    up = subst (FramesRest n up tick) (sym h.0.up) (over_rests n up tick x.up over.0.up);
+    down = subst (FramesRest n down tick) (sym h.0.down) (over_rests n down tick x.down over.0.down);
+  },
+  front_quiet floor n tick up down clock f xs ks h.1 sleep.1 over.1,
+)

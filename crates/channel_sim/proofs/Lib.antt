@@ -42,11 +42,13 @@ mod SessionLemmas
 -- between lines: what is kept stands for the world
 pub mod Standing
 mod StepLemmas
+mod StillLemmas
 mod TickLemmas
 -- a unit tick of the world keeps a world that fits
 pub mod Ticks
 mod TidyLemmas
 mod VehicleLemmas
 mod WaitLemmas
+mod WakeLemmas
 -- the invariant at the world's tick, and whole traces
 pub mod Whole

@@ -3,5 +3,7 @@ pub mod Asleep
 pub mod FitAt
 pub mod Happenings
 pub mod Passes
+pub mod Past
 pub mod Places
+pub mod Seats
 pub mod Sends

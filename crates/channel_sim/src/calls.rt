@@ -2,7 +2,9 @@
 
 mod asleep;
 mod call;
+mod counts;
 mod due;
+mod seat;
 mod sessions;
 
 ghost use Rattle.std.specs.Prelude.{◌≡◌, ◌<◌, ◌++◌, ◌∷◌, ◌-◌, ◌+◌, ℕ, List, [], Option, false, Some, None, OnOk, IfSome, length, map, slice_get, if◌then◌else◌};
@@ -15,7 +17,7 @@ ghost use Rattle.channel_sim.specs.World as model;
 ghost use Rattle.channel_sim.specs.inner.Acts.{OtherHasLeg};
 ghost use Rattle.channel_sim.specs.Handing.{full};
 ghost use Rattle.channel_sim.specs.Lag.{CallsLag};
-ghost use Rattle.channel_sim.specs.inner.Asleep.{IsActingPart, IsAwakePart};
+ghost use Rattle.channel_sim.specs.inner.Asleep.{IsActingPart, IsAwakePart, IsLatePart};
 ghost use Rattle.channel_sim.specs.inner.Places.{place_of};
 ghost use Rattle.channel_sim.specs.Tidy.{AreAbove, numbers_of};
 
@@ -23,6 +25,7 @@ use crate::kept::KeptFrame;
 pub(crate) use asleep::catch_each_up;
 use asleep::count_waiting;
 pub(crate) use call::Call;
+use counts::Counts;
 pub use due::Due;
 pub(crate) use due::{all_due, call_due};
 use link_frames::{End, Frame, Note};
@@ -34,20 +37,19 @@ use std::marker::Model;
 #[derive(Drop)]
 pub(crate) struct Calls {
     list: Vec<Call>,
-    /// In so many of the first calls the session, if it is there, does nothing however many ticks pass.
-    asleep: usize,
+    counts: Counts,
 }
 
 impl Model for Calls {
     ghost use Rattle.std.specs.Prelude.{List};
     ghost use Rattle.channel_sim.specs.declared.calls.call.Call.{Call};
-    ghost use Rattle.channel_sim.specs.inner.Asleep.{AreAsleep};
+    ghost use Rattle.channel_sim.specs.inner.Asleep.{CountsStand};
 
     ghost Value = { List Call };
 
     ghost view = { λ s. s.list.items };
 
-    ghost invariant = { λ s. AreAsleep s.asleep s.list.items };
+    ghost invariant = { λ s. CountsStand s.counts s.list.items };
 }
 
 impl Calls {
@@ -57,7 +59,7 @@ impl Calls {
     {
         Calls {
             list: Vec::new(alloc),
-            asleep: 0,
+            counts: Counts::new(),
         }
     }
 
@@ -72,14 +74,34 @@ impl Calls {
     pub(crate) fn awake(&self) -> &[Call]
         ensures { IsAwakePart result.now self.now }
     {
-        &self.list[self.asleep..]
+        &self.list[self.counts.asleep..]
+    }
+
+    /// All but the first ones, whose sessions do nothing however many ticks pass, and in which nothing was sent at this
+    /// tick or later.
+    pub(crate) fn from_tick(&self, tick: u64) -> &[Call]
+        ensures { IsLatePart tick result.now self.now }
+    {
+        let front = self.counts.before(tick);
+        &self.list[front..]
+    }
+
+    /// Counts which of the first calls need not be looked at behind this tick, while the flows that are on hand frames
+    /// over after at most so many ticks.
+    pub(crate) fn settle(&mut self, tick: u64, flow: u32)
+        ensures { self.new ≡ self.old }
+    {
+        if flow > 0 {
+            self.counts
+                .settle(&self.list, tick.saturating_sub(u64::from(flow)));
+        }
     }
 
     /// All from the first one on whose session does something at this tick.
     pub(crate) fn acting(&self, tick: u64) -> &[Call]
         ensures { IsActingPart tick result.now self.now }
     {
-        let count = count_waiting(&self.list, self.asleep, tick);
+        let count = count_waiting(&self.list, self.counts.asleep, tick);
         &self.list[count..]
     }
 }
@@ -142,7 +164,7 @@ fn post_frame(
 {
     match find(&calls.list, number) {
         Some(i) => {
-            calls.asleep = calls.asleep.min(i);
+            calls.counts.wake(i);
             calls.list[i].push(alloc, end, tick, frame)
         }
         None => Ok(()),
@@ -175,7 +197,7 @@ pub(crate) fn drop_without_session(calls: &mut Calls, number: u32)
 {
     if let Some(i) = find(&calls.list, number) {
         if calls.list[i].session.is_none() {
-            calls.asleep = calls.asleep.min(i);
+            calls.counts.wake(i);
             drop(calls.list.remove(i));
         }
     }

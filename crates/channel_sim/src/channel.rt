@@ -9,6 +9,7 @@ use crate::calls::Calls;
 use crate::fault::SimFault;
 use crate::happening::Happening;
 use crate::room::Room;
+use crate::vehicle::KeptVehicle;
 use ivs_machine::Ivs;
 use link_frames::Steps;
 use msd_fit::Facts;
@@ -20,7 +21,7 @@ use trace_model::Listener;
 #[derive(Drop)]
 pub(crate) struct Channel {
     pub(crate) tick: u64,
-    pub(crate) vehicle: Ivs,
+    pub(crate) vehicle: KeptVehicle,
     /// The tick up to which the vehicle was passed.
     passed: u64,
     pub(crate) drawn: u32,
@@ -46,7 +47,7 @@ impl Channel {
     {
         Channel {
             tick: 0,
-            vehicle: Ivs::new(facts),
+            vehicle: KeptVehicle::of(Ivs::new(facts)),
             passed: 0,
             drawn: 0,
             calls: Calls::new(alloc),

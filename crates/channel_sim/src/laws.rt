@@ -36,8 +36,8 @@ pub fn traces_are_safe()
 {}
 
 /// What the invariant says of a world and its entries: each leg is up in the one exactly where it is up in the other,
-/// the world has a call, with its frames, exactly while one of its legs is up, and there is one set for each request of a
-/// call.
+/// the world has a call, with its frames, exactly while one of its legs is up, and there is one set for each request of
+/// a call.
 pub fn fitting_worlds()
     ensures vehicle_leg { (w : World) (entries : List Entry) (c : ℕ) → Fit w entries →
         (leg_at «end».Vehicle c entries).up ≡ vehicle_is_in c w }

@@ -13,6 +13,7 @@ mod quiet;
 mod room;
 mod sends;
 mod telling;
+mod vehicle;
 mod world;
 
 pub use calls::Due;

@@ -35,8 +35,8 @@ impl World {
         self.channel.tick = tick;
     }
 
-    /// A tick, at most `end`, up to which no end acts and no frame is handed over: at it one may. An earlier one would be right
-    /// too, and cost a look at each tick between.
+    /// A tick, at most `end`, up to which no end acts and no frame is handed over: at it one may. An earlier one would
+    /// be right too, and cost a look at each tick between.
     pub fn next_tick(&self, end: u64) -> u64
         ensures most { result ≤ end }
         ensures quiet { (floor n : ℕ) (w : model.World) →

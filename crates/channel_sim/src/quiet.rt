@@ -4,12 +4,13 @@ ghost use Rattle.std.specs.Prelude.{◌≡◌, ◌≤◌, ◌<◌, ◌-◌, ◌+
 ghost use Rattle.psap_machine.specs.Point.{Point};
 ghost use Rattle.psap_machine.specs.PointRows as point;
 ghost use Rattle.psap_machine.specs.SessionStands.{SessionStandsFor, WaitsForNothing};
+ghost use Rattle.channel_sim.specs.inner.Seats.{IsQuietFor};
 ghost use Rattle.channel_sim.specs.Lag.{SessionLags, VehicleLags};
 ghost use Rattle.ivs_machine.specs.IvsStands.{IvsStandsFor};
 ghost use Rattle.ivs_machine.specs.Vehicle.{Vehicle};
 ghost use Rattle.ivs_machine.specs.VehicleRows as vehicle;
 
-use ivs_machine::Ivs;
+use crate::vehicle::KeptVehicle;
 use link_frames::{Items, Steps};
 use psap_machine::Session;
 use std::sync::ledger::Ledger;
@@ -51,6 +52,26 @@ pub(crate) fn pass_quietly<L: Ledger>(
     }
 }
 
+/// Passes a session by ticks in which it does nothing; in fewer than `quiet` nothing is due in it. `items` is room.
+pub(crate) fn pass_known<L: Ledger>(
+    session: &mut Session,
+    lag: u64,
+    quiet: u64,
+    items: &mut Items,
+    moments: &mut Steps<L>,
+)
+    requires { IsQuietFor quiet (Some session.old) }
+    ensures lags { (s : Point) → SessionLags lag session.old s → SessionLags 0 session.new s }
+    ensures passes { (s : Point) → SessionLags lag session.old s → lag < 2 ^ 32 → moments.new ≤ moments.old + 1 }
+    ensures still { lag ≡ 0 → moments.new ≡ moments.old }
+{
+    if 0 < lag && lag < quiet && lag <= u64::from(u32::MAX) {
+        session.rest(lag as u32, moments);
+    } else {
+        pass_quietly(session, lag, items, moments);
+    }
+}
+
 /// Lets so many ticks pass in a session that waits for nothing.
 #[inline]
 pub(crate) fn rest_by<L: Ledger>(session: &mut Session, lag: u64, moments: &mut Steps<L>)
@@ -87,7 +108,7 @@ pub(crate) fn due_at(session: &Session, lag: u64) -> Option<u32>
 
 /// Passes the vehicle by ticks in which it does nothing. `items` is room.
 pub(crate) fn pass_vehicle_quietly<L: Ledger>(
-    ivs: &mut Ivs,
+    ivs: &mut KeptVehicle,
     lag: u64,
     items: &mut Items,
     moments: &mut Steps<L>,
@@ -108,7 +129,7 @@ pub(crate) fn pass_vehicle_quietly<L: Ledger>(
 }
 
 /// What is due at the vehicle, if that is not later than so many ticks.
-pub(crate) fn vehicle_due_at(ivs: &Ivs, lag: u64) -> Option<u32>
+pub(crate) fn vehicle_due_at(ivs: &KeptVehicle, lag: u64) -> Option<u32>
     ensures some { IfSome result (λ due. (0 < due) × (due ≤ lag)) }
     ensures due { (v : Vehicle) → IvsStandsFor ivs.now v → IfSome result (λ due. vehicle.due_of v ≡ Some due) }
     ensures later { (v : Vehicle) → IvsStandsFor ivs.now v → result ≡ None →

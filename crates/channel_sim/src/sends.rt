@@ -26,16 +26,21 @@ pub(crate) struct KeptSent {
 pub struct Sends {
     frames: Vec<KeptSent>,
     last: Option<Rc<[u8; OCTETS]>>,
+    /// No frame was sent later than at this tick.
+    newest: u64,
 }
 
 impl Model for Sends {
-    ghost use Rattle.std.specs.Prelude.{List, map};
+    ghost use Rattle.std.specs.Prelude.{List, map, ◌≤◌};
+    ghost use Rattle.std.specs.List.{AllByRecursion};
     ghost use Rattle.trace_model.specs.History.{Sent};
     ghost use Rattle.channel_sim.specs.Sends.{sent_of};
 
     ghost Value = { List Sent };
 
     ghost view = { λ s. map sent_of s.frames.items };
+
+    ghost invariant = { λ s. AllByRecursion (λ (x : Sent). x.tick ≤ s.newest) (map sent_of s.frames.items) };
 }
 
 impl Sends {
@@ -46,7 +51,15 @@ impl Sends {
         Sends {
             frames: Vec::new(alloc),
             last: None,
+            newest: 0,
         }
+    }
+
+    /// A tick later than which no frame was sent.
+    pub(crate) fn newest(&self) -> u64
+        ensures { AllByRecursion (λ s. s.tick ≤ result) self.now }
+    {
+        self.newest
     }
 
     /// How many frames were sent.
@@ -84,6 +97,7 @@ impl Sends {
     {
         let kept = kept_frame(&mut self.last, alloc, frame)?;
         self.frames.push(KeptSent { tick, frame: kept })?;
+        self.newest = self.newest.max(tick);
         Ok(())
     }
 
@@ -137,8 +151,8 @@ fn begin_at(frames: &[KeptSent], tick: u64, near: usize) -> usize
     0
 }
 
-/// The place of the first of these that was sent at this tick or later, by halves. Out of line, since it is nearly always
-/// at `near` or behind all.
+/// The place of the first of these that was sent at this tick or later, by halves. Out of line, since it is nearly
+/// always at `near` or behind all.
 #[inline(never)]
 fn search_place(frames: &[KeptSent], tick: u64, near: usize) -> usize
     ensures within { result ≤ length frames.now }

@@ -71,7 +71,7 @@ impl World {
     pub fn vehicle(&self) -> &Ivs
         ensures { (w : model.World) → WorldStandsFor self.now w → IvsStandsFor result.now w.vehicle }
     {
-        &self.channel.vehicle
+        self.channel.vehicle.ivs()
     }
 
     /// The world's session of a call; `None` exactly where there is none.
@@ -81,7 +81,7 @@ impl World {
     {
         let calls = self.channel.calls.all();
         let i = find(calls, call)?;
-        calls[i].session.as_ref()
+        calls[i].session.session()
     }
 
     /// What one event line does: the listener hears each entry of the step, in order. After a failure the world is
@@ -97,7 +97,8 @@ impl World {
         requires time { (n : ℕ) → event.now ≡ Event.Tick n → ticks_reached self + n < 2 ^ 64 }
         ensures step { (w : model.World) → WorldStandsFor self w →
             CameTo (H.grew to.old to.new) (H.partly to.old to.new) result (lines.step w event.now) }
-        // Where the entries so far fit the world before the step, those of the step behind them fit the world behind it.
+        // Where the entries so far fit the world before the step, those of the step behind them fit the world behind
+        // it.
         ensures fits { (w : model.World) (entries : List Entry) → WorldStandsFor self w → Fit w entries →
             OnOk result (Fit (lines.step w event.now).world (entries ++ (lines.step w event.now).entries)) }
         ensures calls { (w : model.World) → WorldStandsFor self w →

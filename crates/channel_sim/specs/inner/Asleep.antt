@@ -1,12 +1,13 @@
 -- Sessions with nothing due: a session that waits for nothing does nothing, however many ticks pass. Cited by the model
 -- of the calls that are kept, and by the private functions on elapsed time.
-use Rattle.std.specs.Prelude.{◌≡◌, ◌≤◌, ◌<◌, ◌-◌, ◌⊎◌, ℕ, List, Option, Some, None, IfSome, length, take, drop}
+use Rattle.std.specs.Prelude.{◌≡◌, ◌≤◌, ◌-◌, ℕ, List, Option, Some, None, length, take, drop}
 use Rattle.std.specs.List.{AllByRecursion}
 use Rattle.psap_machine.specs.declared.session.Session.{Session}
-use Rattle.psap_machine.specs.Point.{Point}
-use Rattle.psap_machine.specs.PointRows.{due_of}
-use Rattle.psap_machine.specs.SessionStands.{SessionStandsFor, WaitsForNothing}
+use Rattle.psap_machine.specs.SessionStands.{WaitsForNothing}
 use Rattle.channel_sim.specs.declared.calls.call.Call.{Call}
+use Rattle.channel_sim.specs.declared.calls.counts.Counts.{Counts}
+use Rattle.channel_sim.specs.inner.Past.{HandsNothing, IsBefore, IsPast}
+use Rattle.channel_sim.specs.inner.Seats.{DueLater}
 
 -- this session, if it is there, waits for nothing
 abbrev pub NothingDue : Option Session → Type 0
@@ -27,17 +28,39 @@ pub record IsAwakePart (part calls : List Call) : Type 0 where
   pub same : part ≡ drop front calls
   pub sleep : AllByRecursion Sleeps (take front calls)
 
--- the same, and none is left out while a flow is on
-pub record IsStirringPart (up_flow down_flow : ℕ) (part calls : List Call) : Type 0 where
+-- the same, and with these delays no flow hands a frame of the others over behind this tick
+pub record IsStirringPart (up_flow down_flow tick : ℕ) (part calls : List Call) : Type 0 where
   pub front : ℕ
   pub same : part ≡ drop front calls
   pub sleep : AllByRecursion Sleeps (take front calls)
-  pub off : (front ≡ 0) ⊎ ((up_flow ≡ 0) × (down_flow ≡ 0))
+  pub over : AllByRecursion (HandsNothing up_flow down_flow tick) (take front calls)
 
--- whatever state this session stands for, nothing is due in it in so many ticks
-abbrev pub DueLater : ℕ → Option Session → Type 0
-DueLater n None = Unit {0}
-DueLater n (Some session) = (s : Point) → SessionStandsFor session s → IfSome (due_of s) (λ due. n < due)
+-- all of these calls but the first, in which nothing is due, and all frames were sent earlier than at this tick
+pub record IsLatePart (tick : ℕ) (part calls : List Call) : Type 0 where
+  pub front : ℕ
+  pub same : part ≡ drop front calls
+  pub sleep : AllByRecursion Sleeps (take front calls)
+  pub before : AllByRecursion (IsBefore tick) (take front calls)
+
+-- so many of the first calls are such
+pub record IsFront (tick n : ℕ) (calls : List Call) : Type 0 where
+  pub within : n ≤ length calls
+  pub sleep : AllByRecursion Sleeps (take n calls)
+  pub before : AllByRecursion (IsBefore tick) (take n calls)
+
+-- what is counted of the first calls holds of these
+pub record CountsStand (counts : Counts) (calls : List Call) : Type 0 where
+  pub sleep : AreAsleep counts.asleep calls
+  pub fewer : counts.still ≤ counts.asleep
+  pub past : AllByRecursion (IsPast counts.quiet) (take counts.still calls)
+
+-- the call at this place, and those behind it, are not counted any more
+pub record IsWoken (i : ℕ) (old new : Counts) : Type 0 where
+  pub before : new.asleep ≤ i
+  pub asleep : new.asleep ≤ old.asleep
+  pub fewer : new.still ≤ new.asleep
+  pub still : new.still ≤ old.still
+  pub quiet : new.quiet ≡ old.quiet
 
 -- up to this tick the session of this call, if it is there, does nothing
 abbrev pub Waits : ℕ → Call → Type 0

@@ -1,14 +1,14 @@
 //! Which of the first calls have sessions that do nothing for now, or however many ticks pass.
 
-ghost use Rattle.std.specs.Prelude.{◌≡◌, ◌≤◌, ◌<◌, ◌-◌, ◌+◌, ℕ, List, true, Some, None, ◌^◌};
+ghost use Rattle.std.specs.Prelude.{◌≡◌, ◌≤◌, ◌<◌, ◌-◌, ◌+◌, ℕ, List, true, Some, None, take, ◌^◌};
 ghost use Rattle.std.specs.List.{AllByRecursion};
 ghost use Rattle.channel_sim.specs.World as model;
 ghost use Rattle.channel_sim.specs.Lag.{CallsLag};
 ghost use Rattle.channel_sim.specs.inner.Asleep.{AreAsleep, AreWaiting, Sleeps, Waits};
+ghost use Rattle.channel_sim.specs.inner.Past.{IsPast};
 
 use super::call::{catch_up, rest_up};
 use super::{Call, Calls};
-use crate::quiet::due_at;
 use link_frames::{Items, Steps};
 use std::sync::ledger::Ledger;
 
@@ -24,7 +24,13 @@ pub(crate) fn catch_each_up<L: Ledger>(
     ensures passes { (floor : ℕ) (ks : List model.Call) → CallsLag floor (λ c. tick) calls.old ks → floor ≤ tick →
         tick < floor + 2 ^ 32 → moments.new ≤ moments.old + model.session_count ks }
 {
-    calls.asleep = catch_parts_up(&mut calls.list, calls.asleep, tick, items, moments);
+    calls.counts.asleep = catch_parts_up(
+        &mut calls.list,
+        calls.counts.asleep,
+        tick,
+        items,
+        moments,
+    );
 }
 
 /// Passes the session of each of these calls up to this tick, up to which it does nothing: the first ones, so many, do
@@ -38,6 +44,9 @@ fn catch_parts_up<L: Ledger>(
 ) -> usize
     requires { AreAsleep asleep calls.old }
     ensures asleep { AreAsleep result calls.new }
+    ensures more { asleep ≤ result }
+    ensures past { (tick n : ℕ) → n ≤ asleep → AllByRecursion (IsPast tick) (take n calls.old) →
+        AllByRecursion (IsPast tick) (take n calls.new) }
     ensures lags { (floor : ℕ) (ks : List model.Call) → CallsLag floor (λ c. tick) calls.old ks → floor ≤ tick →
         CallsLag tick (λ c. tick) calls.new ks }
     ensures passes { (floor : ℕ) (ks : List model.Call) → CallsLag floor (λ c. tick) calls.old ks → floor ≤ tick →
@@ -52,6 +61,8 @@ fn catch_parts_up<L: Ledger>(
 fn rest_each<L: Ledger>(calls: &mut [Call], tick: u64, moments: &mut Steps<L>)
     requires { AllByRecursion Sleeps calls.old }
     ensures asleep { AllByRecursion Sleeps calls.new }
+    ensures past { (tick n : ℕ) → AllByRecursion (IsPast tick) (take n calls.old) →
+        AllByRecursion (IsPast tick) (take n calls.new) }
     ensures lags { (floor : ℕ) (ks : List model.Call) → CallsLag floor (λ c. tick) calls.old ks → floor ≤ tick →
         CallsLag tick (λ c. tick) calls.new ks }
     ensures passes { (floor : ℕ) (ks : List model.Call) → CallsLag floor (λ c. tick) calls.old ks → floor ≤ tick →
@@ -92,7 +103,7 @@ fn catch_listed_up<L: Ledger>(
 fn is_asleep(call: &Call) -> bool
     ensures { result ≡ true → Sleeps call.now }
 {
-    match &call.session {
+    match call.session.session() {
         Some(session) => session.waits_for_nothing(),
         None => true,
     }
@@ -110,10 +121,7 @@ fn sleeps_too(before: bool, call: &Call) -> bool
 fn waits(call: &Call, tick: u64) -> bool
     ensures { result ≡ true → Waits tick call.now }
 {
-    match &call.session {
-        Some(session) => due_at(session, tick.saturating_sub(call.passed)).is_none(),
-        None => true,
-    }
+    tick.saturating_sub(call.passed) < call.session.quiet()
 }
 
 /// How many of the first of these calls wait up to this tick, where in so many of them nothing is due.

@@ -9,13 +9,15 @@ ghost use Rattle.channel_sim.specs.inner.Acts.{pushed, CallDid};
 ghost use Rattle.channel_sim.specs.Handing.{full};
 ghost use Rattle.channel_sim.specs.Lag.{CallLags};
 ghost use Rattle.channel_sim.specs.inner.Asleep.{Sleeps};
+ghost use Rattle.channel_sim.specs.inner.Past.{IsPast};
 ghost use Rattle.channel_sim.specs.inner.Passes.{once_if};
 
+use super::seat::{Seat, quiet_ticks};
 use crate::kept::KeptFrame;
-use crate::quiet::{due_at, pass_quietly, rest_by};
+use crate::quiet::{due_at, pass_known, rest_by};
 use crate::sends::Sends;
 use link_frames::{End, Frame, Items, Steps, Why};
-use psap_machine::{PointEvent, Session};
+use psap_machine::PointEvent;
 use std::alloc::{AllocError, Global};
 use std::sync::ledger::Ledger;
 
@@ -24,7 +26,7 @@ use std::sync::ledger::Ledger;
 #[derive(Drop)]
 pub(crate) struct Call {
     pub(crate) passed: u64,
-    pub(crate) session: Option<Session>,
+    pub(crate) session: Seat,
     pub(crate) number: u32,
     pub(crate) up: Sends,
     pub(crate) down: Sends,
@@ -37,7 +39,7 @@ impl Call {
     {
         Call {
             passed,
-            session: None,
+            session: Seat::free(),
             number,
             up: Sends::new(alloc),
             down: Sends::new(alloc),
@@ -58,6 +60,13 @@ impl Call {
             End::Vehicle => self.up.push(alloc, tick, frame),
             End::Point => self.down.push(alloc, tick, frame),
         }
+    }
+
+    /// A tick later than which no frame was sent.
+    pub(super) fn newest(&self) -> u64
+        ensures { IsPast result self.now }
+    {
+        self.up.newest().max(self.down.newest())
     }
 
     /// The frames sent up, or down.
@@ -91,11 +100,13 @@ pub(super) fn hear_call(call: &mut Call, event: &PointEvent<'_>, items: &mut Ite
         event.now ≡ PointEvent.Ended Why.Release → CallDid floor clock result items.new.items call.new k
         (λ s. point.point_row s (point.Ended Why.Release)) }
 {
-    match &mut call.session {
+    match &mut call.session.session {
         Some(session) => {
             session.hear_into(event, items);
             if session.over() {
-                call.session = None;
+                call.session = Seat::free();
+            } else {
+                call.session.quiet = quiet_ticks(session);
             }
             true
         }
@@ -118,8 +129,12 @@ pub(crate) fn catch_up<L: Ledger>(
     ensures passes { (floor : ℕ) (k : model.Call) → CallLags floor tick call.old k → tick < floor + 2 ^ 32 →
         moments.new ≤ moments.old + once_if k.session }
 {
-    if let Some(session) = &mut call.session {
-        pass_quietly(session, tick.saturating_sub(call.passed), items, moments);
+    let lag = tick.saturating_sub(call.passed);
+    if lag > 0 {
+        if let Some(session) = &mut call.session.session {
+            pass_known(session, lag, call.session.quiet, items, moments);
+            call.session.quiet = quiet_ticks(session);
+        }
     }
     call.passed = tick;
 }
@@ -134,7 +149,7 @@ pub(super) fn rest_up<L: Ledger>(call: &mut Call, tick: u64, moments: &mut Steps
     ensures passes { (floor : ℕ) (k : model.Call) → CallLags floor tick call.old k → tick < floor + 2 ^ 32 →
         moments.new ≤ moments.old + once_if k.session }
 {
-    if let Some(session) = &mut call.session {
+    if let Some(session) = &mut call.session.session {
         rest_by(session, tick.saturating_sub(call.passed), moments);
     }
     call.passed = tick;
@@ -155,18 +170,25 @@ pub(crate) fn act_at<L: Ledger>(
     ensures passes { (floor before : ℕ) (k : model.Call) → CallLags floor before call.old k →
         moments.new ≤ moments.old + length items.new.items }
 {
-    let Some(session) = &mut call.session else {
+    let lag = tick.saturating_sub(call.passed);
+    if lag < call.session.quiet() {
+        items.clear();
+        return false;
+    }
+    let Some(session) = &mut call.session.session else {
         items.clear();
         return false;
     };
-    let Some(due) = due_at(session, tick.saturating_sub(call.passed)) else {
+    let Some(due) = due_at(session, lag) else {
         items.clear();
         return false;
     };
     session.pass_into(due, moments, items);
-    if session.over() {
-        call.session = None;
-    }
     call.passed = tick;
+    if session.over() {
+        call.session = Seat::free();
+    } else {
+        call.session.quiet = quiet_ticks(session);
+    }
     true
 }

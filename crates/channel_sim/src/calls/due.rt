@@ -10,7 +10,7 @@ ghost use Rattle.channel_sim.specs.Lag.{CallLags, CallsLag};
 ghost use Rattle.channel_sim.specs.Tidy.{AreFrom, ticks_of, CallInTime};
 ghost use Rattle.channel_sim.specs.inner.Sends.{IsFirstFrom};
 
-use super::Call;
+use super::{Call, Calls};
 use crate::kept::KeptFrame;
 use crate::sends::Sends;
 use std::alloc::AllocError;
@@ -59,7 +59,8 @@ fn add_from(
     Ok(sends.len())
 }
 
-/// Adds the frames of a call that were sent at this tick. `near` becomes the place behind them, where the next ones are.
+/// Adds the frames of a call that were sent at this tick. `near` becomes the place behind them, where the next ones
+/// are.
 fn add_due(
     due: &mut Vec<Due>,
     number: u32,
@@ -119,7 +120,7 @@ pub(crate) fn call_due(
 
 /// The frames of these calls that a flow up, or down, hands over now, in place of what stood there.
 pub(crate) fn all_due(
-    calls: &[Call],
+    calls: &Calls,
     up: bool,
     flow: u32,
     now: u64,
@@ -135,6 +136,7 @@ pub(crate) fn all_due(
     if flow == 0 || now < delay {
         return Ok(());
     }
-    add_all_due(due, calls, up, now - delay, near)?;
+    let sent = now - delay;
+    add_all_due(due, calls.from_tick(sent), up, sent, near)?;
     Ok(())
 }

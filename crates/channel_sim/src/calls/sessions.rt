@@ -13,6 +13,7 @@ ghost use Rattle.channel_sim.specs.Tidy.{AreAbove, numbers_of};
 ghost use Rattle.channel_sim.specs.inner.Passes.{once_if};
 
 use super::call::{act_at, catch_up, hear_call};
+use super::seat::Seat;
 use super::{Call, Calls, find};
 use link_frames::{Items, Steps, Why};
 use psap_machine::{PointEvent, Session};
@@ -37,8 +38,8 @@ pub(crate) fn admit(calls: &mut Calls, number: u32, session: Session)
         CallsLag tick (λ c. tick) calls.new (model.seated number (Some s) ks) }
 {
     if let Some(i) = find(&calls.list, number) {
-        calls.asleep = calls.asleep.min(i);
-        calls.list[i].session = Some(session);
+        calls.counts.wake(i);
+        calls.list[i].session = Seat::of(session);
     }
 }
 
@@ -63,7 +64,7 @@ pub(crate) fn hear_session(
 {
     match find(&calls.list, number) {
         Some(i) => {
-            calls.asleep = calls.asleep.min(i);
+            calls.counts.wake(i);
             hear_call(&mut calls.list[i], event, items)
         }
         None => {
@@ -93,7 +94,7 @@ pub(crate) fn act_session<L: Ledger>(
 {
     match find(&calls.list, number) {
         Some(i) => {
-            calls.asleep = calls.asleep.min(i);
+            calls.counts.wake(i);
             act_at(&mut calls.list[i], tick, items, moments)
         }
         None => {
@@ -120,7 +121,7 @@ pub(crate) fn catch_session_up<L: Ledger>(
         (model.session_of number ks) }
 {
     if let Some(i) = find(&calls.list, number) {
-        calls.asleep = calls.asleep.min(i);
+        calls.counts.wake(i);
         catch_up(&mut calls.list[i], tick, items, moments);
     }
 }

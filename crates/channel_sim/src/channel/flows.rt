@@ -33,7 +33,7 @@ impl Channel {
         ensures { (ahead floor : ℕ) (w : model.World) → StandsAt ahead floor (λ c. ahead) self.now w → OnOk result
             (map due_of due.new.items ≡ model.due_in (sent_way up) (flow_way up w) w.tick w.calls) }
     {
-        all_due(self.calls.all(), up, self.flow(up), self.tick, due, near)
+        all_due(&self.calls, up, self.flow(up), self.tick, due, near)
     }
 
     /// Adds the frames of a call that its flow up, or down, hands over at this tick.

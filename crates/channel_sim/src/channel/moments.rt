@@ -33,10 +33,7 @@ fn session_acts_at(call: &Call, end: u64) -> u64
     ensures rests { (floor tick n : ℕ) (k : model.Call) → CallLags floor tick call.now k →
         tick + n < result → CallRests n k }
 {
-    match &call.session {
-        Some(session) => acts_at(call.passed, session.due(), end),
-        None => end,
-    }
+    call.passed.saturating_add(call.session.quiet()).min(end)
 }
 
 /// The tick behind `now` at which a flow hands the next of these frames over; at most `end`.
@@ -107,16 +104,24 @@ impl Channel {
     }
 
     /// The calls in which something may happen in time: not those whose sessions do nothing however many ticks pass,
-    /// while both flows are off.
+    /// and whose frames are handed over, where a flow is on.
     fn stirring(&self) -> &[Call]
-        ensures { IsStirringPart self.now.up_flow self.now.down_flow result.now self.now.calls }
+        ensures { IsStirringPart self.now.up_flow self.now.down_flow self.now.tick result.now self.now.calls }
     {
-        if self.up_flow == 0 {
-            if self.down_flow == 0 {
-                return self.calls.awake();
-            }
+        let flow = self.up_flow.max(self.down_flow);
+        if flow == 0 {
+            return self.calls.awake();
         }
-        self.calls.all()
+        let sent = self.tick.saturating_add(1).saturating_sub(u64::from(flow));
+        self.calls.from_tick(sent)
+    }
+
+    /// Counts which calls need not be looked at any more.
+    fn settle_calls(&mut self)
+        ensures { self.new ≡ self.old }
+    {
+        self.calls
+            .settle(self.tick, self.up_flow.max(self.down_flow));
     }
 
     /// The next ticks at which something happens, each at most `end`.
@@ -366,6 +371,35 @@ impl Channel {
         self.flows_from(alloc, false, next.down, room, to, moments)
     }
 
+    /// The same, and before it those calls are counted that need not be looked at any more.
+    fn plays_moment<H: Listener, L: Ledger>(
+        &mut self,
+        alloc: Global,
+        tick: u64,
+        next: &Next,
+        room: &mut Room,
+        to: &mut H,
+        moments: &mut Steps<L>,
+    ) -> Result<(), SimFault>
+        ensures step { (floor n : ℕ) (w : model.World) → StandsAt self.old.tick floor (λ c. self.old.tick) self.old w →
+            self.old.tick + n + 1 ≡ tick → QuietFor n w →
+            (tick < next.now.acts → EndsRest (n + 1) w) → (tick < next.now.up → UpRests (n + 1) w) →
+            (tick < next.now.down → DownRests (n + 1) w) →
+            CameAt (H.grew to.old to.new) (H.partly to.old to.new) result tick floor (λ c. tick) self.new
+            (model.units (n + 1) w) }
+        ensures tick { self.new.tick ≡ tick }
+        ensures faults { CountsFaults result (H.faults to.old) (H.faults to.new) }
+        ensures passes { (floor n : ℕ) (w : model.World) → StandsAt self.old.tick floor
+            (λ c. self.old.tick) self.old w →
+            self.old.tick + n + 1 ≡ tick → QuietFor n w →
+            (tick < next.now.acts → EndsRest (n + 1) w) → (tick < next.now.up → UpRests (n + 1) w) →
+            (tick < next.now.down → DownRests (n + 1) w) →
+            tick < floor + 2 ^ 32 → moments.new ≤ moments.old + passes_of (model.units (n + 1) w) }
+    {
+        self.settle_calls();
+        self.moment(alloc, tick, next, room, to, moments)
+    }
+
     /// Passes each end that lags up to this tick. `items` is room.
     pub(crate) fn catch_all_up<L: Ledger>(&mut self, items: &mut Items, moments: &mut Steps<L>)
         ensures tick { self.new.tick ≡ self.old.tick }
@@ -401,7 +435,7 @@ impl Channel {
             if tick > end {
                 self.tick = end;
             } else {
-                self.moment(alloc, tick, &next, room, to, moments)?;
+                self.plays_moment(alloc, tick, &next, room, to, moments)?;
             }
         }
         self.catch_all_up(&mut room.given.own, moments);

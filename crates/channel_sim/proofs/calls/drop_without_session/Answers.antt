@@ -2,7 +2,7 @@ use Rattle.std.proofs.Common.{◌<◌, length, not, ap, sym, ◌∙◌, subst, a
 use Rattle.std.specs.Option.{is_some}
 use Rattle.channel_sim.specs.World.{with_legs}
 use Rattle.channel_sim.specs.Lag.{CallsLag}
-use Rattle.channel_sim.proofs.AsleepLemmas.{asleep_removed}
+use Rattle.channel_sim.proofs.StillLemmas.{counts_removed}
 use Rattle.channel_sim.proofs.CallsLemmas.{found_at, none_of}
 use Rattle.channel_sim.proofs.TidyLemmas.{dropped_at, session_has, all_still}
 use Rattle.channel_sim.proofs.calls.drop_without_session.Goals as goal
@@ -43,4 +43,4 @@ invariant_of-calls c =
     let xs = c.calls.inside.list.items in
     let inside : c.in-Some.i < length xs = omega (arith, c.in-Some.ensures.within, ap length c.deref.ensures.value) in
     rw c.remove.ensures.items
-    (asleep_removed c.calls.inside.asleep c.min-calls-inside.result c.in-Some.i xs inside (omega (arith, c.min-calls-inside.ensures)) (omega (arith, c.min-calls-inside.ensures)) c.calls.invariant)
+    (counts_removed c.in-Some.i c.calls.inside.counts c.wake.new.self xs inside c.wake.ensures c.calls.invariant)

@@ -5,6 +5,7 @@ use Rattle.channel_sim.specs.World.{carries}
 use Rattle.channel_sim.specs.inner.Acts.{pushed}
 use Rattle.channel_sim.specs.Lag.{CallsLag}
 use Rattle.channel_sim.proofs.CallsLemmas.{found_at, posted_at, posted_elsewhere, one_sent, on_ok}
+use Rattle.channel_sim.proofs.StillLemmas.{counts_set}
 use Rattle.channel_sim.proofs.calls.post_frame.Goals as goal
 
 pub returns-in-Some : goal.returns-in-Some
@@ -28,3 +29,6 @@ returns-in-None c =
     let place = found_at floor clock c.args.number c.deref.result.now c.calls.inside.list.items ks _ c.deref.ensures.value c.in-None.ensures.place h above in
     posted_elsewhere floor clock c.args.tick c.args.number c.args.end c.args.frame.now c.calls.inside.list.items ks h place
     )
+
+pub invariant_of-calls : goal.invariant_of-calls
+invariant_of-calls c = counts_set c.in-Some.i c.calls.inside.counts c.wake.new.self c.calls.inside.list.items c.push.new.self c.wake.ensures c.calls.invariant

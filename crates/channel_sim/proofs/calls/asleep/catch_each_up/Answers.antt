@@ -1,6 +1,10 @@
-use Rattle.std.proofs.Common.{length, ap, sym, ◌∙◌, subst}
+use Rattle.std.proofs.Common.{length, take, ap, sym, ◌∙◌, subst}
 use Rattle.channel_sim.specs.Lag.{CallsLag}
+use Rattle.std.specs.List.{AllByRecursion}
+use Rattle.channel_sim.specs.inner.Asleep.{CountsStand}
+use Rattle.channel_sim.specs.inner.Past.{IsPast}
 use Rattle.channel_sim.proofs.CatchLemmas.{written_back}
+use Rattle.channel_sim.proofs.StillLemmas.{counts_caught}
 use Rattle.channel_sim.proofs.calls.asleep.catch_each_up.Goals as goal
 
 pub returns-clause-lags : goal.returns-clause-lags
@@ -18,3 +22,13 @@ pub returns-clause-passes : goal.returns-clause-passes
 returns-clause-passes g c =
     λ floor ks h low small.
     c.catch_parts_up-calls-inside.ensures.passes floor ks (subst (λ xs. CallsLag floor (λ d. c.args.tick) xs ks) (sym (c.deref_mut.ensures.value ∙ c.calls.view_is)) h) low small
+
+pub invariant_of-calls : goal.invariant_of-calls
+invariant_of-calls g c =
+    let kept = c.calls.inside.list in
+    let new = c.catch_parts_up-calls-inside.new.calls in
+    let value = c.deref_mut.ensures.value in
+    let same = written_back kept.len new kept.items (c.catch_parts_up-calls-inside.auto.calls ∙ ap length value) (sym c.deref_mut.ensures.len ∙ ap length value) in
+    subst (CountsStand (record c.calls.inside.counts { asleep = c.catch_parts_up-calls-inside.result })) (sym same)
+    (counts_caught c.catch_parts_up-calls-inside.result c.calls.inside.counts kept.items new c.catch_parts_up-calls-inside.ensures.more c.catch_parts_up-calls-inside.ensures.asleep
+    (λ tick n few h. c.catch_parts_up-calls-inside.ensures.past tick n few (subst (λ xs. AllByRecursion (IsPast tick) (take n xs)) (sym value) h)) c.calls.invariant)

@@ -1,13 +1,23 @@
-use Rattle.std.proofs.Common.{take, drop, sym, ◌∙◌, subst, arith}
+use Rattle.std.proofs.Common.{◌≡◌, length, take, drop, sym, ◌∙◌, subst, arith}
 use Rattle.channel_sim.specs.Lag.{CallsLag}
 use Rattle.channel_sim.proofs.CatchLemmas.{lag_front, lag_back, lag_parts, count_parts}
+use Rattle.std.specs.List.{AllByRecursion}
+use Rattle.channel_sim.specs.inner.Past.{IsPast}
 use Rattle.channel_sim.proofs.AsleepLemmas.{asleep_joined}
+use Rattle.channel_sim.proofs.StillLemmas.{taken_part, taken_pushed}
 use Rattle.channel_sim.proofs.calls.asleep.catch_parts_up.Goals as goal
 
 pub returns-clause-asleep : goal.returns-clause-asleep
 returns-clause-asleep g c =
     asleep_joined c.args.asleep c.catch_listed_up.result c.rest_each.new.calls c.catch_listed_up.new.calls
     (c.rest_each.auto.calls ∙ c.split_at_mut-sleeping.ensures.front_len) c.rest_each.ensures.asleep c.catch_listed_up.ensures.asleep
+
+pub returns-clause-past : goal.returns-clause-past
+returns-clause-past g c =
+    λ tick n few before.
+    let whole : length c.rest_each.new.calls ≡ c.args.asleep = c.rest_each.auto.calls ∙ c.split_at_mut-sleeping.ensures.front_len in
+    let front = subst (λ xs. AllByRecursion (IsPast tick) (take n xs)) (sym c.split_at_mut-sleeping.ensures.front) (taken_part (IsPast tick) n c.args.asleep c.args.calls.now few before) in
+    taken_pushed (IsPast tick) n c.rest_each.new.calls c.catch_listed_up.new.calls (omega arith) (c.rest_each.ensures.past tick n front)
 
 pub returns-clause-lags : goal.returns-clause-lags
 returns-clause-lags g c =

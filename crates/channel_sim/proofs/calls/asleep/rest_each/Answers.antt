@@ -3,6 +3,7 @@ use Rattle.std.proofs.Common.{◌<◌, length, ap, sym, subst, arith}
 use Rattle.channel_sim.specs.Lag.{CallLags}
 use Rattle.channel_sim.proofs.CatchLemmas.{rest_more, caught_more, all_caught, same_item, same_length}
 use Rattle.channel_sim.proofs.AsleepLemmas.{one_more_sleeps, sleeps_at}
+use Rattle.channel_sim.proofs.StillLemmas.{past_set}
 use Rattle.channel_sim.proofs.calls.asleep.rest_each.Goals as goal
 
 pub rest_up-requires : goal.rest_up-requires
@@ -25,6 +26,8 @@ loop-call-preserved g c =
           (same_length c.args.calls.now c.loop-call.call-items i inside c.loop-call.invariant.rest) (c.loop-call.invariant.passes floor ks h low small)
           (λ k lags. c.rest_up.ensures.passes floor k (subst (λ x. CallLags floor c.args.tick x k) (sym (same_item c.args.calls.now c.loop-call.call-items i _ inside c.loop-call.invariant.rest)) lags) small);
       sleep = one_more_sleeps i c.loop-call.call-items c.rest_up.new.call inside c.loop-call.invariant.sleep c.rest_up.ensures.asleep;
+      past = λ tick n before.
+          past_set tick n i c.loop-call.call-items _ c.rest_up.new.call (ap (λ x. x.up) c.rest_up.ensures.same) (ap (λ x. x.down) c.rest_up.ensures.same) (c.loop-call.invariant.past tick n before);
       rest = rest_more c.args.calls.now c.loop-call.call-items i c.rest_up.new.call inside c.loop-call.invariant.rest;
     }
 

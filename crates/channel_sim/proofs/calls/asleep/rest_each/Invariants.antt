@@ -2,6 +2,7 @@ use Rattle.std.proofs.Common.{◌≡◌, ◌≤◌, ℕ, List, take, drop, ◌<�
 use Rattle.channel_sim.specs.World.{Call, session_count}
 use Rattle.std.specs.List.{AllByRecursion}
 use Rattle.channel_sim.specs.inner.Asleep.{Sleeps}
+use Rattle.channel_sim.specs.inner.Past.{IsPast}
 use Rattle.channel_sim.specs.Lag.{CallsLag}
 use Rattle.channel_sim.proofs.calls.asleep.rest_each.Given as goal
 
@@ -13,5 +14,6 @@ invariant-loop-call g l =
       passes : (floor : ℕ) (ks : List Call) → CallsLag floor (λ c. l.tick) l.initial.call-items ks → floor ≤ l.tick → l.tick < floor + 2 ^ 32 →
           l.moments ≤ l.initial.moments + session_count (take l.call-index ks);
       sleep : AllByRecursion Sleeps (take l.call-index l.call-items);
+      past : (tick n : ℕ) → AllByRecursion (IsPast tick) (take n l.initial.call-items) → AllByRecursion (IsPast tick) (take n l.call-items);
       rest : drop l.call-index l.call-items ≡ drop l.call-index l.initial.call-items;
     }

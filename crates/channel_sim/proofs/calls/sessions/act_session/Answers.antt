@@ -4,6 +4,7 @@ use Rattle.psap_machine.specs.PointRows as point
 use Rattle.channel_sim.specs.inner.Acts.{SessionDid, CallDid}
 use Rattle.channel_sim.specs.Lag.{CallLags}
 use Rattle.channel_sim.proofs.CallsLemmas.{found_at, did_at, lags_elsewhere}
+use Rattle.channel_sim.proofs.StillLemmas.{counts_set}
 use Rattle.channel_sim.proofs.calls.sessions.act_session.Goals as goal
 
 pub returns-in-None-clause-did : goal.returns-in-None-clause-did
@@ -44,3 +45,6 @@ returns-in-Some-clause-passes g c =
     (λ k lags. c.act_at.ensures.passes floor (before c.args.number) k
     (subst (λ x. CallLags floor (before c.args.number) x k) (sym c.index_mut.ensures.value) lags))
     )
+
+pub invariant_of-calls : goal.invariant_of-calls
+invariant_of-calls g c = counts_set c.in-Some.i c.calls.inside.counts c.wake.new.self c.calls.inside.list.items c.act_at.new.call c.wake.ensures c.calls.invariant

@@ -4,6 +4,7 @@ use Rattle.channel_sim.specs.World.{seated}
 use Rattle.channel_sim.specs.Lag.{CallsLag}
 use Rattle.channel_sim.proofs.CallsLemmas.{found_at, none_of, seated_nowhere}
 use Rattle.channel_sim.proofs.ChangeLemmas.{admitted_at}
+use Rattle.channel_sim.proofs.StillLemmas.{counts_set}
 use Rattle.channel_sim.proofs.calls.sessions.admit.Goals as goal
 
 pub returns-in-Some : goal.returns-in-Some
@@ -12,8 +13,9 @@ returns-in-Some c =
     λ tick s ks h above stands live.
     let xs = c.calls.inside.list.items in
     let place = found_at tick (λ e. tick) c.args.number c.deref.result.now xs ks _ c.deref.ensures.value c.in-Some.ensures.place h above in
-    subst (λ x. CallsLag tick (λ e. tick) (set xs c.in-Some.i (record x { session = Some c.args.session })) (seated c.args.number (Some s) ks)) (sym c.index_mut.ensures.value)
-    (admitted_at tick c.args.number s c.args.session xs ks c.in-Some.i c.index_mut.result.now h place stands live)
+    subst (λ o. CallsLag tick (λ e. tick) (set xs c.in-Some.i (record c.index_mut.result.now { session = o })) (seated c.args.number (Some s) ks)) (sym c.of.ensures)
+    (subst (λ x. CallsLag tick (λ e. tick) (set xs c.in-Some.i (record x { session = Some c.args.session })) (seated c.args.number (Some s) ks)) (sym c.index_mut.ensures.value)
+    (admitted_at tick c.args.number s c.args.session xs ks c.in-Some.i c.index_mut.result.now h place stands live))
     )
 
 pub returns-in_default : goal.returns-in_default
@@ -24,3 +26,6 @@ returns-in_default c =
     let place = found_at tick (λ e. tick) c.args.number c.deref.result.now xs ks c.find.result c.deref.ensures.value c.find.ensures.place h above in
     subst (CallsLag tick (λ e. tick) xs) (sym (seated_nowhere c.args.number (Some s) ks (place ∙ none_of c.find.result c.in_default.not-Some))) h
     )
+
+pub invariant_of-calls : goal.invariant_of-calls
+invariant_of-calls c = counts_set c.in-Some.i c.calls.inside.counts c.wake.new.self c.calls.inside.list.items _ c.wake.ensures c.calls.invariant

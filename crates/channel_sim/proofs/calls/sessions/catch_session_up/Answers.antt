@@ -6,6 +6,7 @@ use Rattle.channel_sim.specs.inner.Places.{place_of}
 use Rattle.channel_sim.specs.Tidy.{AreAbove}
 use Rattle.channel_sim.proofs.CallsLemmas.{found_at, none_of, number_found, same_numbers}
 use Rattle.channel_sim.proofs.ChangeLemmas.{set_at, caught_set, nowhere_caught}
+use Rattle.channel_sim.proofs.StillLemmas.{counts_set}
 use Rattle.channel_sim.proofs.calls.sessions.catch_session_up.Goals as goal
 
 pub returns-in-Some-clause-lags : goal.returns-in-Some-clause-lags
@@ -48,3 +49,6 @@ returns-in-Some-clause-passes g c =
     call_at (λ o. c.catch_up.new.moments ≤ c.args.moments.now + once_if o) floor clock c.args.number xs ks c.in-Some.i c.index_mut.result.now h place
     (λ k lags. c.catch_up.ensures.passes floor k (subst (λ x. CallLags floor c.args.tick x k) (sym c.index_mut.ensures.value) lags) small)
     )
+
+pub invariant_of-calls : goal.invariant_of-calls
+invariant_of-calls g c = counts_set c.in-Some.i c.calls.inside.counts c.wake.new.self c.calls.inside.list.items c.catch_up.new.call c.wake.ensures c.calls.invariant

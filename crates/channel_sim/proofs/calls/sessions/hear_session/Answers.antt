@@ -6,6 +6,7 @@ use Rattle.link_frames.specs.declared.note.Why.TheVariants as why
 use Rattle.channel_sim.specs.inner.Acts.{SessionDid}
 use Rattle.channel_sim.specs.Lag.{CallLags}
 use Rattle.channel_sim.proofs.CallsLemmas.{found_at, is_there, no_session, did_at, did_nowhere, caught_at, number_found}
+use Rattle.channel_sim.proofs.StillLemmas.{counts_set}
 use Rattle.channel_sim.proofs.calls.sessions.hear_session.Goals as goal
 
 pub returns-in-None-clause-variant : goal.returns-in-None-clause-variant
@@ -83,3 +84,6 @@ returns-in-Some-clause-ended c =
     (λ k number lags. c.hear_call.ensures.ended floor (clock c.args.number) k
     (subst (λ x. CallLags floor (clock c.args.number) x k) (sym c.index_mut.ensures.value) lags) is)
     )
+
+pub invariant_of-calls : goal.invariant_of-calls
+invariant_of-calls c = counts_set c.in-Some.i c.calls.inside.counts c.wake.new.self c.calls.inside.list.items c.hear_call.new.call c.wake.ensures c.calls.invariant

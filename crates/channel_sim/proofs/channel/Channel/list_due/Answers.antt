@@ -2,7 +2,6 @@ use Rattle.std.proofs.Common.{◌≡◌, OnOk, map, sym, ◌∙◌, subst}
 use Rattle.std.specs.List.{AllByRecursion}
 use Rattle.channel_sim.specs.World.{due_in}
 use Rattle.channel_sim.specs.Handing.{due_of, flow_way, sent_way}
-use Rattle.channel_sim.specs.Lag.{CallsLag}
 use Rattle.channel_sim.specs.Tidy.{CallInTime}
 use Rattle.channel_sim.proofs.DueLemmas.{flow_kept}
 use Rattle.channel_sim.proofs.channel.Channel.list_due.Goals as goal
@@ -11,9 +10,8 @@ pub returns : goal.returns
 returns c =
     λ ahead floor w s.
     let kept = c.args.self.now in
-    let calls = subst (λ xs. CallsLag floor (λ d. ahead) xs w.calls) (sym c.all.ensures) s.calls in
     let in_time = subst (λ t. AllByRecursion (CallInTime t) w.calls) s.tick s.tidy.frames in
-    let due = c.all_due.ensures floor (λ d. ahead) w.calls calls in_time in
+    let due = c.all_due.ensures floor (λ d. ahead) w.calls s.calls in_time in
     subst (λ t. OnOk c.all_due.result (map due_of c.all_due.new.due.items ≡ due_in (sent_way c.args.up) (flow_way c.args.up w) t w.calls)) (sym s.tick)
     (subst (λ f. OnOk c.all_due.result (map due_of c.all_due.new.due.items ≡ due_in (sent_way c.args.up) f kept.tick w.calls))
     (c.flow.ensures ∙ flow_kept c.args.up ahead floor (λ d. ahead) kept w s) due)

@@ -18,21 +18,21 @@ loop-call-init c =
       acts =
           λ h floor n w s low.
           let none : h.front + 0 ≡ h.front = omega arith in
-          let front = front_quiet floor n kept.tick kept.up_flow kept.down_flow (λ d. kept.tick) h.front kept.calls w.calls s.calls h.sleep h.off in (
-            vehicle_waits floor n c.acts_at-acts.result c.due.result c.args.self.now w s (λ u one. c.due.ensures.value u one) c.acts_at-acts.ensures.due low,
+          let front = front_quiet floor n kept.tick kept.up_flow kept.down_flow (λ d. kept.tick) h.front kept.calls w.calls s.calls h.sleep h.over in (
+            vehicle_waits floor n c.acts_at-acts.result c.due.result c.args.self.now w s (λ u one. c.due.ensures u one) c.acts_at-acts.ensures.due low,
             subst (λ m. AllByRecursion (CallRests n) (take m w.calls)) (sym none)
                 (all_quiet n kept.up_flow kept.down_flow kept.tick (take h.front w.calls) front).0,
           );
       up =
           λ h floor n w s low.
           let none : h.front + 0 ≡ h.front = omega arith in
-          let front = front_quiet floor n kept.tick kept.up_flow kept.down_flow (λ d. kept.tick) h.front kept.calls w.calls s.calls h.sleep h.off in
+          let front = front_quiet floor n kept.tick kept.up_flow kept.down_flow (λ d. kept.tick) h.front kept.calls w.calls s.calls h.sleep h.over in
           subst (λ m. AllByRecursion (λ k. FramesRest n kept.up_flow kept.tick k.up) (take m w.calls)) (sym none)
           (all_quiet n kept.up_flow kept.down_flow kept.tick (take h.front w.calls) front).1;
       down =
           λ h floor n w s low.
           let none : h.front + 0 ≡ h.front = omega arith in
-          let front = front_quiet floor n kept.tick kept.up_flow kept.down_flow (λ d. kept.tick) h.front kept.calls w.calls s.calls h.sleep h.off in
+          let front = front_quiet floor n kept.tick kept.up_flow kept.down_flow (λ d. kept.tick) h.front kept.calls w.calls s.calls h.sleep h.over in
           subst (λ m. AllByRecursion (λ k. FramesRest n kept.down_flow kept.tick k.down) (take m w.calls)) (sym none)
           (all_quiet n kept.up_flow kept.down_flow kept.tick (take h.front w.calls) front).2;
     }

@@ -21,5 +21,5 @@ returns c =
     let kept = c.args.self.now.channel in
     let s = now_stands kept w h in
     let place = found_at kept.tick (λ d. kept.tick) c.args.call c.all-calls.result.now kept.calls w.calls _ c.all-calls.ensures c.in_ok-i.ensures.place s.calls s.tidy.numbers in
-    subst (λ o. FoundStandsFor o (session_of c.args.call w.calls)) (sym (c.as_ref.ensures.value ∙ ap (λ xs. (get_or xs c.in_ok-i.i c.index-calls-i.result).session) c.all-calls.ensures))
+    subst (λ o. FoundStandsFor o (session_of c.args.call w.calls)) (sym (c.session.ensures ∙ ap (λ xs. (get_or xs c.in_ok-i.i c.index-calls-i.result).session) c.all-calls.ensures))
     (found_in kept.tick c.args.call kept.calls w.calls c.in_ok-i.i c.index-calls-i.result h.calls place)
