@@ -35,6 +35,7 @@ test:
 
 bench: build
 	bench/run.py $(PROGRAM)
+	bench/passes.py $(PROGRAM)
 	bench/refuse.py $(PROGRAM)
 	bench/view.py $(PROGRAM) $(VIEW)
 	bench/live.py $(PROGRAM)

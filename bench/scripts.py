@@ -7,6 +7,7 @@
     one       one call in which COUNT frames are handed over
     legs      COUNT calls whose point legs stay up, then long ticks
     apart     the same, with six seconds between the calls
+    crowd     the same, with flows on: each call has its set shown and acknowledged before the vehicle's leg is lost
     callbacks COUNT calls placed by the point, hung up at once, with almost a whole standby between them
     desk      for `relay`: a set that is passed on COUNT times, of which nothing comes back: a hundred single ticks, then long ones
     shown     for `relay`: the same, but each arrives, twice, and is done"""
@@ -67,6 +68,12 @@ def apart(count):
     return legs(count, "tick 60\n")
 
 
+def crowd(count):
+    yield "flow up 7\nflow down 7\n"
+    for _ in range(count):
+        yield "trigger auto\nanswer\ntick 60\ndrop vehicle\ntick 600\n"
+
+
 def callbacks(count):
     yield "trigger auto\nanswer\ntick 70\nhangup 1\n"
     for k in range(2, count + 2):
@@ -96,7 +103,7 @@ def shown(count):
     yield "tick 4000000\n"
 
 
-KINDS = {kind.__name__: kind for kind in (mixed, calls, flows, one, legs, apart, callbacks, desk, shown)}
+KINDS = {kind.__name__: kind for kind in (mixed, calls, flows, one, legs, apart, crowd, callbacks, desk, shown)}
 
 
 def main(kind, count):
