@@ -10,8 +10,8 @@ use Rattle.std.proofs.lemmas.List.Sums.{position_or_len_is}
 use Rattle.memchr.specs.Find.{IsFirstByte, IsLastByte, is_byte}
 use Rattle.line_input.specs.Characters.{newline, is_newline}
 use Rattle.line_input.specs.Reading.{may_begin_line, begins_line, begins_with_line}
-use Rattle.line_input.specs.Giving.{EndsLines}
-use Rattle.line_input.proofs.FeedLemmas.{slice_range-cons}
+use Rattle.line_input.specs.inner.Lending.{EndsLines}
+use Rattle.line_input.proofs.FeedLemmas.{slice_range-cons, slice_range-empty}
 
 -- no newline stands from a place on
 none_behind : (xs : List ℕ) (k : ℕ) → ((j : ℕ) → k ≤ j → j < length xs → is_newline (get_or xs j 0) ≡ true → ⊥) → list_any is_newline (drop k xs) ≡ false
@@ -62,6 +62,11 @@ EndsLines-read block count here within last k low most =
     let long : k ≤ length (take count block) = omega (arith, length-take count block, within, most) in
     let whole : count ≡ k + (count - k) = omega (arith, most) in
     last k long ∙ ap (list_any is_newline) (ap (λ n. drop k (take n block)) whole ∙ drop-take k (count - k) block)
+
+-- where no byte is at hand, whatever the block has
+pub EndsLines-none : (block : List ℕ) (at end here : ℕ) → end ≤ at → here ≤ end → EndsLines block at end here
+EndsLines-none block at end here past few k low most =
+    not_below k here (omega (arith, past, few, low)) ∙ sym (ap (list_any is_newline) (slice_range-empty block k end (omega (arith, past, low))))
 
 -- whether a line is at hand
 pub line_at : (block : List ℕ) (at end here : ℕ) → EndsLines block at end here → at ≤ end → end ≤ length block → here ≤ end → at < here

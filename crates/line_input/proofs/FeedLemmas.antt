@@ -143,7 +143,7 @@ run_place bytes most m least = elim (cases_lt most (length bytes)) as (λ _. pos
   | inr past ↦ ap (position_or_len is_newline) (take_all m bytes (omega (arith, least, past)) ∙ sym (take_all most bytes (omega (arith, past))))
 ]
 
-slice_range-split : (block : List ℕ) (at end len : ℕ) → at + len ≤ end → end ≤ length block → slice_range block at end ≡ slice_range block at (at + len) ++ slice_range block (at + len) end
+pub slice_range-split : (block : List ℕ) (at end len : ℕ) → at + len ≤ end → end ≤ length block → slice_range block at end ≡ slice_range block at (at + len) ++ slice_range block (at + len) end
 slice_range-split block at end len within most =
     let xs = drop at block in
     let first : (at + len) - at ≡ len = omega arith in

@@ -1,6 +1,7 @@
 pub mod BlockLemmas
 pub mod FeedLemmas
 pub mod GatherLemmas
+pub mod LentLemmas
 pub mod LinesLemmas
 pub mod LinesSoFar
 pub mod NumberLemmas
@@ -9,3 +10,4 @@ pub mod Takings
 pub mod WholeLines
 pub mod WordsLemmas
 pub mod PartLemmas
+pub mod PlainLemmas

@@ -1,17 +1,12 @@
 -- What the reader of a source's bytes says of the bytes at hand when it gives the next one, or a run of them that ends
 -- no line. This project's profile. Cited by the contract of `Bytes`.
-use Rattle.std.specs.Prelude.{◌≡◌, ℕ, ◌+◌, ◌-◌, min, take, ◌<◌, ◌≤◌, nat_lt, true, false, List, [], ◌∷◌, ◌++◌, length, Option, Some, None, Result, Ok, Err}
-use Rattle.std.specs.List.{AllByRecursion, before_first, list_any, slice_range}
-use Rattle.line_input.specs.Characters.{newline, is_newline}
+use Rattle.std.specs.Prelude.{◌≡◌, ℕ, ◌+◌, ◌-◌, min, take, ◌<◌, ◌≤◌, true, false, List, [], ◌∷◌, ◌++◌, length, Option, Some, None, Result, Ok, Err}
+use Rattle.std.specs.List.{AllByRecursion, before_first}
+use Rattle.line_input.specs.Characters.{is_newline}
 use Rattle.line_input.specs.Feed.{Feed, Draws, IsDone, IsInner}
-use Rattle.line_input.specs.Lines.{most_in_line, most_bytes}
+use Rattle.line_input.specs.Lines.{most_bytes}
 use Rattle.line_input.specs.declared.fault.LineFault.{LineFault}
 use Rattle.line_input.specs.declared.fault.LineFault.TheVariants as fault
-
--- A newline stands in a part of the block from a place on exactly where that place is in front of this one.
-abbrev pub EndsLines : (block : List ℕ) (at end here : ℕ) → Type 0
-EndsLines block at end here =
-    (k : ℕ) → at ≤ k → k ≤ end → nat_lt k here ≡ list_any is_newline (slice_range block k end)
 
 -- what an answer for the next byte says of the bytes at hand
 abbrev pub GivesByte : (old new : Feed) → List ℕ → Result (Option ℕ) LineFault → Type 0

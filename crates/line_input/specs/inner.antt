@@ -1,3 +1,6 @@
 pub mod Gathering
+pub mod Held
+pub mod Judged
 pub mod Kinds
+pub mod Lending
 pub mod Plain

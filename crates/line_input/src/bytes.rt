@@ -1,70 +1,41 @@
 //! The bytes of a source, one after another.
 
-ghost use Rattle.std.specs.Prelude.{◌≡◌, ◌-◌, ℕ, ◌<◌, ◌≤◌, nat_lt, true, List, ◌++◌, length, take, drop, Option, OnOk, OnErr, IfErr};
-ghost use Rattle.std.specs.List.{list_any, position_or_len};
-ghost use Rattle.call_io.specs.Counts.{Rose};
-ghost use Rattle.line_input.specs.Characters.{is_newline};
+ghost use Rattle.std.specs.Prelude.{◌≡◌, ◌-◌, ℕ, ◌<◌, ◌≤◌, true, List, ◌++◌, length, Option, OnOk, IfErr};
 ghost use Rattle.line_input.specs.Lines.{most_in_line, most_at_once, most_bytes};
-ghost use Rattle.line_input.specs.Reading.{LineFaultCause, may_begin_line};
-ghost use Rattle.line_input.specs.declared.fault.LineFault.TheVariants as fault;
+ghost use Rattle.line_input.specs.Reading.{LineFaultCause};
 
+use crate::block::Block;
 use crate::fault::LineFault;
 use crate::gather::MOST_IN_LINE;
 use arrayvec::ArrayVec;
 use call_io::Source;
-use memchr::{memchr, memrchr};
 use std::marker::Model;
-
-/// The most bytes that one input may have.
-pub const MOST_BYTES: u32 = 16_777_216;
-
-/// The most bytes that are read at once.
-const BLOCK: usize = 8192;
 
 /// Reads a source in blocks, and gives its bytes one by one, up to the most that an input may have.
 #[derive(Drop)]
 pub struct Bytes {
-    block: [u8; BLOCK],
-    at: usize,
-    end: usize,
-    /// Behind the last newline of the block; 0 where it has none.
-    lines_end: usize,
-    given: u32,
-    ended: bool,
+    block: Block,
 }
 
 impl Model for Bytes {
-    ghost use Rattle.std.specs.Prelude.{◌≡◌, ◌≤◌, true, slice_range};
     ghost use Rattle.line_input.specs.Feed.{Feed};
-    ghost use Rattle.line_input.specs.Lines.{most_bytes};
-    ghost use Rattle.line_input.specs.declared.bytes.TheConstants.{BLOCK};
-    ghost use Rattle.line_input.specs.Giving.{EndsLines};
 
     ghost Value = { Feed };
 
-    ghost view = { λ s. record { pending = slice_range s.block s.at s.end; given = s.given; ended = s.ended } };
-
-    ghost invariant = { λ s. (s.at ≤ s.end) × (s.end ≤ BLOCK) × (s.given ≤ most_bytes)
-        × (s.ended ≡ true → s.at ≡ s.end) × (s.lines_end ≤ s.end) × EndsLines s.block s.at s.end s.lines_end };
+    ghost view = { λ s. s.block.feed };
 }
 
 impl Bytes {
     ghost use Rattle.line_input.specs.Feed.{first_feed};
     ghost use Rattle.line_input.specs.Reading.{begins_with_line};
     ghost use Rattle.line_input.specs.Giving.{NextByte, GivesRun, run_of};
-    ghost use Rattle.line_input.specs.inner.Gathering.{Refills, KeepsFeed};
 
     /// Before anything was read.
     pub fn new() -> Bytes
         ensures { result ≡ first_feed }
     {
         Bytes {
-            block: [0; BLOCK],
-            at: 0,
-            end: 0,
-            lines_end: 0,
-            given: 0,
-            ended: false,
+            block: Block::new(),
         }
     }
 
@@ -72,7 +43,7 @@ impl Bytes {
     pub fn has_line(&self) -> bool
         ensures { result ≡ begins_with_line self.now.pending }
     {
-        self.at < self.lines_end && may_begin(self.block[self.at])
+        self.block.has_line()
     }
 
     /// The next byte, or none at the end of the input. The source is read where no byte is pending, and not again once
@@ -87,17 +58,7 @@ impl Bytes {
         ensures cause { IfErr result (λ e. LineFaultCause e (I.faults source.old) (I.faults source.new)) }
         ensures counted { I.faults source.old ≤ I.faults source.new }
     {
-        self.refill(source)?;
-        if self.at == self.end {
-            return Ok(None);
-        }
-        if self.given == MOST_BYTES {
-            return Err(LineFault::TooLong);
-        }
-        let byte = self.block[self.at];
-        self.at += 1;
-        self.given += 1;
-        Ok(Some(byte))
+        self.block.next(source)
     }
 
     /// Puts the bytes at hand behind a text, up to a newline and as far as it has room. The source isn't read.
@@ -107,76 +68,6 @@ impl Bytes {
         ensures short { length text.new.items ≤ most_in_line }
         ensures limit { self.new.given ≤ most_bytes }
     {
-        let room = MOST_IN_LINE - text.len();
-        let most = room.min((MOST_BYTES - self.given) as usize);
-        let len = run_len(&self.block[self.at..self.end], most);
-        text.try_extend_from_slice(&self.block[self.at..self.at + len])
-            .unwrap();
-        self.at += len;
-        self.given += len as u32;
-    }
-
-    /// Reads the source where no byte is pending, unless its end was seen.
-    fn refill<I: Source>(&mut self, source: &mut I) -> Result<(), LineFault>
-        ensures ok { OnOk result (Refills self.old self.new (I.left source.old) (I.left source.new)) }
-        ensures err { OnErr result (KeepsFeed self.old self.new (I.left source.old) (I.left source.new)) }
-        ensures fault { IfErr result (λ e. e ≡ fault.ReadFault) }
-        ensures limit { self.new.given ≤ most_bytes }
-        ensures near { length self.new.pending ≤ most_at_once }
-        ensures at_hand { 0 < length self.old.pending → source.new ≡ source.old }
-        ensures ended { self.old.ended ≡ true → source.new ≡ source.old }
-        ensures stood { OnOk result (I.faults source.new ≡ I.faults source.old) }
-        ensures cause { OnErr result (Rose (I.faults source.old) (I.faults source.new)) }
-        ensures counted { I.faults source.old ≤ I.faults source.new }
-    {
-        if self.at < self.end || self.ended {
-            return Ok(());
-        }
-        match source.read(&mut self.block) {
-            Ok(count) => {
-                self.lines_end = lines_len(&self.block[..count]);
-                self.at = 0;
-                self.end = count;
-                self.ended = count == 0;
-                Ok(())
-            }
-            Err(_) => Err(LineFault::ReadFault),
-        }
-    }
-}
-
-// Whether a byte may begin a line that isn't passed over.
-fn may_begin(byte: u8) -> bool
-    ensures { result ≡ may_begin_line byte }
-{
-    byte != b'\n' && byte != b'#'
-}
-
-// How many of the first bytes, at most so many, stand before a newline.
-fn run_len(bytes: &[u8], most: usize) -> usize
-    ensures place { result ≡ position_or_len is_newline (take most bytes.now) }
-    ensures few { result ≤ most }
-    ensures within { result ≤ length bytes.now }
-{
-    let front = &bytes[..bytes.len().min(most)];
-    newline_or_end(front)
-}
-
-// The place of the first newline, or the end.
-fn newline_or_end(bytes: &[u8]) -> usize
-    ensures place { result ≡ position_or_len is_newline bytes.now }
-    ensures within { result ≤ length bytes.now }
-{
-    memchr(b'\n', bytes).unwrap_or(bytes.len())
-}
-
-// How many bytes stand up to the last newline, it included; 0 where there is none.
-fn lines_len(bytes: &[u8]) -> usize
-    ensures within { result ≤ length bytes.now }
-    ensures last { (k : ℕ) → k ≤ length bytes.now → nat_lt k result ≡ list_any is_newline (drop k bytes.now) }
-{
-    match memrchr(b'\n', bytes) {
-        Some(at) => at + 1,
-        None => 0,
+        self.block.put_run(text);
     }
 }

@@ -2,13 +2,14 @@
 
 ghost use Rattle.std.specs.Prelude.{◌≡◌, ℕ, ◌≤◌, true, List, Option, length, OnOk, IfErr};
 ghost use Rattle.line_input.specs.inner.Gathering.{GathersLine};
-ghost use Rattle.std.specs.List.{list_any};
+ghost use Rattle.std.specs.List.{list_all, list_any};
 ghost use Rattle.line_input.specs.Characters.{is_newline};
-ghost use Rattle.line_input.specs.Lines.{most_at_once, most_bytes};
+ghost use Rattle.line_input.specs.Lines.{is_printable, most_at_once, most_bytes};
 ghost use Rattle.line_input.specs.Reading.{LineFaultCause};
 
-use crate::bytes::Bytes;
+use crate::block::Block;
 use crate::fault::LineFault;
+use crate::kind::may_stand;
 use arrayvec::ArrayVec;
 use call_io::Source;
 
@@ -26,25 +27,31 @@ pub enum Ending {
     Full,
 }
 
-/// Gathers the bytes of the next line, as far as a line has room.
+/// Gathers the bytes of the next line, as far as a line has room. They are plain where each is known to be one that may
+/// stand in a line.
 pub fn gather<I: Source>(
-    bytes: &mut Bytes,
+    block: &mut Block,
     text: &mut ArrayVec<u8, MOST_IN_LINE>,
+    plain: &mut bool,
     source: &mut I,
 ) -> Result<Ending, LineFault>
-    ensures line { GathersLine bytes.old bytes.new (I.left source.old) (I.left source.new) text.new.items result }
-    ensures limit { bytes.new.given ≤ most_bytes }
-    ensures near { length bytes.new.pending ≤ most_at_once }
-    ensures at_hand { list_any is_newline bytes.old.pending ≡ true → source.new ≡ source.old }
-    ensures ended { bytes.old.ended ≡ true → source.new ≡ source.old }
+    ensures line { GathersLine block.old.feed block.new.feed (I.left source.old) (I.left source.new) text.new.items
+        result }
+    ensures known { plain.new ≡ true → list_all is_printable text.new.items ≡ true }
+    ensures limit { block.new.feed.given ≤ most_bytes }
+    ensures near { length block.new.feed.pending ≤ most_at_once }
+    ensures at_hand { list_any is_newline block.old.feed.pending ≡ true → source.new ≡ source.old }
+    ensures ended { block.old.feed.ended ≡ true → source.new ≡ source.old }
     ensures stood { OnOk result (I.faults source.new ≡ I.faults source.old) }
     ensures cause { IfErr result (λ e. LineFaultCause e (I.faults source.old) (I.faults source.new)) }
     ensures counted { I.faults source.old ≤ I.faults source.new }
 {
     text.clear();
+    *plain = true;
     loop {
-        bytes.put_run(text);
-        let Some(byte) = bytes.next(source)? else {
+        *plain &= block.are_plain();
+        block.put_run(text);
+        let Some(byte) = block.next(source)? else {
             return Ok(Ending::InputEnd);
         };
         if byte == b'\n' {
@@ -54,5 +61,6 @@ pub fn gather<I: Source>(
             return Ok(Ending::Full);
         }
         text.push(byte);
+        *plain &= may_stand(byte);
     }
 }

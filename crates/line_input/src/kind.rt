@@ -1,6 +1,6 @@
 //! What a line is, before anything is read from it.
 
-ghost use Rattle.std.specs.Prelude.{◌≡◌, ◌≤◌, length};
+ghost use Rattle.std.specs.Prelude.{◌≡◌, ◌≤◌, true, length};
 ghost use Rattle.std.specs.List.{list_all};
 ghost use Rattle.line_input.specs.Lines.{line_fault, is_comment as is_comment_line, is_printable as is_printable_byte};
 ghost use Rattle.line_input.specs.inner.Kinds.{kind_of_gathered};
@@ -21,15 +21,17 @@ pub enum LineKind {
     Says,
 }
 
-/// What a line is whose bytes were gathered and ended so.
-pub fn kind_of(ending: Ending, text: &[u8]) -> LineKind
-    requires { length text.now ≤ 512 }
+/// What a line is whose bytes were gathered, or are lent, and ended so. They are plain where each is known to be one
+/// that may stand in a line.
+pub fn kind_of(ending: Ending, text: &[u8], plain: bool) -> LineKind
+    requires short { length text.now ≤ 512 }
+    requires known { plain ≡ true → list_all is_printable_byte text.now ≡ true }
     ensures { result ≡ kind_of_gathered ending text.now }
 {
     match ending {
         Ending::Full => LineKind::Refused(Reason::LineLong),
         Ending::InputEnd if text.is_empty() => LineKind::NoLine,
-        Ending::InputEnd | Ending::Newline => match fault_of(text) {
+        Ending::InputEnd | Ending::Newline => match fault_of(text, plain) {
             Some(reason) => LineKind::Refused(reason),
             None if is_comment(text) => LineKind::PassedOver,
             None => LineKind::Says,
@@ -37,12 +39,13 @@ pub fn kind_of(ending: Ending, text: &[u8]) -> LineKind
     }
 }
 
-/// Why a line of at most 512 bytes is refused, whatever it says.
-fn fault_of(text: &[u8]) -> Option<Reason>
-    requires { length text.now ≤ 512 }
+/// Why a line of at most 512 bytes is refused, whatever it says. Plain ones aren't looked at.
+fn fault_of(text: &[u8], plain: bool) -> Option<Reason>
+    requires short { length text.now ≤ 512 }
+    requires known { plain ≡ true → list_all is_printable_byte text.now ≡ true }
     ensures { result ≡ line_fault text.now }
 {
-    if is_printable(text) {
+    if plain || is_printable(text) {
         None
     } else {
         Some(Reason::Text)
@@ -72,7 +75,7 @@ fn is_printable(text: &[u8]) -> bool
 }
 
 /// Whether a byte may stand in a line.
-fn may_stand(byte: u8) -> bool
+pub fn may_stand(byte: u8) -> bool
     ensures { result ≡ is_printable_byte byte }
 {
     b' ' <= byte && byte <= b'~'

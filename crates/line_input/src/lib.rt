@@ -1,6 +1,7 @@
 //! The lines of a source of bytes, their words and their numbers, and why a line is refused.
 #![tactic(auto)]
 
+mod block;
 mod bytes;
 mod fault;
 mod gather;
@@ -9,6 +10,7 @@ mod line;
 mod lines;
 mod numbers;
 mod push;
+mod reader;
 mod reason;
 mod words;
 

@@ -5,21 +5,18 @@ ghost use Rattle.line_input.specs.Feed.{IsDone};
 ghost use Rattle.line_input.specs.Reading.{ReadsLine, LineFaultCause, begins_with_line};
 ghost use Rattle.line_input.specs.inner.Kinds.{reading};
 
-use crate::bytes::Bytes;
 use crate::fault::LineFault;
-use crate::gather::{MOST_IN_LINE, gather};
-use crate::kind::{LineKind, kind_of};
+use crate::kind::LineKind;
 use crate::line::Line;
+use crate::reader::LineReader;
 use crate::reason::BadLine;
-use arrayvec::ArrayVec;
 use call_io::Source;
 use std::marker::Model;
 
 /// Reads the lines of a source. It takes no memory but its own: a block of bytes, and one line.
 #[derive(Drop)]
 pub struct Lines {
-    bytes: Bytes,
-    text: ArrayVec<u8, MOST_IN_LINE>,
+    reader: LineReader,
     number: u32,
     failed: bool,
 }
@@ -32,9 +29,10 @@ impl Model for Lines {
 
     ghost Value = { Reading };
 
-    ghost view = { λ s. record { feed = s.bytes; lines = s.number; text = s.text.items; failed = s.failed } };
+    ghost view = { λ s. record { feed = s.reader.feed; lines = s.number; text = s.reader.line; failed = s.failed } };
 
-    ghost invariant = { λ s. (s.number ≤ s.bytes.given) × (s.bytes.given ≤ most_bytes) × IsDone s.bytes };
+    ghost invariant = { λ s. (s.number ≤ s.reader.feed.given) × (s.reader.feed.given ≤ most_bytes)
+        × IsDone s.reader.feed };
 }
 
 impl Lines {
@@ -47,8 +45,7 @@ impl Lines {
         ensures { result ≡ first_reading }
     {
         Lines {
-            bytes: Bytes::new(),
-            text: ArrayVec::new(),
+            reader: LineReader::new(),
             number: 0,
             failed: false,
         }
@@ -59,7 +56,7 @@ impl Lines {
     pub fn has_line(&self) -> bool
         ensures { result ≡ begins_with_line self.now.feed.pending }
     {
-        self.bytes.has_line()
+        self.reader.has_line()
     }
 
     /// Reads the next line that says something: true where there is one, which `line` then lends,
@@ -75,7 +72,7 @@ impl Lines {
         ensures cause { IfErr result (λ e. LineFaultCause e (I.faults source.old) (I.faults source.new)) }
         ensures counted { I.faults source.old ≤ I.faults source.new }
     {
-        let read = skim(&mut self.bytes, &mut self.text, &mut self.number, source);
+        let read = skim(&mut self.reader, &mut self.number, source);
         self.failed = read.is_err();
         read
     }
@@ -85,32 +82,31 @@ impl Lines {
         requires { IsLine self.now.text }
         ensures { result ≡ record { number = self.now.lines; text = self.now.text } }
     {
-        Line::of(self.number, self.text.as_slice())
+        Line::of(self.number, self.reader.line())
     }
 }
 
-/// Gathers lines up to the first that isn't passed over, and counts them. False is the end of the
+/// Reads lines up to the first that isn't passed over, and counts them. False is the end of the
 /// input.
 fn skim<I: Source>(
-    bytes: &mut Bytes,
-    text: &mut ArrayVec<u8, MOST_IN_LINE>,
+    reader: &mut LineReader,
     number: &mut u32,
     source: &mut I,
 ) -> Result<bool, LineFault>
-    requires few { number.old ≤ bytes.old.given }
-    requires done { IsDone bytes.old }
-    ensures reads { ReadsLine (reading bytes.old number.old text.old.items)
-        (reading bytes.new number.new text.new.items)
+    requires few { number.old ≤ reader.old.feed.given }
+    requires done { IsDone reader.old.feed }
+    ensures reads { ReadsLine (reading reader.old.feed number.old reader.old.line)
+        (reading reader.new.feed number.new reader.new.line)
         (I.left source.old) (I.left source.new) result }
-    ensures at_hand { begins_with_line bytes.old.pending ≡ true → source.new ≡ source.old }
-    ensures ended { bytes.old.ended ≡ true → source.new ≡ source.old }
+    ensures at_hand { begins_with_line reader.old.feed.pending ≡ true → source.new ≡ source.old }
+    ensures ended { reader.old.feed.ended ≡ true → source.new ≡ source.old }
     ensures stood { OnOk result (I.faults source.new ≡ I.faults source.old) }
     ensures cause { IfErr result (λ e. LineFaultCause e (I.faults source.old) (I.faults source.new)) }
     ensures counted { I.faults source.old ≤ I.faults source.new }
 {
     loop {
-        let ending = gather(bytes, text, source)?;
-        match kind_of(ending, text.as_slice()) {
+        let kind = reader.next_line(source)?;
+        match kind {
             LineKind::NoLine => return Ok(false),
             LineKind::Says => {
                 *number += 1;

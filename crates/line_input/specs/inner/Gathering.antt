@@ -1,8 +1,8 @@
 -- What the reader of a source's bytes and the function that gathers a line say of the bytes at hand. This project's
 -- profile. Scaffolding: cited by the contracts of private functions alone.
-use Rattle.std.specs.Prelude.{◌≡◌, ℕ, ◌+◌, ◌-◌, min, take, ◌<◌, ◌≤◌, nat_lt, true, false, List, [], ◌∷◌, ◌++◌, length, Option, Some, None, Result, Ok, Err}
-use Rattle.std.specs.List.{AllByRecursion, before_first, list_any, slice_range}
-use Rattle.line_input.specs.Characters.{newline, is_newline}
+use Rattle.std.specs.Prelude.{◌≡◌, ℕ, ◌+◌, ◌<◌, ◌≤◌, true, false, List, [], ◌∷◌, ◌++◌, length, Option, Result, Ok, Err}
+use Rattle.std.specs.List.{AllByRecursion}
+use Rattle.line_input.specs.Characters.{newline}
 use Rattle.line_input.specs.Feed.{Feed, Draws, IsDone, IsInner}
 use Rattle.line_input.specs.Lines.{most_in_line, most_bytes}
 use Rattle.line_input.specs.declared.fault.LineFault.{LineFault}

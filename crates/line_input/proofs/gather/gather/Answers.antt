@@ -2,6 +2,7 @@ use Rattle.std.proofs.Common.{◌≡◌, ◌<◌, ◌∙◌, length, sym}
 use Rattle.std.proofs.lemmas.Result.{err_from_is_err_and}
 use Rattle.std.proofs.lemmas.Bool.{eqb-true}
 use Rattle.line_input.proofs.GatherLemmas.{Gathering-more, Gathering-run, GathersLine-end, GathersLine-newline, GathersLine-full, GathersLine-fault, below_full, newline_after_run, newline_after_byte, run_is_some}
+use Rattle.line_input.proofs.PlainLemmas.{plain_byte, plain_run}
 use Rattle.line_input.proofs.gather.gather.Goals as goal
 
 pub returns-in_err-byte-clause-line : goal.returns-in_err-byte-clause-line
@@ -34,6 +35,7 @@ loop-byte-preserved g c = let room : length c.put_run.new.text.items < 512 = bel
     c.in_ok-byte.ensures.next.draws.stays (c.put_run.ensures.run.ended ∙ now.0),
     c.in_ok-byte.ensures.ended (c.put_run.ensures.run.ended ∙ now.0) ∙ now.1,
   ),
+  plain_byte c.put_run.new.text.items _ _ _ _ c.push.ensures.items c.may_stand.ensures (plain_run _ _ _ _ _ _ _ c.loop-byte.invariant.4 c.are_plain.ensures.pending c.put_run.ensures.run c.put_run.ensures.text),
 )
 
 pub returns-in_err-byte-clause-at_hand : goal.returns-in_err-byte-clause-at_hand
@@ -59,3 +61,15 @@ returns-then-byte-eq10-clause-ended g c = λ ended. let now = c.loop-byte.invari
 
 pub returns-then-is_full-clause-ended : goal.returns-then-is_full-clause-ended
 returns-then-is_full-clause-ended g c = λ ended. let now = c.loop-byte.invariant.3 ended in c.in_ok-byte.ensures.ended (c.put_run.ensures.run.ended ∙ now.0) ∙ now.1
+
+pub returns-in_err-byte-clause-known : goal.returns-in_err-byte-clause-known
+returns-in_err-byte-clause-known g c = plain_run _ _ _ _ _ _ _ c.loop-byte.invariant.4 c.are_plain.ensures.pending c.put_run.ensures.run c.put_run.ensures.text
+
+pub returns-in_default-clause-known : goal.returns-in_default-clause-known
+returns-in_default-clause-known g c = plain_run _ _ _ _ _ _ _ c.loop-byte.invariant.4 c.are_plain.ensures.pending c.put_run.ensures.run c.put_run.ensures.text
+
+pub returns-then-byte-eq10-clause-known : goal.returns-then-byte-eq10-clause-known
+returns-then-byte-eq10-clause-known g c = plain_run _ _ _ _ _ _ _ c.loop-byte.invariant.4 c.are_plain.ensures.pending c.put_run.ensures.run c.put_run.ensures.text
+
+pub returns-then-is_full-clause-known : goal.returns-then-is_full-clause-known
+returns-then-is_full-clause-known g c = plain_run _ _ _ _ _ _ _ c.loop-byte.invariant.4 c.are_plain.ensures.pending c.put_run.ensures.run c.put_run.ensures.text

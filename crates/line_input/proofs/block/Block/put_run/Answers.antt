@@ -1,10 +1,10 @@
 use Rattle.std.proofs.Common.{ℕ, List, ◌-◌, ◌++◌, ap, ◌∙◌, take, length, arith}
 use Rattle.std.specs.Prelude.{◌==◌, min}
 use Rattle.std.specs.List.{slice_range, position_or_len}
-use Rattle.line_input.specs.Feed.{Feed}
 use Rattle.line_input.specs.Giving.{run_of}
+use Rattle.line_input.specs.inner.Held.{Held}
 use Rattle.line_input.proofs.FeedLemmas.{GivesRun-range, run_is}
-use Rattle.line_input.proofs.bytes.Bytes.put_run.Goals as goal
+use Rattle.line_input.proofs.block.Block.put_run.Goals as goal
 
 pub returns-clause-run : goal.returns-clause-run
 returns-clause-run c =
@@ -23,4 +23,4 @@ returns-clause-text c =
     let run = run_is feed.block feed.at feed.«end» feed.given c.run_len-len.result room feed.ended c.self.invariant.0 (omega arith)
     (c.run_len-len.ensures.place ∙ ap (λ n. position_or_len (λ b. b == 10) (take n pending)) most) in
     (rw c.unwrap.ensures at c.try_extend_from_slice.ensures.ok)
-    ∙ ap (λ (l : List ℕ). c.args.text.now.items ++ l) (run ∙ ap (λ (f : Feed). run_of f room) c.self.view_is)
+    ∙ ap (λ (l : List ℕ). c.args.text.now.items ++ l) (run ∙ ap (λ (h : Held). run_of h.feed room) c.self.view_is)

@@ -1,5 +1,5 @@
 use Rattle.line_input.proofs.BlockLemmas.{behind_last, behind_none}
-use Rattle.line_input.proofs.bytes.lines_len.Goals as goal
+use Rattle.line_input.proofs.block.lines_len.Goals as goal
 
 pub returns-in-Some-clause-last : goal.returns-in-Some-clause-last
 returns-in-Some-clause-last c = behind_last c.args.bytes.now c.in-Some.at c.in-Some.ensures
