@@ -32,6 +32,7 @@ impl World {
     pub fn reach(&mut self, tick: u64)
         ensures { self.new ≡ record self.old { channel = record (self.old.channel) { tick = tick } } }
     {
+        self.channel.settle_calls();
         self.channel.tick = tick;
     }
 

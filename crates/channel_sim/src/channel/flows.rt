@@ -165,6 +165,7 @@ impl Channel {
     }
 
     /// Hands over what was sent up, or down, so many ticks ago.
+    #[inline(never)]
     pub(super) fn flows<H: Listener, L: Ledger>(
         &mut self,
         alloc: Global,

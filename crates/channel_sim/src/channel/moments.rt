@@ -117,7 +117,7 @@ impl Channel {
     }
 
     /// Counts which calls need not be looked at any more.
-    fn settle_calls(&mut self)
+    pub(crate) fn settle_calls(&mut self)
         ensures { self.new ≡ self.old }
     {
         self.calls
@@ -315,6 +315,7 @@ impl Channel {
     }
 
     /// Hands over what was sent up, or down, so many ticks ago, unless the next frame comes after this tick.
+    #[inline]
     fn flows_from<H: Listener, L: Ledger>(
         &mut self,
         alloc: Global,
