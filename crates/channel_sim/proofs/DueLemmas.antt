@@ -181,6 +181,12 @@ hands_none zero n now place v xs some le first none = absurd (some refl)
 hands_none (suc d) n now place v xs some le first none =
     rest_split n d now place xs (low_over v d now (take place (ticks_of xs)) le first.before) (none_from (λ x. now + n < x + suc d) place (ticks_of xs) none)
 
+-- all of these frames were handed over
+pub past_rests : (flow n now sent newest : ℕ) (xs : List Sent) → sent ≤ (now + 1) - flow → newest < sent → AllByRecursion (λ s. s.tick ≤ newest) xs → FramesRest n flow now xs
+past_rests zero n now sent newest xs le lt h = tt
+past_rests (suc d) n now sent newest [] le lt h = tt
+past_rests (suc d) n now sent newest (x ∷ xs) le lt h = let low : x.tick ≤ newest = h.0 in (inl (omega arith), past_rests (suc d) n now sent newest xs le lt h.1)
+
 pub due_in_append : (sent : Call → List Sent) (d now : ℕ) (xs ys : List Call) → due_in sent (suc d) now (xs ++ ys) ≡ due_in sent (suc d) now xs ++ due_in sent (suc d) now ys
 due_in_append sent d now [] ys = refl
 due_in_append sent d now (x ∷ xs) ys =

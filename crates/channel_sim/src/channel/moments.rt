@@ -45,7 +45,11 @@ fn hands_at(sends: &Sends, near: usize, flow: u32, now: u64, end: u64) -> u64
         return end;
     }
     let delay = u64::from(flow);
-    let place = sends.first_from(now.saturating_add(1).saturating_sub(delay), near);
+    let sent = now.saturating_add(1).saturating_sub(delay);
+    if sends.newest() < sent {
+        return end;
+    }
+    let place = sends.first_from(sent, near);
     match sends.tick(place) {
         Some(tick) => tick.saturating_add(delay).min(end),
         None => end,
