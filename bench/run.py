@@ -47,15 +47,16 @@ OTHERS = [
     (["make", "0"], None, [], None),
     (["trial", "0"], None, [], None),
 ]
-# what of the plain program's files gives way to digits.rs
+# what of the plain program's files gives way to digits.rs, and what of them reads a decimal number to std's `parse`
 LIBRARY_DIGITS = [
     ("main.rs", r"(?m)^mod hex;", "mod digits;\nmod hex;"),
     ("hex.rs", r"    let mut seen = 0;\n.*?(?=    Ok\(&into\[\.\.n\]\))", "    if !crate::digits::decode_to_slice(word, &mut into[..n]) {\n        return Err(Reason::Hex);\n    }\n"),
+    ("hex.rs", r"word\.iter\(\)\.try_fold\(0u64.*?\n        }\),", "std::str::from_utf8(word).ok()?.parse().ok(),"),
     ("io.rs", r"        for \(digits, octet\) in .*?\n        }\n", "        crate::digits::encode_to_slice(octets, &mut self.text[start..]);\n"),
 ]
 # the commands that read or write many of these digits, as in OTHERS
 DIGITS = [
-    *((["run"], "scripts.py", [kind], SCRIPTS[kind]) for kind in ("mixed", "calls", "flows")),
+    *((["run"], "scripts.py", [kind], SCRIPTS[kind]) for kind in ("mixed", "calls", "flows", "one")),
     *OTHERS[:3],
     (["frames"], "stream.py", [], 20_000),
 ]
@@ -124,7 +125,7 @@ def plain_program(folder, source=PLAIN):
 
 
 def with_library_digits(folder):
-    """Builds the plain program with the library's reading and writing of hexadecimal digits in the place of its own tables."""
+    """Builds the plain program with the digits of the library `hex` and the numbers of std in the place of its own (LIBRARY_DIGITS)."""
     source = os.path.join(folder, "source")
     if not os.path.isdir(PLAIN):
         raise Skipped("its folder is not here")
@@ -290,9 +291,8 @@ def others(program, plain, folder):
 
 
 def beside_library_digits(program, plain, library, known, folder):
-    """The processor time of commands over many hexadecimal digits, beside the plain program's, and that of the plain program with the
-    library's digits."""
-    print("\nHexadecimal digits: processor time of `ecall`, of the plain program, and of the plain program with the digits of the library `hex`")
+    """The processor time of commands over many digits, beside the plain program's, and that of the plain program with the libraries'."""
+    print("\nDigits: processor time of `ecall`, of the plain program, and of that with the digits of `hex` and the numbers of std")
     print(f"{'command':>10} {'input':>8} {'ecall':>8} {'plain':>8} {'ratio':>6} {'library':>8} {'ratio':>6}")
     for words, maker, kind, count in [(["decode"], None, ["known"], None), *DIGITS]:
         path = inputs(program, folder, maker, kind, count) if count else known
