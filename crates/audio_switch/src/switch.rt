@@ -129,9 +129,9 @@ impl Switch {
         requires { IfSome (room_in self.old.limit self.old.stretch) (λ room. n ≤ room) }
         ensures { self.new ≡ record self.old { stretch = aged n self.old.stretch } }
     {
-        self.stretch = match self.stretch {
-            Stretch::Muted(ticks) => Stretch::Muted(ticks + n),
-            Stretch::Open(ticks) => Stretch::Open(ticks.saturating_add(n)),
-        };
+        match &mut self.stretch {
+            Stretch::Muted(ticks) => *ticks += n,
+            Stretch::Open(ticks) => *ticks = ticks.saturating_add(n),
+        }
     }
 }
