@@ -1,5 +1,5 @@
 -- The numbers that decimal digits spell.
-use Rattle.std.proofs.Common.{◌≡◌, ℕ, ◌+◌, ◌-◌, ◌*◌, ◌<◌, ◌≤◌, Bool, true, false, List, [], ◌∷◌, length, get_or, refl, arith, rules, zero, suc, ◌&&◌, ◌^◌, Result, Ok, Err, Option, Some, None, ltb, leb, IfSome, if◌then◌else◌, ap, sym, ◌∙◌}
+use Rattle.std.proofs.Common.{◌≡◌, ℕ, ◌+◌, ◌-◌, ◌*◌, ◌<◌, ◌≤◌, Bool, true, false, List, [], ◌∷◌, length, get_or, refl, arith, rules, zero, suc, ◌&&◌, ◌^◌, Result, Ok, Err, Some, None, ltb, leb, IfSome, if◌then◌else◌, ap, sym, ◌∙◌}
 use Rattle.std.specs.List.{list_all}
 use Rattle.std.specs.Str.{IsAscii}
 use Rattle.std.proofs.lemmas.Bool.{ltb-true, lt-ltb}
@@ -68,10 +68,6 @@ positive-from_parse {E = E} bits text r begins parses =
         ap Some is.1 ∙ sym whole
     by_answer (Err e) over some fails = sym (none-if_not (list_all is_digit text) (ltb 48 (get_or text 0 0)) (ltb (number_of text) (2 ^ bits)) (number_of text)
         (λ digits fits. fails (digits, some, ltb-true _ _ fits)))
-
--- what is no text has a byte that is no digit
-pub not_digits : (bits : ℕ) (text : List ℕ) → (IsAscii text → ⊥) → positive_below bits text ≡ None
-not_digits bits text strange = none-if_not (list_all is_digit text) _ _ _ (λ digits fits. strange (IsAscii-digits text digits))
 
 pub number_of-plain : (text : List ℕ) → is_plain_number text ≡ true → 0 < number_of text
 number_of-plain text plain = number_of-some text (ltb-true _ _ (second_true (list_all is_digit text) (ltb 48 (get_or text 0 0)) plain))

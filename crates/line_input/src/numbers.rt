@@ -1,7 +1,8 @@
 //! Numbers in decimal digits, as lines have them.
 
 ghost use Rattle.std.specs.Prelude.{◌≡◌, ◌<◌, ◌≤◌, ◌^◌, pos, neg_ℤ, ◌≤ℤ◌, ◌<ℤ◌, IsTrue, IfSome};
-ghost use Rattle.line_input.specs.Numbers.{positive, positive_below, natural_below, negative_from, signed_natural, signed_within};
+ghost use Rattle.std.specs.List.{list_all};
+ghost use Rattle.line_input.specs.Numbers.{is_digit, positive, positive_below, natural_below, negative_from, signed_natural, signed_within};
 ghost use Rattle.line_input.specs.inner.Plain.{begins_plain_number};
 
 use crate::words::is_word;
@@ -129,8 +130,22 @@ fn read_digits(text: &[u8]) -> Option<u64>
     requires { IsTrue (begins_plain_number text.now) }
     ensures { result ≡ positive_below (2 ^ 64) text.now }
 {
-    match str::from_utf8(text) {
-        Ok(digits) => digits.parse::<u64>().ok(),
-        Err(_) => None,
+    if !are_digits(text) {
+        return None;
     }
+    // Digits are characters of one byte.
+    let digits = unsafe { str::from_utf8_unchecked(text) };
+    digits.parse::<u64>().ok()
+}
+
+/// Whether each byte is a decimal digit.
+#[inline]
+fn are_digits(text: &[u8]) -> bool
+    ensures { result ≡ list_all is_digit text.now }
+{
+    text.iter().all(
+        |byte: &u8| -> bool
+            ensures { result ≡ is_digit byte.now }
+        { byte.is_ascii_digit() },
+    )
 }

@@ -9,6 +9,9 @@ ghost use Rattle.line_input.specs.Arguments.{words_behind, two_words_of, three_w
 
 use memchr::memchr;
 
+/// A text of no more bytes than these is sooner looked at byte by byte.
+const FEW: usize = 8;
+
 /// The only word of a line, unless there are more. Words are cut at each single space, so a line has at least one.
 pub fn only_word(text: &[u8]) -> Option<&[u8]>
     ensures { option_copied result ≡ only_word_of (words text.now) }
@@ -21,6 +24,7 @@ pub fn only_word(text: &[u8]) -> Option<&[u8]>
 }
 
 /// The first word, and what stands behind the space that ends it.
+#[inline]
 pub fn split_word(text: &[u8]) -> (&[u8], Option<&[u8]>)
     ensures { words text.now ≡ result.0.now ∷ words_behind (option_copied result.1) }
 {
@@ -31,7 +35,31 @@ pub fn split_word(text: &[u8]) -> (&[u8], Option<&[u8]>)
 }
 
 /// Where the first space stands.
+#[inline]
 fn find_space(text: &[u8]) -> Option<usize>
+    ensures { result ≡ position is_space text.now }
+{
+    if text.len() <= FEW {
+        near_space(text)
+    } else {
+        far_space(text)
+    }
+}
+
+/// Where the first space stands, byte by byte.
+#[inline]
+fn near_space(text: &[u8]) -> Option<usize>
+    ensures { result ≡ position is_space text.now }
+{
+    text.iter().position(
+        |byte: &u8| -> bool
+            ensures { result ≡ is_space byte.now }
+        { *byte == b' ' },
+    )
+}
+
+/// Where the first space stands, many bytes at once.
+fn far_space(text: &[u8]) -> Option<usize>
     ensures { result ≡ position is_space text.now }
 {
     memchr(b' ', text)
