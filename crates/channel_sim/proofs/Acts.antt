@@ -1,5 +1,5 @@
 -- What one end does, and the consequences at the other, keep a world that fits.
-use Rattle.std.specs.Prelude.{◌≡◌, ◌≤◌, ◌+◌, ℕ, ◌==◌, Bool, true, false, List, [], ◌∷◌, ◌++◌, Option, Some, None, IfSome, map, if◌then◌else◌}
+use Rattle.std.specs.Prelude.{◌≡◌, ◌≤◌, ℕ, ◌==◌, Bool, true, false, List, [], ◌∷◌, ◌++◌, Option, Some, None, IfSome, map, if◌then◌else◌}
 use Rattle.std.specs.List.{AllByRecursion}
 use Rattle.std.specs.Option.{is_some}
 use Rattle.std.proofs.Common.{refl, sym, ap, subst, ◌∙◌, arith, append_assoc}
@@ -24,15 +24,15 @@ use Rattle.psap_machine.specs.PointOwes as point_owes
 use Rattle.psap_machine.specs.PointRows as point
 use Rattle.psap_machine.proofs.PointOwed as point_owed
 use Rattle.trace_model.specs.declared.entry.Entry.{Entry}
-use Rattle.trace_model.specs.History.{told, sets_of}
-use Rattle.trace_model.specs.Safety.{is_leg, leg_at}
+use Rattle.trace_model.specs.History.{told}
+use Rattle.trace_model.specs.Safety.{is_leg}
 use Rattle.channel_sim.specs.World.{Call, World, Step, Act, InCall, Session, quiet_step, and_then, vehicle_is_in, call_of, session_in, session_of, seated, carries, with_legs, did, vehicle_did, session_did, session_acts, does, does_each, consequence, consequences, settled}
 use Rattle.trace_fit.specs.Seats.{left_by}
 use Rattle.channel_sim.specs.Fit.{seats_of, FramesFit, IsCall}
 use Rattle.trace_fit.specs.Seats.{vehicle_seat, point_seat, IsSessionOf}
 use Rattle.channel_sim.specs.Tidy.{AreAbove, numbers_of}
 use Rattle.channel_sim.specs.inner.FitAt.{FitsAt, Goes, Settles}
-use Rattle.trace_fit.specs.inner.FitAt.{SeatBy, Came, Seats, Clocks, FitAt}
+use Rattle.trace_fit.specs.inner.FitAt.{Came, Clocks, FitAt}
 use Rattle.trace_fit.proofs.Lists.{all_append}
 use Rattle.trace_fit.proofs.RowOwes.{event_kept, end_kept}
 use Rattle.channel_sim.proofs.CallsKept.{carried_session, carried_listed, carried_order, carried_calls, carried_frames, is_listed, seated_here, seated_other, seated_listed, seated_order, seated_calls, seated_frames, kept_all, kept_legs, kept_order, kept_listed, kept_session, found_session}

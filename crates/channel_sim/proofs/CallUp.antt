@@ -1,21 +1,15 @@
 -- A call that comes up at both ends keeps a world that fits.
-use Rattle.std.specs.Prelude.{◌≡◌, ◌<◌, ◌+◌, ℕ, Bool, true, false, List, [], ◌∷◌, ◌++◌, Option, Some, None, IfSome, unwrap_or, ◌&&◌}
+use Rattle.std.specs.Prelude.{◌≡◌, ◌<◌, ◌+◌, ℕ, true, List, [], ◌∷◌, ◌++◌, Option, Some, None, IfSome}
 use Rattle.std.specs.List.{AllByRecursion}
 use Rattle.std.specs.Option.{is_some}
 use Rattle.std.proofs.Common.{refl, sym, ap, subst, ◌∙◌, arith, append_assoc}
-use Rattle.std.proofs.lemmas.Bool.{false≢true}
 use Rattle.link_frames.specs.declared.frame.End.{End}
 use Rattle.link_frames.specs.declared.frame.End.TheVariants as «end»
-use Rattle.link_frames.specs.declared.frame.Frame.{Frame}
-use Rattle.link_frames.specs.declared.note.Note.{Note}
 use Rattle.link_frames.specs.Legs.{owner}
-use Rattle.link_frames.specs.Owes.{Seat, Along, MayGive, OwesArrival, fresh_seat, seat_moved}
 use Rattle.link_frames.specs.Row.{Row}
-use Rattle.ivs_machine.specs.Vehicle.{Vehicle, Phase, Idle, Standby, Arming, InSeries, InCall, vehicle_call, is_dialling, is_dialling_in, is_reachable, is_standby}
-use Rattle.ivs_machine.specs.VehicleKept as vehicle_kept
-use Rattle.ivs_machine.specs.VehicleOwes.{ArrivalOwes, EventOwes, StaysIn, seat_in, seat_of, comes_up_in, comes_up as comes_up_of}
-use Rattle.ivs_machine.specs.VehicleRows.{Heard, Answered, Incoming, named, unnamed, vehicle_row}
-use Rattle.ivs_machine.proofs.VehicleOwed as vehicle_owed
+use Rattle.ivs_machine.specs.Vehicle.{Vehicle, vehicle_call, is_dialling, is_reachable}
+use Rattle.ivs_machine.specs.VehicleOwes.{ArrivalOwes, seat_of}
+use Rattle.ivs_machine.specs.VehicleRows.{Answered, Incoming, vehicle_row}
 use Rattle.psap_machine.specs.Point.{Point}
 use Rattle.psap_machine.specs.PointOwes as point_owes
 use Rattle.trace_model.specs.declared.entry.Entry.{Entry}
@@ -38,7 +32,7 @@ use Rattle.channel_sim.proofs.CallsKept.{more_session, more_listed, more_order, 
 use Rattle.trace_fit.proofs.Seats.{seat_as, stays_call, left_seat, left_session, undrawn, untold, arrived}
 use Rattle.channel_sim.proofs.Acts.{did_goes, seated_goes, vehicle_others, session_others}
 use Rattle.trace_fit.proofs.Clocks.{reseat}
-use Rattle.trace_fit.proofs.ComingUp.{along_own, arrival_own, drawn_more, out_stays_in, dialling_out, dialling_comes, answered_in, reachable_out, reachable_comes, called_in, owes_arrival}
+use Rattle.trace_fit.proofs.ComingUp.{arrival_own, drawn_more, out_stays_in, dialling_out, dialling_comes, answered_in, reachable_out, reachable_comes, called_in, owes_arrival}
 
 -- an end sent nothing in a call whose number wasn't drawn
 unsent : (e : End) (c last : ℕ) → last < c → (t : List Entry) → AllByRecursion (λ x. IsDrawn last (owner x.note)) t →

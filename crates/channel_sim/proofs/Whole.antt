@@ -20,7 +20,7 @@ use Rattle.psap_machine.specs.PointOwes as point_owes
 use Rattle.trace_model.specs.declared.entry.Entry.{Entry}
 use Rattle.trace_model.specs.declared.event.Event.{Event}
 use Rattle.trace_model.specs.History.{Sent, sends, sent_by, sets_of}
-use Rattle.trace_model.specs.Safety.{is_leg, Leg, first_leg, leg_behind, leg_at, AtEach, MustOpen, OpensNext, OwesOpening, IsBounded}
+use Rattle.trace_model.specs.Safety.{is_leg, Leg, first_leg, leg_at}
 use Rattle.trace_model.proofs.Folds.{is_leg_same}
 use Rattle.channel_sim.specs.World.{World, Call, first_world, session_of, vehicle_is_in, point_is_in, unit, units, call_of, session_in}
 use Rattle.trace_fit.specs.Seats.{is_number, unless_over}
@@ -30,7 +30,7 @@ use Rattle.trace_fit.specs.Links.{CarriesMade}
 use Rattle.trace_fit.specs.Order.{IsSent, WasSent}
 use Rattle.trace_fit.specs.Seats.{LegFits, vehicle_seat, point_seat}
 use Rattle.channel_sim.specs.inner.FitAt.{FitsAt, all_at}
-use Rattle.trace_fit.specs.inner.FitAt.{SeatBy, OpensSoon, SafeFrom}
+use Rattle.trace_fit.specs.inner.FitAt.{SeatBy}
 use Rattle.trace_fit.proofs.RowKept.{within_of}
 use Rattle.channel_sim.proofs.CallsKept.{found_leg, found_session}
 use Rattle.channel_sim.proofs.Running.{FitsNow, unit_now, step_goes, trace_goes}

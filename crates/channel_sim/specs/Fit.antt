@@ -1,29 +1,20 @@
 -- When a trace fits a world: what ties the state of both ends, and each frame in flight, to the entries written so far.
 -- It holds at first and each step keeps it; from it follows that every trace is safe. It names no row of either end.
 -- This project's profile. Cited by the laws of this crate and the contract of `World::step`.
-use Rattle.std.specs.Prelude.{◌≡◌, ◌≤◌, ℕ, ◌+◌, true, false, List, [], ◌∷◌, ◌++◌, ◌⊎◌, Option, Some, None, IfSome, if◌then◌else◌}
+use Rattle.std.specs.Prelude.{◌≡◌, ◌≤◌, ℕ, true, List, [], Option, IfSome}
 use Rattle.std.specs.List.{AllByRecursion}
 use Rattle.std.specs.Option.{is_some}
 use Rattle.link_frames.specs.declared.frame.End.{End}
 use Rattle.link_frames.specs.declared.frame.End.TheVariants as «end»
-use Rattle.link_frames.specs.declared.frame.Frame.{Frame}
-use Rattle.link_frames.specs.declared.frame.Frame.TheVariants as frame
-use Rattle.link_frames.specs.declared.note.Note.{Note}
-use Rattle.link_frames.specs.declared.note.Note.TheVariants as note
-use Rattle.link_frames.specs.Legs.{Kept, owner}
-use Rattle.link_frames.specs.Owes.{Seat, InTime, set_for, HasSet}
+use Rattle.link_frames.specs.Legs.{owner}
+use Rattle.link_frames.specs.Owes.{Seat, InTime}
 use Rattle.ivs_machine.specs.Vehicle.{Vehicle, vehicle_call}
 use Rattle.ivs_machine.specs.VehicleKept as vehicle
-use Rattle.ivs_machine.specs.VehicleOwes.{seat_of}
-use Rattle.psap_machine.specs.Point.{Point}
-use Rattle.psap_machine.specs.PointKept as point
-use Rattle.psap_machine.specs.PointOwes as session
 use Rattle.trace_model.specs.declared.entry.Entry.{Entry}
-use Rattle.trace_model.specs.History.{Sent, sent_by, sets_of}
-use Rattle.trace_model.specs.Safety.{Leg, leg_at, WasShown, Safe, Finished}
+use Rattle.trace_model.specs.History.{sent_by, sets_of}
+use Rattle.trace_model.specs.Safety.{leg_at, Safe, Finished}
 use Rattle.channel_sim.specs.Tidy.{AreAbove, HasLeg, numbers_of}
 use Rattle.channel_sim.specs.World.{World, Call, call_of, session_of}
-use Rattle.trace_fit.specs.Seats.{is_number, left_by}
 use Rattle.trace_fit.specs.Links.{CallLinks}
 use Rattle.trace_fit.specs.Order.{IsDrawn, Rises, OrderedFrom}
 use Rattle.trace_fit.specs.Seats.{vehicle_seat, point_seat, LegFits, IsSessionOf}

@@ -1,7 +1,7 @@
 -- The world of both ends and the channel between them: its state, what an end's row does in it, the consequences at the
 -- other end, and the unit tick. All that was ever sent in a call may be handed over late, twice, in any order or never.
 -- This project's profile. Cited by the contracts of `World`, by the laws of this crate and by the reply of `ecall`.
-use Rattle.std.specs.Prelude.{ℕ, zero, suc, Bool, false, List, [], ◌∷◌, ◌++◌, ◌+◌, ◌==◌, ◌||◌, Option, Some, None, map, if◌then◌else◌}
+use Rattle.std.specs.Prelude.{ℕ, zero, suc, Bool, List, [], ◌∷◌, ◌++◌, ◌+◌, ◌==◌, ◌||◌, Option, Some, None, map, if◌then◌else◌}
 use Rattle.std.specs.Option.{is_some}
 use Rattle.link_frames.specs.declared.frame.End.TheVariants as «end»
 use Rattle.link_frames.specs.declared.frame.Frame.{Frame}
@@ -12,7 +12,7 @@ use Rattle.link_frames.specs.Row.{Row}
 use Rattle.msd_fit.specs.declared.facts.Facts.{Facts}
 use Rattle.ivs_machine.specs.Vehicle.{Vehicle, first_vehicle, vehicle_call}
 use Rattle.ivs_machine.specs.VehicleRows as vehicle
-use Rattle.psap_machine.specs.Point.{Point, Phase, Over}
+use Rattle.psap_machine.specs.Point.{Point}
 use Rattle.psap_machine.specs.PointRows as point
 use Rattle.trace_model.specs.declared.entry.Entry.{Entry}
 use Rattle.trace_model.specs.History.{Sent, sent_by, told}

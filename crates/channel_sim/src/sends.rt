@@ -152,7 +152,7 @@ fn begin_at(frames: &[KeptSent], tick: u64, near: usize) -> usize
 }
 
 /// The place of the first of these that was sent at this tick or later, by halves. Out of line, since it is nearly
-/// always at `near` or behind all.
+/// always at `near`, behind all, or in front of them.
 #[inline(never)]
 fn search_place(frames: &[KeptSent], tick: u64, near: usize) -> usize
     ensures within { result ≤ length frames.now }
@@ -178,6 +178,9 @@ fn first_place(frames: &[KeptSent], tick: u64, near: usize) -> usize
     let count = frames.len();
     if is_first(frames, count, tick) {
         return count;
+    }
+    if is_first(frames, 0, tick) {
+        return 0;
     }
     search_place(frames, tick, near)
 }

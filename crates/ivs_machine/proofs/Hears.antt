@@ -1,5 +1,5 @@
 -- An `Ivs` that hears: from what each row does to what it keeps.
-use Rattle.std.proofs.Common.{◌≡◌, ◌≤◌, ℕ, List, IfSome}
+use Rattle.std.proofs.Common.{◌≤◌, ℕ, List, IfSome}
 use Rattle.link_frames.specs.Does.{Does}
 use Rattle.link_frames.specs.declared.note.Note.{Note}
 use Rattle.ivs_machine.specs.Vehicle.{Vehicle}

@@ -3,7 +3,7 @@ use Rattle.std.proofs.Common.{◌≡◌, ◌≤◌, ◌∙◌, ◌++◌, ℕ, Bo
 use Rattle.link_frames.specs.Does.{Does}
 use Rattle.link_frames.specs.declared.note.Note.{Note}
 use Rattle.link_frames.specs.Ranks.{Deadline, first_of}
-use Rattle.link_frames.specs.Row.{Row, silent}
+use Rattle.link_frames.specs.Row.{Row}
 use Rattle.redial.specs.Series.{under_way, IsKept}
 use Rattle.redial.specs.SeriesRows as series
 use Rattle.redial.specs.declared.series.Next.{Next}

@@ -13,7 +13,7 @@ use Rattle.redial.specs.declared.series.Series.{Series}
 use Rattle.redial.proofs.Ticks.{none_grown}
 use Rattle.ivs_machine.specs.Vehicle.{Vehicle, Phase, Idle, Standby, Arming, InSeries, InCall, LeftIdle, LeftStandby, Initiating, Awaiting, Sending, Confirming, Talking}
 use Rattle.ivs_machine.specs.VehicleKept.{IsKept, IsKeptIn}
-use Rattle.ivs_machine.specs.VehicleRows.{deadlines, aged, aged_in, acts, unit_row, units, due_of, IsLeastDue}
+use Rattle.ivs_machine.specs.VehicleRows.{deadlines, aged, acts, unit_row, units, due_of, IsLeastDue}
 
 -- what each line of a vehicle leaves
 abbrev pub Leaves : ℕ → Vehicle → Type 0

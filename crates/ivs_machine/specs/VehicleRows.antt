@@ -1,7 +1,7 @@
 -- The table of the in-vehicle system: what it does at each event, and at a unit tick. After EN 16062 (initiation, data,
 -- acknowledgements, clear-down, muting) and EN 16072 (triggers, redial, standby, callback); the numbers are this
 -- project's profile. Cited by the contracts of `Ivs`, and by the world's step.
-use Rattle.std.specs.Prelude.{◌≡◌, ◌≢◌, ◌<◌, ℕ, zero, suc, Bool, true, false, List, [], ◌∷◌, Option, Some, None, ◌+◌, ◌==◌, ◌&&◌, ◌||◌, nat_lt, nat_le, min, not, unwrap_or, if◌then◌else◌}
+use Rattle.std.specs.Prelude.{◌≡◌, ◌≢◌, ◌<◌, ℕ, zero, suc, Bool, true, false, List, [], ◌∷◌, Option, Some, None, ◌+◌, ◌==◌, ◌&&◌, nat_lt, nat_le, min, not, unwrap_or, if◌then◌else◌}
 use Rattle.callback.specs.Rest.{least_standby, longest_standby, rested}
 use Rattle.link_frames.specs.declared.frame.End.TheVariants as «end»
 use Rattle.link_frames.specs.declared.frame.Answer.TheVariants as answer

@@ -8,7 +8,7 @@ mod ticks;
 
 use crate::event::PointEvent;
 use audio_switch::Switch;
-use link_frames::{End, Items, Note, Request, Requests, Steps, Why, fill};
+use link_frames::{End, Items, Note, Request, Requests, Steps, Why, two_items};
 use std::sync::ledger::Ledger;
 
 /// T4, for which the point waits for the initiation: 5 seconds, in ticks of 100 ms.
@@ -133,7 +133,7 @@ impl Session {
             end: End::Point,
             call: self.call,
         };
-        fill(items, &[up, self.voices()])
+        two_items(items, &up, &self.voices())
     }
 
     /// What the point does at an event. Items are in order.

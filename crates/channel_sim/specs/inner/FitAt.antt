@@ -1,24 +1,14 @@
 -- When a trace fits ends that were passed up to their clocks, which within a unit tick aren't all at one tick.
 -- Scaffolding of the laws.
-use Rattle.std.specs.Prelude.{◌≡◌, ◌≤◌, ◌+◌, ℕ, true, false, List, [], ◌∷◌, ◌++◌, Option, Some, None, IfSome}
+use Rattle.std.specs.Prelude.{◌≡◌, ◌≤◌, ℕ, true, List, ◌++◌, IfSome}
 use Rattle.std.specs.List.{AllByRecursion}
 use Rattle.std.specs.Option.{is_some}
-use Rattle.link_frames.specs.declared.frame.End.{End}
 use Rattle.link_frames.specs.declared.frame.End.TheVariants as «end»
-use Rattle.link_frames.specs.declared.frame.Frame.{Frame}
-use Rattle.link_frames.specs.declared.note.Note.{Note}
-use Rattle.link_frames.specs.declared.note.Note.TheVariants as note
-use Rattle.link_frames.specs.Legs.{Kept, owner}
-use Rattle.link_frames.specs.Owes.{Seat, InTime, IsOf, SaysSeated}
 use Rattle.ivs_machine.specs.Vehicle.{vehicle_call}
 use Rattle.ivs_machine.specs.VehicleKept as vehicle
 use Rattle.trace_model.specs.declared.entry.Entry.{Entry}
-use Rattle.trace_model.specs.History.{sets_of}
-use Rattle.trace_model.specs.Safety.{is_leg, Leg, first_leg, leg_at, AtEach, IsShownFirst, AgreedFrom, MustOpen, IsBounded}
 use Rattle.channel_sim.specs.World.{World, Step, call_of}
 use Rattle.channel_sim.specs.Fit.{seats_of, FramesFit, IsCall}
-use Rattle.trace_fit.specs.Links.{CarriesMade, ConfirmsShown, CallLinks}
-use Rattle.trace_fit.specs.Order.{IsDrawn, Rises, ComesBehind, OrderedFrom}
 use Rattle.channel_sim.specs.Tidy.{AreAbove, numbers_of, HasLeg}
 use Rattle.trace_fit.specs.inner.FitAt.{Clocks, FitAt}
 

@@ -16,7 +16,7 @@ use super::seat::{Seat, quiet_ticks};
 use crate::kept::KeptFrame;
 use crate::quiet::{due_at, pass_known, rest_by};
 use crate::sends::Sends;
-use link_frames::{End, Frame, Items, Steps, Why};
+use link_frames::{End, Frame, Items, Steps, Why, no_items};
 use psap_machine::PointEvent;
 use std::alloc::{AllocError, Global};
 use std::sync::ledger::Ledger;
@@ -111,7 +111,7 @@ pub(super) fn hear_call(call: &mut Call, event: &PointEvent<'_>, items: &mut Ite
             true
         }
         None => {
-            items.clear();
+            no_items(items);
             false
         }
     }
@@ -172,15 +172,15 @@ pub(crate) fn act_at<L: Ledger>(
 {
     let lag = tick.saturating_sub(call.passed);
     if lag < call.session.quiet() {
-        items.clear();
+        no_items(items);
         return false;
     }
     let Some(session) = &mut call.session.session else {
-        items.clear();
+        no_items(items);
         return false;
     };
     let Some(due) = due_at(session, lag) else {
-        items.clear();
+        no_items(items);
         return false;
     };
     session.pass_into(due, moments, items);

@@ -15,7 +15,7 @@ ghost use Rattle.channel_sim.specs.inner.Passes.{once_if};
 use super::call::{act_at, catch_up, hear_call};
 use super::seat::Seat;
 use super::{Call, Calls, find};
-use link_frames::{Items, Steps, Why};
+use link_frames::{Items, Steps, Why, no_items};
 use psap_machine::{PointEvent, Session};
 use std::sync::ledger::Ledger;
 
@@ -68,7 +68,7 @@ pub(crate) fn hear_session(
             hear_call(&mut calls.list[i], event, items)
         }
         None => {
-            items.clear();
+            no_items(items);
             false
         }
     }
@@ -98,7 +98,7 @@ pub(crate) fn act_session<L: Ledger>(
             act_at(&mut calls.list[i], tick, items, moments)
         }
         None => {
-            items.clear();
+            no_items(items);
             false
         }
     }

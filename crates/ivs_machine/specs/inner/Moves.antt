@@ -6,7 +6,6 @@ use Rattle.link_frames.specs.declared.note.Note.TheVariants as note
 use Rattle.redial.specs.SeriesRows as series
 use Rattle.redial.specs.declared.series.Next.{Next}
 use Rattle.redial.specs.declared.series.Next.TheVariants as next
-use Rattle.redial.specs.declared.series.Series.{Series}
 use Rattle.redial.specs.declared.series.Turn.{Turn}
 use Rattle.ivs_machine.specs.declared.vehicle.Ivs.{Ivs}
 use Rattle.ivs_machine.specs.declared.vehicle.Phase.TheVariants as phase

@@ -2,7 +2,9 @@
 ghost use Rattle.std.specs.Prelude.{◌≡◌, ◌≤◌};
 
 use super::{CallStage, Ivs, LEAST_OPENING, Phase};
-use link_frames::{Answer, End, FrameRef, Items, Note, Request, Why, fill};
+use link_frames::{
+    Answer, End, FrameRef, Items, Note, Request, Why, no_items, one_item, three_items, two_items,
+};
 
 impl Ivs {
     ghost use Rattle.std.specs.Prelude.{◌<◌, ◌||◌, IsTrue, ◌↔◌};
@@ -24,12 +26,12 @@ impl Ivs {
             call: self.call.number,
         };
         match self.phase {
-            Phase::InCall(CallStage::Talking) => fill(items, &[fault]),
+            Phase::InCall(CallStage::Talking) => one_item(items, &fault),
             Phase::InCall(_) => {
                 let opening = self.opens();
-                fill(items, &[fault, opening])
+                two_items(items, &fault, &opening)
             }
-            _ => fill(items, &[Note::Nothing]),
+            _ => one_item(items, &Note::Nothing),
         }
     }
 
@@ -41,12 +43,12 @@ impl Ivs {
             Phase::InCall(_) => {
                 let down = self.goes_down(Why::Hangup);
                 if self.is_settled() {
-                    fill(items, &[down, self.rests()])
+                    two_items(items, &down, &self.rests())
                 } else {
                     self.begins(&[down], items)
                 }
             }
-            _ => fill(items, &[Note::Nothing]),
+            _ => one_item(items, &Note::Nothing),
         }
     }
 
@@ -66,7 +68,7 @@ impl Ivs {
                 let down = self.goes_down(Why::Lost);
                 self.begins(&[down], items)
             }
-            _ => fill(items, &[Note::Nothing]),
+            _ => one_item(items, &Note::Nothing),
         }
     }
 
@@ -87,7 +89,7 @@ impl Ivs {
                 request,
                 answer: Answer::Clear,
             } => self.cleared(*request, items),
-            FrameRef::Init | FrameRef::Content { .. } => items.clear(),
+            FrameRef::Init | FrameRef::Content { .. } => no_items(items),
         }
     }
 
@@ -97,15 +99,15 @@ impl Ivs {
             (λ v. vehicle_row v (rows.Arrives (frame.Start request))) }
     {
         if request.number() <= self.call.greatest_obeyed {
-            return items.clear();
+            return no_items(items);
         }
         match self.phase {
             Phase::InCall(CallStage::Talking) => self.asked_while_open(request, items),
             Phase::InCall(_) => {
                 let sent = self.takes(request);
-                fill(items, &[sent])
+                one_item(items, &sent)
             }
-            _ => items.clear(),
+            _ => no_items(items),
         }
     }
 
@@ -115,14 +117,14 @@ impl Ivs {
             (λ v. vehicle_row v (rows.Arrives (frame.Nack request))) }
     {
         let Phase::InCall(stage) = self.phase else {
-            return items.clear();
+            return no_items(items);
         };
         match stage {
             CallStage::Sending(sent) if sent.number() == request.number() => {
                 let again = self.sends_again(request);
-                fill(items, &[again])
+                one_item(items, &again)
             }
-            _ => items.clear(),
+            _ => no_items(items),
         }
     }
 
@@ -132,15 +134,15 @@ impl Ivs {
             (λ v. vehicle_row v (rows.Arrives (frame.Ack request))) }
     {
         let Phase::InCall(stage) = self.phase else {
-            return items.clear();
+            return no_items(items);
         };
         match stage {
             CallStage::Sending(current) if current.number() == request.number() => {
                 let acked = self.counts_as(request);
                 self.enters(CallStage::Confirming(request));
-                fill(items, &[acked])
+                one_item(items, &acked)
             }
-            _ => items.clear(),
+            _ => no_items(items),
         }
     }
 
@@ -150,19 +152,19 @@ impl Ivs {
             (λ v. vehicle_row v (rows.Arrives (frame.App request answer.Positive))) }
     {
         let Phase::InCall(stage) = self.phase else {
-            return items.clear();
+            return no_items(items);
         };
         match stage {
             CallStage::Sending(sent) if sent.number() == request.number() => {
                 let acked = self.counts_as(request);
                 let opening = self.opens();
-                fill(items, &[acked, opening])
+                two_items(items, &acked, &opening)
             }
             CallStage::Confirming(sent) if sent.number() == request.number() => {
                 let opening = self.opens();
-                fill(items, &[opening])
+                one_item(items, &opening)
             }
-            _ => items.clear(),
+            _ => no_items(items),
         }
     }
 
@@ -172,19 +174,19 @@ impl Ivs {
             (λ v. vehicle_row v (rows.Arrives (frame.App request answer.Clear))) }
     {
         let Phase::InCall(stage) = self.phase else {
-            return items.clear();
+            return no_items(items);
         };
         match stage {
             CallStage::Sending(sent) if sent.number() == request.number() => {
                 let acked = self.counts_as(request);
                 let down = self.goes_down(Why::Release);
-                fill(items, &[acked, down, self.rests()])
+                three_items(items, &acked, &down, &self.rests())
             }
             CallStage::Confirming(sent) if sent.number() == request.number() => {
                 self.is_released(items)
             }
             CallStage::Talking if self.call.counted.has(request) => self.is_released(items),
-            _ => items.clear(),
+            _ => no_items(items),
         }
     }
 
@@ -198,9 +200,9 @@ impl Ivs {
         if self.is_long_open() {
             self.call.voice.mute();
             let sent = self.takes(request);
-            fill(items, &[self.voices(false), sent])
+            two_items(items, &self.voices(false), &sent)
         } else {
-            items.clear()
+            no_items(items)
         }
     }
 

@@ -5,7 +5,7 @@ ghost use Rattle.link_frames.specs.declared.note.Note.TheVariants as note;
 
 use super::{Call, CallStage, Ivs, Phase};
 use callback::Rest;
-use link_frames::{End, Frame, Items, Note, Request, Timer, Why, fill};
+use link_frames::{End, Frame, Items, Note, Request, Timer, Why, two_items};
 use msd_fit::{Cause, make};
 
 impl Ivs {
@@ -87,7 +87,7 @@ impl Ivs {
         }
         let ended = self.ends(timer);
         let opening = self.opens();
-        fill(items, &[ended, opening])
+        two_items(items, &ended, &opening)
     }
 
     /// Obeys a request: its set is made once, and sent.
@@ -159,7 +159,7 @@ impl Ivs {
         ensures new { self.new ≡ record self.old { phase = Phase.Standby; standby = 0 } }
     {
         let down = self.goes_down(Why::Release);
-        fill(items, &[down, self.rests()])
+        two_items(items, &down, &self.rests())
     }
 
     // The items of a call.

@@ -4,7 +4,7 @@ ghost use Rattle.link_frames.specs.declared.note.Note.TheVariants as note;
 
 use super::{CallStage, Ivs, Left, MOST_MUTED, Phase};
 use audio_switch::Switch;
-use link_frames::{End, Frame, Items, Note, Requests, Why, fill};
+use link_frames::{End, Frame, Items, Note, Requests, Why, one_item, three_items, two_items};
 use msd_fit::Cause;
 
 impl Ivs {
@@ -35,7 +35,7 @@ impl Ivs {
     {
         match self.phase {
             Phase::Idle | Phase::Standby | Phase::Arming(_) => self.begins_for(Cause::Auto, items),
-            _ => fill(items, &[Note::Nothing]),
+            _ => one_item(items, &Note::Nothing),
         }
     }
 
@@ -47,7 +47,7 @@ impl Ivs {
         match self.phase {
             Phase::Idle => self.arms(Left::Idle, items),
             Phase::Standby => self.arms(Left::Standby, items),
-            _ => fill(items, &[Note::Nothing]),
+            _ => one_item(items, &Note::Nothing),
         }
     }
 
@@ -58,7 +58,7 @@ impl Ivs {
     {
         match self.phase {
             Phase::Idle | Phase::Standby => self.begins_for(Cause::Test, items),
-            _ => fill(items, &[Note::Nothing]),
+            _ => one_item(items, &Note::Nothing),
         }
     }
 
@@ -79,7 +79,7 @@ impl Ivs {
     {
         self.phase = Phase::Arming(before);
         self.in_phase = 0;
-        fill(items, &[Note::Arming])
+        one_item(items, &Note::Arming)
     }
 
     /// A manual trigger is taken back.
@@ -89,18 +89,18 @@ impl Ivs {
         match self.phase {
             Phase::Arming(Left::Idle) => {
                 self.phase = Phase::Idle;
-                fill(items, &[Note::Cancelled])
+                one_item(items, &Note::Cancelled)
             }
             Phase::Arming(Left::Standby) => {
                 if self.standby.due().is_some() {
                     self.phase = Phase::Standby;
-                    fill(items, &[Note::Cancelled])
+                    one_item(items, &Note::Cancelled)
                 } else {
                     self.phase = Phase::Idle;
-                    fill(items, &[Note::Cancelled, Note::Idle])
+                    two_items(items, &Note::Cancelled, &Note::Idle)
                 }
             }
-            _ => fill(items, &[Note::Nothing]),
+            _ => one_item(items, &Note::Nothing),
         }
     }
 
@@ -109,7 +109,7 @@ impl Ivs {
         ensures { Does IvsStandsFor IvsIs self.old self.new items.new.items (λ v. vehicle_row v (rows.Net false)) }
     {
         if !self.network {
-            return fill(items, &[Note::Nothing]);
+            return one_item(items, &Note::Nothing);
         }
         self.network = false;
         match self.phase {
@@ -118,7 +118,7 @@ impl Ivs {
                 let down = self.goes_down(Why::Lost);
                 self.begins(&[Note::Net(false), down], items)
             }
-            Phase::Idle | Phase::Standby | Phase::Arming(_) => fill(items, &[Note::Net(false)]),
+            Phase::Idle | Phase::Standby | Phase::Arming(_) => one_item(items, &Note::Net(false)),
         }
     }
 
@@ -127,12 +127,12 @@ impl Ivs {
         ensures { Does IvsStandsFor IvsIs self.old self.new items.new.items (λ v. vehicle_row v (rows.Net true)) }
     {
         if self.network {
-            return fill(items, &[Note::Nothing]);
+            return one_item(items, &Note::Nothing);
         }
         self.network = true;
         match self.phase {
             Phase::InSeries => self.tells(true, items),
-            _ => fill(items, &[Note::Net(true)]),
+            _ => one_item(items, &Note::Net(true)),
         }
     }
 
@@ -148,12 +148,14 @@ impl Ivs {
                     Switch::muted(MOST_MUTED),
                     false,
                 );
-                fill(
+                three_items(
                     items,
-                    &[self.up(), self.voices(false), self.sends(Frame::Init)],
+                    &self.up(),
+                    &self.voices(false),
+                    &self.sends(Frame::Init),
                 )
             }
-            _ => fill(items, &[Note::Nothing]),
+            _ => one_item(items, &Note::Nothing),
         }
     }
 
@@ -164,9 +166,9 @@ impl Ivs {
         match self.phase {
             Phase::Standby if self.network => {
                 self.enters_call(call, CallStage::Talking, Switch::opened(MOST_MUTED), true);
-                fill(items, &[self.up(), self.voices(true)])
+                two_items(items, &self.up(), &self.voices(true))
             }
-            _ => fill(items, &[Note::Nothing]),
+            _ => one_item(items, &Note::Nothing),
         }
     }
 
@@ -206,9 +208,9 @@ impl Ivs {
         match self.phase {
             Phase::Standby if self.standby.may_sleep() => {
                 self.phase = Phase::Idle;
-                fill(items, &[Note::Idle])
+                one_item(items, &Note::Idle)
             }
-            _ => fill(items, &[Note::Nothing]),
+            _ => one_item(items, &Note::Nothing),
         }
     }
 
@@ -218,8 +220,8 @@ impl Ivs {
     {
         let restart = Note::Restart(End::Vehicle);
         match self.phase {
-            Phase::InCall(_) => fill(items, &[self.goes_down(Why::Lost), restart]),
-            _ => fill(items, &[restart]),
+            Phase::InCall(_) => two_items(items, &self.goes_down(Why::Lost), &restart),
+            _ => one_item(items, &restart),
         }
         self.forgets()
     }

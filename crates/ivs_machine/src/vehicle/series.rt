@@ -3,7 +3,7 @@ ghost use Rattle.std.specs.Prelude.{◌≡◌, ◌≤◌};
 
 use super::moves::ended;
 use super::{Ivs, Phase};
-use link_frames::{DialAttempt, Items, Note, fill};
+use link_frames::{DialAttempt, Items, Note, fill, no_items, one_item};
 use redial::{Next, Redial, Turn};
 
 impl Ivs {
@@ -67,7 +67,7 @@ impl Ivs {
     {
         let under_way = self.redial.under_way();
         match self.redial.net(up) {
-            None => fill(items, &[Note::Net(up)]),
+            None => one_item(items, &Note::Net(up)),
             Some(next) => self.moves(&[Note::Net(up)], under_way, next, items),
         }
     }
@@ -82,7 +82,7 @@ impl Ivs {
                 let next = self.redial.failed();
                 self.moves(&[], under_way, next, items)
             }
-            _ => fill(items, &[Note::Nothing]),
+            _ => one_item(items, &Note::Nothing),
         }
     }
 
@@ -92,7 +92,7 @@ impl Ivs {
         ensures { Does (IvsMayPass n) IvsIs self.old self.new items.new.items (λ v. acts (aged n v)) }
     {
         if self.redial.over() {
-            return items.clear();
+            return no_items(items);
         }
         let under_way = self.redial.under_way();
         let turn = self.redial.pass(n.min(self.redial.due()));
@@ -105,7 +105,7 @@ impl Ivs {
         ensures turned { self.new ≡ turned turn self.old }
     {
         let Some(Turn { ended: timer, next }) = turn else {
-            return items.clear();
+            return no_items(items);
         };
         match timer {
             Some(timer) => self.moves(&[ended(timer)], under_way, next, items),

@@ -7,7 +7,9 @@ use super::{
     CANCEL_PERIOD, CallStage, INITIATES_EVERY, INITIATION, Ivs, LONGEST_AWAITING, LONGEST_CALL,
     LONGEST_CONFIRMING, LONGEST_SENDING, Left, MOST_MUTED, Phase, SENDS_EVERY,
 };
-use link_frames::{Frame, Items, Note, Request, Timer, Why, fill};
+use link_frames::{
+    Frame, Items, Note, Request, Timer, Why, no_items, one_item, three_items, two_items,
+};
 use msd_fit::Cause;
 
 impl Ivs {
@@ -75,7 +77,7 @@ impl Ivs {
         ensures { Does (IvsMayPass n) IvsIs self.old self.new items.new.items (λ v. acts (aged n v)) }
     {
         match self.phase {
-            Phase::Idle => items.clear(),
+            Phase::Idle => no_items(items),
             Phase::Standby => self.standby_passes(n, items),
             Phase::Arming(before) => self.arming_passes(before, n, items),
             Phase::InSeries => self.series_passes(n, items),
@@ -90,9 +92,9 @@ impl Ivs {
     {
         if self.standby.pass(n) {
             self.phase = Phase::Idle;
-            fill(items, &[ended(Timer::T10), Note::Idle])
+            two_items(items, &ended(Timer::T10), &Note::Idle)
         } else {
-            items.clear()
+            no_items(items)
         }
     }
 
@@ -110,7 +112,7 @@ impl Ivs {
             self.sets_made = 0;
             self.begins(&[ended(Timer::T1)], items)
         } else {
-            items.clear()
+            no_items(items)
         }
     }
 
@@ -139,7 +141,7 @@ impl Ivs {
         ensures { Does IvsIsDue IvsIs self.old self.new items.new.items acts }
     {
         if self.is_quiet() {
-            items.clear();
+            no_items(items);
         } else {
             self.acts_now(stage, items);
         }
@@ -181,7 +183,7 @@ impl Ivs {
         if self.call.ticks >= LONGEST_CALL {
             let ended = self.ends(Timer::T2);
             let down = self.goes_down(Why::Release);
-            return fill(items, &[ended, down, self.rests()]);
+            return three_items(items, &ended, &down, &self.rests());
         }
         if self.call.voice.muted_for() >= MOST_MUTED {
             return self.times_out(Timer::Sum, true, items);
@@ -195,7 +197,7 @@ impl Ivs {
             CallStage::Confirming(_) if self.in_phase >= LONGEST_CONFIRMING => {
                 self.times_out(Timer::T6, false, items)
             }
-            CallStage::Awaiting | CallStage::Confirming(_) | CallStage::Talking => items.clear(),
+            CallStage::Awaiting | CallStage::Confirming(_) | CallStage::Talking => no_items(items),
         }
     }
 
@@ -208,11 +210,11 @@ impl Ivs {
     {
         if self.in_phase >= INITIATION {
             self.enters(CallStage::Awaiting);
-            fill(items, &[self.ends(Timer::T3)])
+            one_item(items, &self.ends(Timer::T3))
         } else if self.in_phase.is_multiple_of(INITIATES_EVERY) {
-            fill(items, &[self.sends(Frame::Init)])
+            one_item(items, &self.sends(Frame::Init))
         } else {
-            items.clear()
+            no_items(items)
         }
     }
 
@@ -227,9 +229,9 @@ impl Ivs {
             self.times_out(Timer::T7, true, items)
         } else if self.in_phase.is_multiple_of(SENDS_EVERY) {
             let again = self.sends_again(request);
-            fill(items, &[again])
+            one_item(items, &again)
         } else {
-            items.clear()
+            no_items(items)
         }
     }
 }

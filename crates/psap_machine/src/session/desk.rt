@@ -2,7 +2,7 @@
 ghost use Rattle.std.specs.Prelude.{◌≡◌, ◌↔◌, ◌≤◌, IsTrue};
 
 use super::{LEAST_OPENING, Phase, Session};
-use link_frames::{Answer, End, Frame, Items, Note, Request, Why, fill};
+use link_frames::{Answer, End, Frame, Items, Note, Request, Why, one_item, two_items};
 
 impl Session {
     ghost use Rattle.std.specs.Prelude.{[], ◌∷◌, if◌then◌else◌};
@@ -21,8 +21,8 @@ impl Session {
     {
         let phase = self.phase;
         match phase {
-            Phase::Asking(request) => fill(items, &[self.sends(Frame::Nack(request))]),
-            _ => fill(items, &[Note::Nothing]),
+            Phase::Asking(request) => one_item(items, &self.sends(Frame::Nack(request))),
+            _ => one_item(items, &Note::Nothing),
         }
     }
 
@@ -31,9 +31,9 @@ impl Session {
         ensures { Does SessionStandsFor SessionIs self.old self.new items.new.items (λ s. point_row s rows.Request) }
     {
         match self.phase {
-            Phase::Over => fill(items, &[Note::Nothing]),
+            Phase::Over => one_item(items, &Note::Nothing),
             Phase::Talking if self.is_long_open() => self.asks_again(items),
-            _ => fill(items, &[Note::Busy(self.call)]),
+            _ => one_item(items, &Note::Busy(self.call)),
         }
     }
 
@@ -42,9 +42,9 @@ impl Session {
         ensures { Does SessionStandsFor SessionIs self.old self.new items.new.items (λ s. point_row s rows.Clear) }
     {
         match self.phase {
-            Phase::Over => fill(items, &[Note::Nothing]),
+            Phase::Over => one_item(items, &Note::Nothing),
             Phase::Talking if self.is_long_open() => self.lets_go(items),
-            _ => fill(items, &[Note::Busy(self.call)]),
+            _ => one_item(items, &Note::Busy(self.call)),
         }
     }
 
@@ -67,9 +67,9 @@ impl Session {
                 self.voice.mute();
                 let muting = self.voices();
                 let start = self.asks(request);
-                fill(items, &[muting, start])
+                two_items(items, &muting, &start)
             }
-            None => fill(items, &[Note::Spent(self.call)]),
+            None => one_item(items, &Note::Spent(self.call)),
         }
     }
 
@@ -84,12 +84,13 @@ impl Session {
                 self.voice.mute();
                 self.enters(Phase::Clearing(request));
                 let answer = Answer::Clear;
-                fill(
+                two_items(
                     items,
-                    &[self.voices(), self.sends(Frame::App { request, answer })],
+                    &self.voices(),
+                    &self.sends(Frame::App { request, answer }),
                 )
             }
-            None => fill(items, &[Note::Unshown(self.call)]),
+            None => one_item(items, &Note::Unshown(self.call)),
         }
     }
 
@@ -102,11 +103,11 @@ impl Session {
             call: self.call,
         };
         match self.phase {
-            Phase::Over => fill(items, &[Note::Nothing]),
-            Phase::Talking => fill(items, &[fault]),
+            Phase::Over => one_item(items, &Note::Nothing),
+            Phase::Talking => one_item(items, &fault),
             Phase::Listening | Phase::Asking(_) | Phase::Telling(_) | Phase::Clearing(_) => {
                 let opening = self.opens();
-                fill(items, &[fault, opening])
+                two_items(items, &fault, &opening)
             }
         }
     }
@@ -117,7 +118,7 @@ impl Session {
             (λ s. point_row s (rows.Ended why)) }
     {
         if self.is_over() {
-            fill(items, &[Note::Nothing])
+            one_item(items, &Note::Nothing)
         } else {
             self.goes_down(why, items)
         }
@@ -129,13 +130,13 @@ impl Session {
         ensures new { self.new ≡ record self.old { phase = Phase.Over } }
     {
         self.phase = Phase::Over;
-        fill(
+        one_item(
             items,
-            &[Note::Down {
+            &Note::Down {
                 end: End::Point,
                 call: self.call,
                 why,
-            }],
+            },
         )
     }
 }

@@ -2,7 +2,10 @@
 ghost use Rattle.std.specs.Prelude.{◌≡◌, ◌↔◌, IsTrue};
 
 use super::{Phase, Session};
-use link_frames::{Answer, Frame, FrameRef, Items, Note, OCTETS, Request, fill};
+use link_frames::{
+    Answer, Frame, FrameRef, Items, Note, OCTETS, Request, no_items, one_item, three_items,
+    two_items,
+};
 
 impl Session {
     ghost use Rattle.std.specs.Prelude.{ℕ, ◌==◌, if◌then◌else◌};
@@ -27,7 +30,7 @@ impl Session {
                 octets,
             } => self.content(*request, octets, items),
             FrameRef::Start(_) | FrameRef::Nack(_) | FrameRef::Ack(_) | FrameRef::App { .. } =>
-                items.clear(),
+                no_items(items),
         }
     }
 
@@ -39,9 +42,9 @@ impl Session {
         match self.phase {
             Phase::Listening => {
                 let start = self.asks(Request::first());
-                fill(items, &[start])
+                one_item(items, &start)
             }
-            _ => items.clear(),
+            _ => no_items(items),
         }
     }
 
@@ -52,14 +55,14 @@ impl Session {
             (λ s. point_row s (rows.Arrives (frame.Content request attempt octets.now))) }
     {
         if self.is_over() {
-            items.clear()
+            no_items(items)
         } else if self.shown.has(request) {
-            items.clear();
+            no_items(items);
             items.push(self.sends(Frame::Ack(request)));
         } else if request.number() <= self.asked {
             self.shows(request, octets, items)
         } else {
-            items.clear()
+            no_items(items)
         }
     }
 
@@ -81,16 +84,14 @@ impl Session {
         if self.asks_for(request) {
             self.enters(Phase::Telling(request));
             let answer = Answer::Positive;
-            fill(
+            three_items(
                 items,
-                &[
-                    shown,
-                    acknowledgement,
-                    self.sends(Frame::App { request, answer }),
-                ],
+                &shown,
+                &acknowledgement,
+                &self.sends(Frame::App { request, answer }),
             )
         } else {
-            fill(items, &[shown, acknowledgement])
+            two_items(items, &shown, &acknowledgement)
         }
     }
 

@@ -2,7 +2,9 @@
 ghost use Rattle.std.specs.Prelude.{◌≡◌, ◌↔◌, ◌≤◌, ◌<◌, ◌+◌, None, IsTrue, IfSome};
 
 use super::{LONGEST_ASKING, LONGEST_LISTENING, Phase, REPEATS_EVERY, Session, TELLING};
-use link_frames::{Answer, End, Frame, Items, Note, Steps, Timer, Why, fill};
+use link_frames::{
+    Answer, End, Frame, Items, Note, Steps, Timer, Why, no_items, one_item, two_items,
+};
 use std::sync::ledger::Ledger;
 
 impl Session {
@@ -70,7 +72,7 @@ impl Session {
         ensures { Does SessionIsDue SessionIs self.old self.new items.new.items acts }
     {
         if self.is_quiet() {
-            items.clear();
+            no_items(items);
         } else {
             self.acts_now(items);
         }
@@ -97,7 +99,7 @@ impl Session {
     {
         let phase = self.phase;
         match phase {
-            Phase::Listening if self.in_phase < LONGEST_LISTENING => items.clear(),
+            Phase::Listening if self.in_phase < LONGEST_LISTENING => no_items(items),
             Phase::Listening => self.times_out(Timer::T4, items),
             Phase::Asking(request) if self.in_phase < LONGEST_ASKING => {
                 self.repeats(Frame::Start(request), items)
@@ -110,7 +112,7 @@ impl Session {
                 },
                 items,
             ),
-            Phase::Telling(_) => fill(items, &[self.opens()]),
+            Phase::Telling(_) => one_item(items, &self.opens()),
             Phase::Clearing(request) if self.in_phase < TELLING => self.repeats(
                 Frame::App {
                     request,
@@ -119,7 +121,7 @@ impl Session {
                 items,
             ),
             Phase::Clearing(_) => self.goes_down(Why::Release, items),
-            Phase::Talking | Phase::Over => items.clear(),
+            Phase::Talking | Phase::Over => no_items(items),
         }
     }
 
@@ -128,7 +130,7 @@ impl Session {
         ensures { items.new.items ≡ (if to_next 5 self.now.in_phase == 0
             then note.Send «end».Point self.now.call frame ∷ [] else []) }
     {
-        items.clear();
+        no_items(items);
         if self.in_phase.is_multiple_of(REPEATS_EVERY) {
             items.push(self.sends(frame));
         }
@@ -147,6 +149,6 @@ impl Session {
             timer,
         };
         let opening = self.opens();
-        fill(items, &[ended, opening])
+        two_items(items, &ended, &opening)
     }
 }

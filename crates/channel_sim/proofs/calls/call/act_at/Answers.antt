@@ -22,7 +22,7 @@ returns-then-lag-quiet-clause-did g c =
     let same = ap (λ (y : Call). y.passed) c.call.view_is in
     let low : c.args.tick - x.passed < c.quiet.result = omega (arith, same, c.saturating_sub-lag.ensures, c.if-lag-quiet.true) in
     let known : IsQuietFor c.quiet.result x.session = subst (λ (y : Call). IsQuietFor c.quiet.result y.session) c.call.view_is c.quiet.ensures in
-    subst (λ ns. CallDid floor c.args.tick false ns x k point.unit_row) (sym c.clear.ensures)
+    subst (λ ns. CallDid floor c.args.tick false ns x k point.unit_row) (sym c.no_items.ensures)
     (quiet_did floor before c.args.tick c.quiet.result x k h next known low)
 
 pub returns-then-over-clause-did : goal.returns-then-over-clause-did

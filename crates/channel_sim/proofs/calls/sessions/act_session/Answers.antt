@@ -14,7 +14,7 @@ returns-in-None-clause-did g c =
     let xs = c.calls.inside.list.items in
     let place = found_at floor before c.args.number c.deref.result.now xs ks _ c.deref.ensures.value
     c.in-None.ensures.place h above in
-    subst (λ ns. SessionDid floor after false ns xs c.args.number point.unit_row ks) (sym c.clear.ensures)
+    subst (λ ns. SessionDid floor after false ns xs c.args.number point.unit_row ks) (sym c.no_items.ensures)
     (lags_elsewhere floor before after 0 c.args.number point.unit_row xs ks h above place others)
     )
 

@@ -37,7 +37,7 @@ returns-in-None-clause-did c =
     let xs = c.calls.inside.list.items in
     let place = found_at floor clock c.args.number c.deref.result.now xs ks _ c.deref.ensures.value
     c.in-None.ensures.place h above in
-    subst (λ ns. SessionDid floor clock false ns xs c.args.number row ks) (sym c.clear.ensures)
+    subst (λ ns. SessionDid floor clock false ns xs c.args.number row ks) (sym c.no_items.ensures)
     (did_nowhere floor clock c.args.number row xs ks h place)
     )
 
@@ -67,7 +67,7 @@ returns-in-None-clause-ended c =
     let xs = c.calls.inside.list.items in
     let place = found_at floor clock c.args.number c.deref.result.now xs ks _ c.deref.ensures.value
     c.in-None.ensures.place h above in
-    subst (λ ns. SessionDid floor clock false ns xs c.args.number row ks) (sym c.clear.ensures)
+    subst (λ ns. SessionDid floor clock false ns xs c.args.number row ks) (sym c.no_items.ensures)
     (did_nowhere floor clock c.args.number row xs ks h place)
     )
 
