@@ -30,12 +30,12 @@ tasks: build
 	tools/transcripts --all $(PROGRAM) README.md
 
 test:
-	tools/timed rt ci
-	tools/own-checks $(PROGRAM)
+	.ci/run
 
 bench: build
 	bench/run.py $(PROGRAM)
 	bench/passes.py $(PROGRAM)
+	bench/cache.py $(PROGRAM)
 	bench/refuse.py $(PROGRAM)
 	bench/view.py $(PROGRAM) $(VIEW)
 	bench/live.py $(PROGRAM)
