@@ -91,7 +91,7 @@ impl Calls {
     pub(crate) fn settle(&mut self, tick: u64, flow: u32)
         ensures { self.new ≡ self.old }
     {
-        if flow > 0 {
+        if self.counts.lags() && flow > 0 {
             self.counts
                 .settle(&self.list, tick.saturating_sub(u64::from(flow)));
         }

@@ -23,7 +23,7 @@ use link_frames::Steps;
 use script_stage::{Halt, Stage};
 use std::alloc::Global;
 use std::sync::ledger::Ledger;
-use trace_text::{ScriptLine, TextOut, read_script};
+use trace_text::{ScriptLine, TextOut, read_event_line, read_script};
 
 /// Plays the script whose lines it takes.
 #[derive(Drop)]
@@ -91,6 +91,36 @@ pub fn run_script<I: Source, O: Sink, L: Ledger>(
 
 /// Plays a line that was read; an answer ends the run.
 fn play_line<O: Sink, L: Ledger>(
+    alloc: Global,
+    line: &Line<'_>,
+    stage: &mut Stage,
+    output: &mut O,
+    moments: &mut Steps<L>,
+) -> Option<Status>
+    requires few { calls_in stage.old < 4294967295 }
+    requires soon { ticks_in stage.old + 4294967295 < 2 ^ 64 }
+    requires stands { (said : Said) × (events : List Event) × StageStandsFor stage.old said events }
+    ensures plays { (said : Said) (events : List Event) → StageStandsFor stage.old said events →
+        Plays (placed_line said (script_line line.now.text)) line.now.number said events stage.old stage.new
+        (O.held output.old) (O.held output.new) (λ n. moments.new ≤ moments.old + n) result }
+    ensures unwritten { MatchOption result (O.faults output.new ≡ O.faults output.old)
+        (λ answer. WriteCause answer (O.faults output.old) (O.faults output.new)) }
+    ensures counted { O.faults output.old ≤ O.faults output.new }
+    ensures onward { Onward (O.way output.old) (O.way output.new) }
+{
+    match read_event_line(line) {
+        Some(Ok(event)) => {
+            let says = ScriptLine::Event(event);
+            obey(alloc, line.number(), stage, &says, output, moments)
+        }
+        Some(Err(bad)) => Some(refuse(Refused::Line(bad), output)),
+        None => play_fact(alloc, line, stage, output, moments),
+    }
+}
+
+/// The same for a line that tells a fact. Out of line: it has room for a set, and most lines tell events.
+#[inline(never)]
+fn play_fact<O: Sink, L: Ledger>(
     alloc: Global,
     line: &Line<'_>,
     stage: &mut Stage,

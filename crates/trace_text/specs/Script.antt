@@ -1,6 +1,7 @@
 -- The script of a text: its facts and events, up to the first line that is refused. This project's profile. Cited by
 -- the contract of `read_script` and by the reply of `ecall`.
 use Rattle.std.specs.Prelude.{ℕ, ◌+◌, Bool, true, false, List, [], ◌∷◌, ◌++◌, codes, Option, Some, None, Result, Ok, Err, if◌then◌else◌}
+use Rattle.std.specs.Option.{is_some}
 use Rattle.std.specs.Str.{bytes_eq}
 use Rattle.msd_fit.specs.declared.facts.Facts.{Facts}
 use Rattle.trace_text.specs.EventLines.{event_line}
@@ -23,6 +24,21 @@ fact_says (Err why) = Err why
 abbrev pub event_says : Result Event Reason → Result ScriptLine Reason
 event_says (Ok e) = Ok (line.Event e)
 event_says (Err why) = Err why
+
+abbrev pub event_answer : Result Event BadLine → Result ScriptLine BadLine
+event_answer (Ok e) = Ok (line.Event e)
+event_answer (Err bad) = Err bad
+
+-- an event line by its first word and the words behind it; nothing where the first word is that of a fact
+abbrev pub event_by_word : List ℕ → List (List ℕ) → Option (Result Event Reason)
+event_by_word first rest =
+    if is_some (own_fact first rest) then None
+    else if bytes_eq first (codes "set") then None
+    else Some (event_line first rest)
+
+abbrev pub event_by_words : List (List ℕ) → Option (Result Event Reason)
+event_by_words [] = None
+event_by_words (first ∷ rest) = event_by_word first rest
 
 -- a line that tells no fact which the vehicle knows of itself
 abbrev pub other_by_word : List ℕ → List (List ℕ) → Result ScriptLine Reason

@@ -11,7 +11,8 @@ use crate::numbers::{read_delay, read_positive};
 use line_input::{Reason, is_word, only_argument, split_word, three_arguments, two_arguments};
 use trace_model::{Event, Positive};
 
-/// An event line by its first word and what stands behind it.
+/// An event line by its first word and what stands behind it. Out of line, since lines are read in two ways.
+#[inline(never)]
 pub fn read_event(first: &[u8], rest: Option<&[u8]>) -> Result<Event, Reason>
     ensures { result ≡ event_line first.now (words_behind (option_copied rest.entry)) }
 {

@@ -2,7 +2,7 @@
 
 ghost use Rattle.std.specs.Prelude.{◌≡◌, false, ℕ, List, None};
 ghost use Rattle.std.specs.List.{list_all};
-ghost use Rattle.std.specs.Option.{option_copied};
+ghost use Rattle.std.specs.Option.{is_some, option_copied};
 ghost use Rattle.trace_text.specs.FactLines.{before1_line, before2_line, extra_line, format_line, fuel_line, heading_line, is_mark as is_mark_digit, kind_line, marks_of, own_fact, passengers_line, place_line, set_line, time_line, trusted_line, vehicle_fact, vin_line, vin_text, way_fact, way_text};
 ghost use Rattle.line_input.specs.Numbers.{positive_below};
 ghost use Rattle.line_input.specs.Arguments.{words_behind};
@@ -23,13 +23,13 @@ const WAY_LIMIT: u32 = 512;
 
 /// Whether the first word is that of a fact that the vehicle knows of itself.
 pub fn names_own_fact(first: &[u8]) -> bool
-    ensures { result ≡ false → (rest : List (List ℕ)) → own_fact first.now rest ≡ None }
+    ensures { (rest : List (List ℕ)) → result ≡ is_some (own_fact first.now rest) }
 {
     names_vehicle_fact(first) || names_way_fact(first)
 }
 
 fn names_vehicle_fact(first: &[u8]) -> bool
-    ensures { result ≡ false → (rest : List (List ℕ)) → vehicle_fact first.now rest ≡ None }
+    ensures { (rest : List (List ℕ)) → result ≡ is_some (vehicle_fact first.now rest) }
 {
     is_word(first, "vin")
         || is_word(first, "kind")
@@ -40,7 +40,7 @@ fn names_vehicle_fact(first: &[u8]) -> bool
 }
 
 fn names_way_fact(first: &[u8]) -> bool
-    ensures { result ≡ false → (rest : List (List ℕ)) → way_fact first.now rest ≡ None }
+    ensures { (rest : List (List ℕ)) → result ≡ is_some (way_fact first.now rest) }
 {
     is_word(first, "time")
         || is_word(first, "place")

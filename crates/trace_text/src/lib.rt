@@ -29,7 +29,7 @@ pub use line_input::{
     BadLine, Line, LineFault, Lines, Reason, only_word, push_number, push_word, read_u32,
 };
 pub use note_text::push_note_words;
-pub use script::{ScriptLine, read_script, read_text};
+pub use script::{ScriptLine, read_event_line, read_script, read_text};
 pub use text_out::TextOut;
 pub use trace_model::{
     Deaf, Delay, Entry, Event, Kept, LONGEST_DELAY, Listener, Positive, Tally, safe_traces,

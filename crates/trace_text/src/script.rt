@@ -1,9 +1,10 @@
 //! The lines of a script.
 
-ghost use Rattle.std.specs.Prelude.{◌≡◌};
-ghost use Rattle.std.specs.Option.{option_copied};
+ghost use Rattle.std.specs.Prelude.{◌≡◌, IfSome};
+ghost use Rattle.std.specs.Option.{option_copied, option_map};
 ghost use Rattle.line_input.specs.Lines.{line_answer};
-ghost use Rattle.trace_text.specs.Script.{fact_says, line_by_word, other_by_word, script_line};
+ghost use Rattle.line_input.specs.Words.{words};
+ghost use Rattle.trace_text.specs.Script.{event_answer, event_by_words, event_says, fact_says, line_by_word, other_by_word, script_line};
 ghost use Rattle.line_input.specs.Arguments.{words_behind};
 
 use crate::events::read_event;
@@ -27,10 +28,43 @@ pub fn read_script(line: &Line<'_>) -> Result<ScriptLine, BadLine>
 {
     match read_text(line.text()) {
         Ok(says) => Ok(says),
-        Err(reason) => Err(BadLine {
-            line: line.number(),
-            reason,
-        }),
+        Err(reason) => Err(refused(line, reason)),
+    }
+}
+
+/// A line that is refused.
+fn refused(line: &Line<'_>, reason: Reason) -> BadLine
+    ensures { result ≡ record { line = line.now.number; reason = reason } }
+{
+    BadLine {
+        line: line.number(),
+        reason,
+    }
+}
+
+/// The event that a line of a script tells, or why the line is refused; `None` where its first word is that of a fact,
+/// and `read_script` reads it. An event has at most 12 octets, and what a line says by `read_script` has room for a set.
+pub fn read_event_line(line: &Line<'_>) -> Option<Result<Event, BadLine>>
+    ensures event { result ≡ option_map (line_answer line.now) (event_by_words (words line.now.text)) }
+    ensures says { IfSome result (λ read. line_answer line.now (script_line line.now.text) ≡ event_answer read) }
+{
+    match read_event_text(line.text())? {
+        Ok(event) => Some(Ok(event)),
+        Err(reason) => Some(Err(refused(line, reason))),
+    }
+}
+
+/// The event that the text of a script's line tells, or why it is refused; `None` where its first word is that of a
+/// fact.
+fn read_event_text(text: &[u8]) -> Option<Result<Event, Reason>>
+    ensures event { result ≡ event_by_words (words text.now) }
+    ensures says { IfSome result (λ read. script_line text.now ≡ event_says read) }
+{
+    let (first, rest) = split_word(text);
+    if names_own_fact(first) || is_word(first, "set") {
+        None
+    } else {
+        Some(read_event(first, rest))
     }
 }
 

@@ -1,6 +1,6 @@
 //! How many of the first calls have nothing due, and in how many of these no flow has a frame left to hand over.
 
-ghost use Rattle.std.specs.Prelude.{◌≡◌, ◌≤◌, ℕ, List, take};
+ghost use Rattle.std.specs.Prelude.{◌≡◌, ◌↔◌, ◌≤◌, ◌<◌, ℕ, IsTrue, List, take};
 ghost use Rattle.std.specs.List.{AllByRecursion};
 ghost use Rattle.channel_sim.specs.inner.Asleep.{CountsStand, IsFront, IsWoken};
 ghost use Rattle.channel_sim.specs.inner.Past.{IsPast};
@@ -27,6 +27,13 @@ impl Counts {
             still: 0,
             quiet: 0,
         }
+    }
+
+    /// Whether in some of the first calls a flow may have a frame left to hand over, though nothing is due.
+    pub(super) fn lags(&self) -> bool
+        ensures { IsTrue result ↔ (self.now.still < self.now.asleep) }
+    {
+        self.still < self.asleep
     }
 
     /// The call at this place may have something due: it and those behind it are not counted any more.

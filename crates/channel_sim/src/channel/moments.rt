@@ -45,7 +45,7 @@ fn hands_at(sends: &Sends, near: usize, flow: u32, now: u64, end: u64) -> u64
         return end;
     }
     let delay = u64::from(flow);
-    let sent = now.saturating_add(1).saturating_sub(delay);
+    let sent = now.saturating_sub(delay - 1);
     if sends.newest() < sent {
         return end;
     }
@@ -116,7 +116,7 @@ impl Channel {
         if flow == 0 {
             return self.calls.awake();
         }
-        let sent = self.tick.saturating_add(1).saturating_sub(u64::from(flow));
+        let sent = self.tick.saturating_sub(u64::from(flow) - 1);
         self.calls.from_tick(sent)
     }
 
