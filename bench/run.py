@@ -33,7 +33,7 @@ FRAME_OCTETS = 143
 ENCODINGS = 50_000
 WRITES = 50_000
 # the kinds of scripts.py, each with how many it is measured with, and then with twice as many
-SCRIPTS = {"mixed": 2_000, "calls": 20_000, "flows": 1_000, "one": 200_000, "legs": 5_000, "apart": 1_000, "crowd": 1_000, "callbacks": 150_000}
+SCRIPTS = {"mixed": 2_000, "calls": 20_000, "flows": 1_000, "one": 200_000, "old": 100_000, "asks": 5_000, "legs": 5_000, "apart": 1_000, "crowd": 1_000, "callbacks": 150_000}
 # the kinds of those with a relay desk, each with how many it is measured with, and then with twice as many
 DESKS = {"desk": (50_000, 100_000), "shown": (100_000,)}
 # the other commands, each with what makes its input (none: the trace of a script, or nothing), a kind of it, and how much of it is
@@ -56,7 +56,7 @@ LIBRARY_DIGITS = [
 ]
 # the commands that read or write many of these digits, as in OTHERS
 DIGITS = [
-    *((["run"], "scripts.py", [kind], SCRIPTS[kind]) for kind in ("mixed", "calls", "flows", "one")),
+    *((["run"], "scripts.py", [kind], SCRIPTS[kind]) for kind in ("mixed", "calls", "flows", "one", "old", "asks", "callbacks")),
     *OTHERS[:3],
     (["frames"], "stream.py", [], 20_000),
 ]
@@ -248,15 +248,19 @@ def same_text(commands, path):
 def plays(program, plain, folder):
     """The processor time of `run` over scripts of all kinds, beside the plain program's, and that of twice as much."""
     commands = [[program, "run"]] + ([[plain, "run"]] if plain else [])
-    print("\nScripts: processor time of `ecall run`, of the plain program, and of twice as much")
-    print(f"{'kind':>10} {'count':>8} {'trace':>10} {'ecall':>8} {'plain':>8} {'ratio':>6} {'doubled':>8} {'ratio':>6}")
+    print("\nScripts: processor time of `ecall run` and of the plain program; then of twice as much, with what it is of both times before")
+    print(f"{'kind':>10} {'count':>8} {'trace':>10} {'ecall':>8} {'plain':>8} {'ratio':>6} {'doubled':>8} {'ratio':>6} {'plain':>6}")
     for kind, count in SCRIPTS.items():
         path, double = write_script(folder, kind, count), write_script(folder, kind, 2 * count)
         size = same_text(commands, path)
-        times = least(commands, path)
-        [twice] = least(commands[:1], double)
+        times, twice = least(commands, path), least(commands, double)
         beside_plain = f"{times[1]:8.3f} {times[0] / times[1]:6.2f}" if plain else f"{'-':>8} {'-':>6}"
-        print(f"{kind:>10} {count:>8} {size:>10} {times[0]:8.3f} {beside_plain} {twice:8.3f} {twice / times[0]:6.2f}")
+        print(f"{kind:>10} {count:>8} {size:>10} {times[0]:8.3f} {beside_plain} {growth(times, twice)}")
+
+
+def growth(times, twice):
+    """The time of `ecall` over twice as much, how many times as long that takes, and how many times as long the plain program does."""
+    return f"{twice[0]:8.3f} " + " ".join(f"{more / once:6.2f}" for once, more in zip(times, twice))
 
 
 def inputs(program, folder, maker, kind, count):
@@ -272,8 +276,8 @@ def inputs(program, folder, maker, kind, count):
 
 def others(program, plain, folder):
     """The processor time of the other commands, beside the plain program's, and that of twice as much."""
-    print("\nOther commands: processor time of `ecall`, of the plain program, and of twice as much")
-    print(f"{'command':>10} {'input':>8} {'count':>8} {'ecall':>8} {'plain':>8} {'ratio':>6} {'doubled':>8} {'ratio':>6}")
+    print("\nOther commands: processor time of `ecall` and of the plain program; then of twice as much, with what it is of both times before")
+    print(f"{'command':>10} {'input':>8} {'count':>8} {'ecall':>8} {'plain':>8} {'ratio':>6} {'doubled':>8} {'ratio':>6} {'plain':>6}")
     for words, maker, kind, count in OTHERS:
         commands = [[program, *words]] + ([[plain, *words]] if plain else [])
         path = inputs(program, folder, maker, kind, count)
@@ -283,8 +287,7 @@ def others(program, plain, folder):
         beside_plain = f"{times[1]:8.3f} {times[0] / times[1]:6.2f}" if plain else f"{'-':>8} {'-':>6}"
         doubled = ""
         if count:
-            [twice] = least(commands[:1], inputs(program, folder, maker, kind, 2 * count))
-            doubled = f"{twice:8.3f} {twice / times[0]:6.2f}"
+            doubled = growth(times, least(commands, inputs(program, folder, maker, kind, 2 * count)))
         print(f"{what} {beside_plain} {doubled}")
     [played] = least([[program, "run"]], write_script(folder, "mixed", 2_000))
     print(f"  (`make 0` writes the script of kind mixed, which `trial 0` plays; `run` takes {played:.3f} s for it)")

@@ -5,6 +5,8 @@
     calls     COUNT short calls: a trigger, an answer, and both legs lost
     flows     COUNT calls with flows of 1000 ticks both ways, under long ticks
     one       one call in which COUNT frames are handed over
+    old       one call in which COUNT frames are handed over that were sent long before, over and over
+    asks      COUNT calls whose sessions ask for a set at the same time, without an answer
     legs      COUNT calls whose point legs stay up, then long ticks
     apart     the same, with six seconds between the calls
     crowd     the same, with flows on: each call has its set shown and acknowledged before the vehicle's leg is lost
@@ -56,6 +58,19 @@ def one(count):
         yield "deliver up 1 2\ndeliver down 1 2\n"
 
 
+def old(count):
+    yield "flow up 3\nflow down 3\ntrigger auto\nanswer\ntick 60\n"
+    for k in range(count // 2):
+        yield f"deliver up 1 {1 + k % 20}\ndeliver down 1 {1 + k % 6}\n"
+
+
+def asks(count):
+    yield "flow up 1\ntrigger auto\n"
+    for k in range(1, count + 1):
+        yield f"answer\ndeliver up {k} 1\ndrop vehicle\n"
+    yield "tick 250\n"
+
+
 def legs(count, between=""):
     yield "trigger auto\n"
     for _ in range(count):
@@ -103,7 +118,7 @@ def shown(count):
     yield "tick 4000000\n"
 
 
-KINDS = {kind.__name__: kind for kind in (mixed, calls, flows, one, legs, apart, crowd, callbacks, desk, shown)}
+KINDS = {kind.__name__: kind for kind in (mixed, calls, flows, one, old, asks, legs, apart, crowd, callbacks, desk, shown)}
 
 
 def main(kind, count):
