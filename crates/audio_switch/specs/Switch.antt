@@ -33,6 +33,11 @@ abbrev pub aged : ℕ → Stretch → Stretch
 aged n (Muted ticks) = Muted (ticks + n)
 aged n (Open ticks) = Open (min (ticks + n) (2 ^ 32 - 1))
 
+-- the same where a muted voice has a limit, which it doesn't pass
+abbrev pub aged_within : ℕ → (limit : ℕ) → Stretch → Stretch
+aged_within n limit (Muted ticks) = Muted (ticks + min n (limit - ticks))
+aged_within n limit (Open ticks) = aged n (Open ticks)
+
 -- the stretch once the voice was opened: one that is open already goes on
 abbrev pub unmuted : Stretch → Stretch
 unmuted (Muted ticks) = Open 0

@@ -39,7 +39,7 @@ impl Model for Switch {
 }
 
 impl Switch {
-    ghost use Rattle.audio_switch.specs.Switch.{Switching, is_open, muted_ticks, open_ticks, room_in, aged, unmuted};
+    ghost use Rattle.audio_switch.specs.Switch.{Switching, is_open, muted_ticks, open_ticks, room_in, aged, aged_within, unmuted};
 
     /// A voice that is muted from now on, for at most `limit` ticks.
     pub fn muted(limit: u32) -> Switch
@@ -132,6 +132,17 @@ impl Switch {
         match &mut self.stretch {
             Stretch::Muted(ticks) => *ticks += n,
             Stretch::Open(ticks) => *ticks = ticks.saturating_add(n),
+        }
+    }
+
+    /// Lets `n` ticks pass, a muted voice at most as many of them as there is room for.
+    pub fn pass_within(&mut self, n: u32)
+        ensures { self.new ≡ record self.old { stretch = aged_within n self.old.limit self.old.stretch } }
+    {
+        let limit = self.limit;
+        match &mut self.stretch {
+            Stretch::Muted(ticks) => *ticks += n.min(limit - *ticks),
+            Stretch::Open(ticks) => *ticks = n.saturating_add(*ticks),
         }
     }
 }

@@ -81,6 +81,25 @@ pub(crate) fn rest_by<L: Ledger>(session: &mut Session, lag: u64, moments: &mut 
     ensures passes { lag < 2 ^ 32 → moments.new ≤ moments.old + 1 }
     ensures still { lag ≡ 0 → moments.new ≡ moments.old }
 {
+    if lag == 0 {
+        return;
+    }
+    if lag <= u64::from(u32::MAX) {
+        session.rest(lag as u32, moments);
+    } else {
+        rest_long(session, lag, moments);
+    }
+}
+
+/// The same for many ticks. Out of line: nearly always they are fewer than one pass takes.
+#[inline(never)]
+fn rest_long<L: Ledger>(session: &mut Session, lag: u64, moments: &mut Steps<L>)
+    requires { WaitsForNothing session.old }
+    ensures waits { WaitsForNothing session.new }
+    ensures lags { (s : Point) → SessionLags lag session.old s → SessionLags 0 session.new s }
+    ensures passes { lag < 2 ^ 32 → moments.new ≤ moments.old + 1 }
+    ensures still { lag ≡ 0 → moments.new ≡ moments.old }
+{
     let mut left = lag;
     while left > u64::from(u32::MAX) {
         session.rest(u32::MAX, moments);

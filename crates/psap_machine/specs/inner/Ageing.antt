@@ -1,8 +1,6 @@
 -- A session whose sums grow: what only the contracts of private functions of `Session` cite.
-use Rattle.std.specs.Prelude.{ℕ, min, ◌+◌, ◌-◌}
-use Rattle.audio_switch.specs.Switch.{Switching}
-use Rattle.audio_switch.specs.declared.switch.Stretch.{Stretch}
-use Rattle.audio_switch.specs.declared.switch.Stretch.TheVariants.{Muted, Open}
+use Rattle.std.specs.Prelude.{ℕ, min, ◌+◌}
+use Rattle.audio_switch.specs.Switch.{aged_within}
 use Rattle.psap_machine.specs.declared.session.Session.{Session}
 use Rattle.psap_machine.specs.declared.session.Phase as kept_phase
 use Rattle.psap_machine.specs.declared.session.Phase.TheVariants as phase
@@ -16,14 +14,10 @@ pub record SessionIsDue (session : Session) (s : Point) : Type 0 where
   pub kept : IsKeptBy 1 s
 
 -- each sum of a session that runs, n ticks later
-abbrev pub aged_voice : ℕ → Switching → Stretch → Switching
-aged_voice n voice (Muted ticks) = record voice { stretch = Muted (ticks + min n (voice.limit - ticks)) }
-aged_voice n voice (Open ticks) = record voice { stretch = Open (min (ticks + n) most_ticks) }
-
 abbrev pub aged_in : ℕ → Session → kept_phase.Phase → Session
 aged_in n session phase.Over = session
 aged_in n session _ =
     record session {
       in_phase = min (session.in_phase + n) most_ticks;
-      voice = aged_voice n session.voice session.voice.stretch;
+      voice = record (session.voice) { stretch = aged_within n session.voice.limit session.voice.stretch };
     }

@@ -41,8 +41,7 @@ impl Session {
     {
         if !self.is_over() {
             self.in_phase = self.in_phase.saturating_add(n);
-            let room = self.voice.room().unwrap_or(n);
-            self.voice.pass(n.min(room));
+            self.voice.pass_within(n);
         }
     }
 

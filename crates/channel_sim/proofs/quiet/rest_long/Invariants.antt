@@ -2,7 +2,7 @@ use Rattle.std.proofs.Common.{◌≡◌, ◌≤◌, ◌<◌, ◌^◌}
 use Rattle.psap_machine.specs.Point.{Point}
 use Rattle.psap_machine.specs.SessionStands.{WaitsForNothing}
 use Rattle.channel_sim.specs.Lag.{SessionLags}
-use Rattle.channel_sim.proofs.quiet.rest_by.Given as goal
+use Rattle.channel_sim.proofs.quiet.rest_long.Given as goal
 
 -- it lags by what is left, and was not passed yet where one pass is enough
 abbrev pub invariant-loop-left : goal.invariant-loop-left
