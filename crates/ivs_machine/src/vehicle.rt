@@ -10,7 +10,7 @@ mod ticks;
 use crate::event::VehicleEvent;
 use audio_switch::Switch;
 use callback::Rest;
-use link_frames::{Items, OCTETS, Request, Requests, Steps};
+use link_frames::{Items, OCTETS, Request, Requests, Steps, no_items};
 use msd_fit::{Cause, Facts};
 use redial::Redial;
 use std::sync::ledger::Ledger;
@@ -176,6 +176,7 @@ impl Ivs {
         ensures { Does IvsStandsFor IvsStandsFor self.old self.new items.new.items
             (λ v. vehicle_row v (heard event.now)) }
     {
+        no_items(items);
         match event {
             VehicleEvent::Trigger(cause) => self.trigger(*cause, items),
             VehicleEvent::Cancel => self.cancel(items),
@@ -221,6 +222,7 @@ impl Ivs {
         ensures moments { moments.new ≡ moments.old + 1 }
     {
         moments.tick();
+        no_items(items);
         self.elapse(n, items)
     }
 

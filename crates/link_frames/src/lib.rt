@@ -16,9 +16,7 @@ mod writing;
 pub use fault::{Fault, FrameFault};
 pub use frame::{Answer, End, Frame, FrameRef, OCTETS};
 pub use laws::{frame_laws, limits};
-pub use note::{
-    Items, MOST_ITEMS, Note, Timer, Why, fill, items_of, no_items, one_item, three_items, two_items,
-};
+pub use note::{Items, MOST_ITEMS, Note, Timer, Why, fill, items_of, no_items, put};
 pub use number::{DialAttempt, Request};
 pub use reader::Reader;
 pub use requests::Requests;

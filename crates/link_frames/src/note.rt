@@ -5,7 +5,6 @@ ghost use Rattle.std.specs.Prelude.{◌≡◌, ◌≤◌, ◌<◌, ◌++◌, [],
 use crate::frame::{End, Frame, OCTETS};
 use crate::number::{DialAttempt, Request};
 use arrayvec::ArrayVec;
-use std::slice;
 
 /// Why a leg of a call went down.
 #[derive(Clone, Copy, Debug, PartialEq, Eq)]
@@ -121,62 +120,44 @@ pub fn fill(items: &mut Items, notes: &[Note])
     requires { length notes.now ≤ MOST_ITEMS }
     ensures { items.new.items ≡ notes.now }
 {
-    empty(items);
+    no_items(items);
     items.try_extend_from_slice(notes).unwrap()
-}
-
-/// Makes `items` none, in place of what stood there. This one and those below stay out of line: an end gives items at
-/// many places, and each would have the copies of its own.
-#[inline(never)]
-pub fn no_items(items: &mut Items)
-    ensures { items.new.items ≡ [] }
-{
-    empty(items);
-}
-
-/// Makes `items` this one, in place of what stood there.
-#[inline(never)]
-pub fn one_item(items: &mut Items, item: &Note)
-    ensures { items.new.items ≡ item.now ∷ [] }
-{
-    empty(items);
-    put(items, item);
-}
-
-/// Makes `items` these two, in place of what stood there.
-#[inline(never)]
-pub fn two_items(items: &mut Items, first: &Note, second: &Note)
-    ensures { items.new.items ≡ first.now ∷ second.now ∷ [] }
-{
-    empty(items);
-    put(items, first);
-    put(items, second);
-}
-
-/// Makes `items` these three, in place of what stood there.
-#[inline(never)]
-pub fn three_items(items: &mut Items, first: &Note, second: &Note, third: &Note)
-    ensures { items.new.items ≡ first.now ∷ second.now ∷ third.now ∷ [] }
-{
-    empty(items);
-    put(items, first);
-    put(items, second);
-    put(items, third);
 }
 
 /// Takes all items out.
 #[inline]
-fn empty(items: &mut Items)
+pub fn no_items(items: &mut Items)
+    ensures { items.new.items ≡ [] }
+{
+    if !items.is_empty() {
+        drop_items(items);
+    }
+}
+
+/// The same. Out of line: mostly there are none.
+#[inline(never)]
+fn drop_items(items: &mut Items)
     ensures { items.new.items ≡ [] }
 {
     items.clear();
 }
 
-/// Puts an item behind these, which have room for it.
+/// Puts an item behind these, which have room for it. It is copied once, where it is put: a caller that makes the item in
+/// its argument has that copy alone. A frame moves by a local of its own, without which the prover does not cover the move.
 #[inline]
-fn put(items: &mut Items, item: &Note)
+pub fn put(items: &mut Items, item: &Note)
     requires { length items.old.items < MOST_ITEMS }
     ensures { items.new.items ≡ items.old.items ++ item.now ∷ [] }
 {
-    items.try_extend_from_slice(slice::from_ref(item)).unwrap();
+    match item {
+        Note::Send { end, call, frame } => {
+            let frame = *frame;
+            items.push(Note::Send {
+                end: *end,
+                call: *call,
+                frame,
+            });
+        }
+        _ => items.push(*item),
+    }
 }

@@ -8,7 +8,7 @@ mod ticks;
 
 use crate::event::PointEvent;
 use audio_switch::Switch;
-use link_frames::{End, Items, Note, Request, Requests, Steps, Why, two_items};
+use link_frames::{End, Items, Note, Request, Requests, Steps, Why, no_items, put};
 use std::sync::ledger::Ledger;
 
 /// T4, for which the point waits for the initiation: 5 seconds, in ticks of 100 ms.
@@ -129,11 +129,13 @@ impl Session {
             items.new.items ≡ note.Up «end».Point self.now.call
             ∷ note.Voice «end».Point self.now.call opened opened ∷ [] }
     {
+        no_items(items);
         let up = Note::Up {
             end: End::Point,
             call: self.call,
         };
-        two_items(items, &up, &self.voices())
+        put(items, &up);
+        self.voices(items);
     }
 
     /// What the point does at an event. Items are in order.
@@ -152,6 +154,7 @@ impl Session {
         ensures { Does SessionStandsFor SessionStandsFor self.old self.new items.new.items
             (λ s. point_row s (heard event.now)) }
     {
+        no_items(items);
         match event {
             PointEvent::Frame(frame) => self.frame(frame, items),
             PointEvent::Damaged => self.damaged(items),
@@ -192,6 +195,7 @@ impl Session {
         ensures moments { moments.new ≡ moments.old + 1 }
     {
         moments.tick();
+        no_items(items);
         self.age(n);
         self.acts(items)
     }

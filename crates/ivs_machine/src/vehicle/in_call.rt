@@ -1,10 +1,9 @@
 //! What the vehicle does at events and frames of its call. After EN 16062.
-ghost use Rattle.std.specs.Prelude.{◌≡◌, ◌≤◌};
+ghost use Rattle.std.specs.Prelude.{◌≡◌, ◌≤◌, []};
 
+use super::moves::nothing;
 use super::{CallStage, Ivs, LEAST_OPENING, Phase};
-use link_frames::{
-    Answer, End, FrameRef, Items, Note, Request, Why, no_items, one_item, three_items, two_items,
-};
+use link_frames::{Answer, FrameRef, Items, Request, Why};
 
 impl Ivs {
     ghost use Rattle.std.specs.Prelude.{◌<◌, ◌||◌, IsTrue, ◌↔◌};
@@ -19,36 +18,34 @@ impl Ivs {
 
     /// A fault of the audio or the modem: a muted voice opens.
     pub(super) fn fault(&mut self, items: &mut Items)
+        requires none { items.old.items ≡ [] }
         ensures { Does IvsStandsFor IvsIs self.old self.new items.new.items (λ v. vehicle_row v rows.Fault) }
     {
-        let fault = Note::Fault {
-            end: End::Vehicle,
-            call: self.call.number,
-        };
         match self.phase {
-            Phase::InCall(CallStage::Talking) => one_item(items, &fault),
+            Phase::InCall(CallStage::Talking) => self.faults(items),
             Phase::InCall(_) => {
-                let opening = self.opens();
-                two_items(items, &fault, &opening)
+                self.faults(items);
+                self.opens(items);
             }
-            _ => one_item(items, &Note::Nothing),
+            _ => nothing(items),
         }
     }
 
     /// The point hung up: a call that isn't settled is dialled again.
     pub(super) fn hung_up(&mut self, items: &mut Items)
+        requires none { items.old.items ≡ [] }
         ensures { Does IvsStandsFor IvsIs self.old self.new items.new.items (λ v. vehicle_row v rows.Hangup) }
     {
         match self.phase {
             Phase::InCall(_) => {
-                let down = self.goes_down(Why::Hangup);
+                self.goes_down(Why::Hangup, items);
                 if self.is_settled() {
-                    two_items(items, &down, &self.rests())
+                    self.rests(items);
                 } else {
-                    self.begins(&[down], items)
+                    self.begins(items);
                 }
             }
-            _ => one_item(items, &Note::Nothing),
+            _ => nothing(items),
         }
     }
 
@@ -61,19 +58,21 @@ impl Ivs {
 
     /// The call was lost.
     pub(super) fn lost(&mut self, items: &mut Items)
+        requires none { items.old.items ≡ [] }
         ensures { Does IvsStandsFor IvsIs self.old self.new items.new.items (λ v. vehicle_row v rows.Lost) }
     {
         match self.phase {
             Phase::InCall(_) => {
-                let down = self.goes_down(Why::Lost);
-                self.begins(&[down], items)
+                self.goes_down(Why::Lost, items);
+                self.begins(items);
             }
-            _ => one_item(items, &Note::Nothing),
+            _ => nothing(items),
         }
     }
 
     /// A frame that the link of the call handed up.
     pub(super) fn frame(&mut self, frame: &FrameRef<'_>, items: &mut Items)
+        requires none { items.old.items ≡ [] }
         ensures { Does IvsStandsFor IvsIs self.old self.new items.new.items
             (λ v. vehicle_row v (rows.Arrives (lent frame.now))) }
     {
@@ -89,109 +88,105 @@ impl Ivs {
                 request,
                 answer: Answer::Clear,
             } => self.cleared(*request, items),
-            FrameRef::Init | FrameRef::Content { .. } => no_items(items),
+            FrameRef::Init | FrameRef::Content { .. } => {}
         }
     }
 
     /// A request is obeyed where it is above the greatest one obeyed, and an open voice was so for long enough.
     fn asked(&mut self, request: Request, items: &mut Items)
+        requires none { items.old.items ≡ [] }
         ensures { Does IvsStandsFor IvsIs self.old self.new items.new.items
             (λ v. vehicle_row v (rows.Arrives (frame.Start request))) }
     {
         if request.number() <= self.call.greatest_obeyed {
-            return no_items(items);
+            return;
         }
         match self.phase {
             Phase::InCall(CallStage::Talking) => self.asked_while_open(request, items),
-            Phase::InCall(_) => {
-                let sent = self.takes(request);
-                one_item(items, &sent)
-            }
-            _ => no_items(items),
+            Phase::InCall(_) => self.takes(request, items),
+            _ => {}
         }
     }
 
     /// What was sent for a request came damaged: the same set is sent again.
     fn damaged(&mut self, request: Request, items: &mut Items)
+        requires none { items.old.items ≡ [] }
         ensures { Does IvsStandsFor IvsIs self.old self.new items.new.items
             (λ v. vehicle_row v (rows.Arrives (frame.Nack request))) }
     {
         let Phase::InCall(stage) = self.phase else {
-            return no_items(items);
+            return;
         };
         match stage {
             CallStage::Sending(sent) if sent.number() == request.number() => {
-                let again = self.sends_again(request);
-                one_item(items, &again)
+                self.sends_again(request, items);
             }
-            _ => no_items(items),
+            _ => {}
         }
     }
 
     /// The acknowledgement of the request that is being sent is counted.
     fn acknowledged(&mut self, request: Request, items: &mut Items)
+        requires none { items.old.items ≡ [] }
         ensures { Does IvsStandsFor IvsIs self.old self.new items.new.items
             (λ v. vehicle_row v (rows.Arrives (frame.Ack request))) }
     {
         let Phase::InCall(stage) = self.phase else {
-            return no_items(items);
+            return;
         };
         match stage {
             CallStage::Sending(current) if current.number() == request.number() => {
-                let acked = self.counts_as(request);
+                self.counts_as(request, items);
                 self.enters(CallStage::Confirming(request));
-                one_item(items, &acked)
             }
-            _ => no_items(items),
+            _ => {}
         }
     }
 
     /// A positive application acknowledgement of the present request ends the muting.
     fn confirmed(&mut self, request: Request, items: &mut Items)
+        requires none { items.old.items ≡ [] }
         ensures { Does IvsStandsFor IvsIs self.old self.new items.new.items
             (λ v. vehicle_row v (rows.Arrives (frame.App request answer.Positive))) }
     {
         let Phase::InCall(stage) = self.phase else {
-            return no_items(items);
+            return;
         };
         match stage {
             CallStage::Sending(sent) if sent.number() == request.number() => {
-                let acked = self.counts_as(request);
-                let opening = self.opens();
-                two_items(items, &acked, &opening)
+                self.counts_as(request, items);
+                self.opens(items);
             }
-            CallStage::Confirming(sent) if sent.number() == request.number() => {
-                let opening = self.opens();
-                one_item(items, &opening)
-            }
-            _ => no_items(items),
+            CallStage::Confirming(sent) if sent.number() == request.number() => self.opens(items),
+            _ => {}
         }
     }
 
     /// The point lets the vehicle go.
     fn cleared(&mut self, request: Request, items: &mut Items)
+        requires none { items.old.items ≡ [] }
         ensures { Does IvsStandsFor IvsIs self.old self.new items.new.items
             (λ v. vehicle_row v (rows.Arrives (frame.App request answer.Clear))) }
     {
         let Phase::InCall(stage) = self.phase else {
-            return no_items(items);
+            return;
         };
         match stage {
             CallStage::Sending(sent) if sent.number() == request.number() => {
-                let acked = self.counts_as(request);
-                let down = self.goes_down(Why::Release);
-                three_items(items, &acked, &down, &self.rests())
+                self.counts_as(request, items);
+                self.is_released(items);
             }
             CallStage::Confirming(sent) if sent.number() == request.number() => {
                 self.is_released(items)
             }
             CallStage::Talking if self.call.counted.has(request) => self.is_released(items),
-            _ => no_items(items),
+            _ => {}
         }
     }
 
     /// A request of a vehicle that talks is obeyed once the voice was open for long enough.
     fn asked_while_open(&mut self, request: Request, items: &mut Items)
+        requires none { items.old.items ≡ [] }
         requires phase { self.old.phase ≡ Phase.InCall CallStage.Talking }
         requires above { self.old.call.greatest_obeyed < request }
         ensures { Does IvsStandsFor IvsIs self.old self.new items.new.items
@@ -199,10 +194,8 @@ impl Ivs {
     {
         if self.is_long_open() {
             self.call.voice.mute();
-            let sent = self.takes(request);
-            two_items(items, &self.voices(false), &sent)
-        } else {
-            no_items(items)
+            self.voices(false, items);
+            self.takes(request, items);
         }
     }
 

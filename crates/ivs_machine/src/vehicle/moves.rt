@@ -1,15 +1,15 @@
 //! The moves of the vehicle, and the items that it gives in its call. After EN 16062 and EN 16072.
-ghost use Rattle.std.specs.Prelude.{◌≡◌, ◌≤◌};
+ghost use Rattle.std.specs.Prelude.{◌≡◌, ◌≤◌, ◌++◌, [], ◌∷◌, length};
 ghost use Rattle.link_frames.specs.declared.frame.End.TheVariants as «end»;
 ghost use Rattle.link_frames.specs.declared.note.Note.TheVariants as note;
 
 use super::{Call, CallStage, Ivs, Phase};
 use callback::Rest;
-use link_frames::{End, Frame, Items, Note, Request, Timer, Why, two_items};
+use link_frames::{End, Frame, Items, Note, Request, Timer, Why, put};
 use msd_fit::{Cause, make};
 
 impl Ivs {
-    ghost use Rattle.std.specs.Prelude.{true, [], ◌∷◌, ◌+◌, ℕ, min, if◌then◌else◌, List};
+    ghost use Rattle.std.specs.Prelude.{true, ◌+◌, ℕ, min, if◌then◌else◌, List};
     ghost use Rattle.audio_switch.specs.Switch.{unmuted};
     ghost use Rattle.link_frames.specs.Requests.{RequestsStandFor};
     ghost use Rattle.link_frames.specs.declared.frame.Frame.TheVariants as frame;
@@ -19,14 +19,15 @@ impl Ivs {
     ghost use Rattle.ivs_machine.specs.IvsStands.{IvsIs};
     ghost use Rattle.ivs_machine.specs.Vehicle.{first_vehicle};
 
-    /// The standby begins.
-    pub(super) fn rests(&mut self) -> Note
-        ensures item { result ≡ note.Standby }
+    /// The standby begins. Its item comes behind those that stand in `items`, here and in the functions below.
+    pub(super) fn rests(&mut self, items: &mut Items)
+        requires { length items.old.items ≤ 6 }
+        ensures items { items.new.items ≡ items.old.items ++ note.Standby ∷ [] }
         ensures new { self.new ≡ record self.old { phase = Phase.Standby; standby = 0 } }
     {
         self.phase = Phase::Standby;
         self.standby = Rest::enter();
-        Note::Standby
+        put(items, &Note::Standby);
     }
 
     /// All is lost but the facts and the network.
@@ -50,8 +51,10 @@ impl Ivs {
     }
 
     /// Opens a muted voice: the people on both ends talk.
-    pub(super) fn opens(&mut self) -> Note
-        ensures item { result ≡ note.Voice «end».Vehicle self.old.call.number true true }
+    pub(super) fn opens(&mut self, items: &mut Items)
+        requires { length items.old.items ≤ 4 }
+        ensures items { items.new.items ≡ items.old.items ++
+            note.Voice «end».Vehicle self.old.call.number true true ∷ [] }
         ensures new { self.new ≡ record self.old {
           phase = Phase.InCall CallStage.Talking;
           in_phase = 0;
@@ -62,12 +65,13 @@ impl Ivs {
     {
         self.call.voice.unmute();
         self.enters(CallStage::Talking);
-        self.voices(true)
+        self.voices(true, items);
     }
 
     /// A wait for data ends, and the voice opens; it may settle the call.
     pub(super) fn times_out(&mut self, timer: Timer, settles: bool, items: &mut Items)
-        ensures items { items.new.items ≡ note.Ended «end».Vehicle self.old.call.number timer
+        requires { length items.old.items ≤ 3 }
+        ensures items { items.new.items ≡ items.old.items ++ note.Ended «end».Vehicle self.old.call.number timer
             ∷ note.Voice «end».Vehicle self.old.call.number true true ∷ [] }
         ensures new { self.new ≡ record self.old {
           phase = Phase.InCall CallStage.Talking;
@@ -85,15 +89,15 @@ impl Ivs {
         if settles {
             self.call.settled_without_data = true;
         }
-        let ended = self.ends(timer);
-        let opening = self.opens();
-        two_items(items, &ended, &opening)
+        self.ends(timer, items);
+        self.opens(items);
     }
 
     /// Obeys a request: its set is made once, and sent.
-    pub(super) fn takes(&mut self, request: Request) -> Note
-        ensures sent { result ≡ note.Send «end».Vehicle self.old.call.number
-            (frame.Content request 0 (made self.old.facts self.old.cause (min (self.old.sets_made + 1) 255))) }
+    pub(super) fn takes(&mut self, request: Request, items: &mut Items)
+        requires { length items.old.items ≤ 4 }
+        ensures sent { items.new.items ≡ items.old.items ++ note.Send «end».Vehicle self.old.call.number
+            (frame.Content request 0 (made self.old.facts self.old.cause (min (self.old.sets_made + 1) 255))) ∷ [] }
         ensures new { self.new ≡ record self.old {
           phase = Phase.InCall (CallStage.Sending request);
           in_phase = 0;
@@ -106,38 +110,31 @@ impl Ivs {
         } }
     {
         self.sets_made = self.sets_made.saturating_add(1);
-        let octets = make(&self.facts, self.cause, self.sets_made);
-        self.call.set = octets;
+        self.call.set = make(&self.facts, self.cause, self.sets_made);
         self.call.greatest_obeyed = request.number();
         self.call.last_attempt = 0;
         self.enters(CallStage::Sending(request));
-        self.sends(Frame::Content {
-            request,
-            attempt: 0,
-            octets,
-        })
+        self.sends_set(request, items);
     }
 
     /// The next attempt to send the set made last.
-    pub(super) fn sends_again(&mut self, request: Request) -> Note
-        ensures sent { result ≡ note.Send «end».Vehicle self.old.call.number
-            (frame.Content request (min (self.old.call.last_attempt + 1) 255) self.old.call.set) }
+    pub(super) fn sends_again(&mut self, request: Request, items: &mut Items)
+        requires { length items.old.items ≤ 4 }
+        ensures sent { items.new.items ≡ items.old.items ++ note.Send «end».Vehicle self.old.call.number
+            (frame.Content request (min (self.old.call.last_attempt + 1) 255) self.old.call.set) ∷ [] }
         ensures new { self.new ≡ record self.old {
           call = record self.old.call { last_attempt = min (self.old.call.last_attempt + 1) 255 };
         } }
     {
         self.call.last_attempt = self.call.last_attempt.saturating_add(1);
-        let octets = self.call.set;
-        self.sends(Frame::Content {
-            request,
-            attempt: self.call.last_attempt,
-            octets,
-        })
+        self.sends_set(request, items);
     }
 
     /// Counts the acknowledgement of a request.
-    pub(super) fn counts_as(&mut self, request: Request) -> Note
-        ensures item { result ≡ note.Acked self.old.call.number request self.old.call.set }
+    pub(super) fn counts_as(&mut self, request: Request, items: &mut Items)
+        requires { length items.old.items ≤ 4 }
+        ensures items { items.new.items ≡ items.old.items ++
+            note.Acked self.old.call.number request self.old.call.set ∷ [] }
         ensures new { self.new ≡ record self.old {
           call = record self.old.call { counted = self.new.call.counted; has_counted = true };
         } }
@@ -146,83 +143,163 @@ impl Ivs {
     {
         self.call.counted.add(request);
         self.call.has_counted = true;
-        Note::Acked {
-            call: self.call.number,
-            request,
-            octets: self.call.set,
-        }
+        put(
+            items,
+            &Note::Acked {
+                call: self.call.number,
+                request,
+                octets: self.call.set,
+            },
+        );
     }
 
     /// The point lets the vehicle go.
     pub(super) fn is_released(&mut self, items: &mut Items)
-        ensures items { items.new.items ≡ note.Down «end».Vehicle self.old.call.number why.Release ∷ note.Standby ∷ [] }
+        requires { length items.old.items ≤ 3 }
+        ensures items { items.new.items ≡ items.old.items ++
+            note.Down «end».Vehicle self.old.call.number why.Release ∷ note.Standby ∷ [] }
         ensures new { self.new ≡ record self.old { phase = Phase.Standby; standby = 0 } }
     {
-        let down = self.goes_down(Why::Release);
-        two_items(items, &down, &self.rests())
+        self.goes_down(Why::Release, items);
+        self.rests(items);
     }
 
-    // The items of a call.
+    // The items of a call. Out of line: an item is made where it stays, once for each kind.
 
-    pub(super) fn up(&self) -> Note
-        ensures { result ≡ note.Up «end».Vehicle self.now.call.number }
+    #[inline(never)]
+    pub(super) fn up(&self, items: &mut Items)
+        requires { length items.old.items ≤ 4 }
+        ensures { items.new.items ≡ items.old.items ++ note.Up «end».Vehicle self.now.call.number ∷ [] }
     {
-        Note::Up {
-            end: End::Vehicle,
-            call: self.call.number,
-        }
+        put(
+            items,
+            &Note::Up {
+                end: End::Vehicle,
+                call: self.call.number,
+            },
+        );
     }
 
-    pub(super) fn goes_down(&self, why: Why) -> Note
-        ensures { result ≡ note.Down «end».Vehicle self.now.call.number why }
+    #[inline(never)]
+    pub(super) fn goes_down(&self, why: Why, items: &mut Items)
+        requires { length items.old.items ≤ 4 }
+        ensures { items.new.items ≡ items.old.items ++ note.Down «end».Vehicle self.now.call.number why ∷ [] }
     {
-        Note::Down {
-            end: End::Vehicle,
-            call: self.call.number,
-            why,
-        }
+        put(
+            items,
+            &Note::Down {
+                end: End::Vehicle,
+                call: self.call.number,
+                why,
+            },
+        );
     }
 
-    pub(super) fn sends(&self, frame: Frame) -> Note
-        ensures { result ≡ note.Send «end».Vehicle self.now.call.number frame }
+    #[inline(never)]
+    pub(super) fn initiates(&self, items: &mut Items)
+        requires { length items.old.items ≤ 4 }
+        ensures { items.new.items ≡ items.old.items ++
+            note.Send «end».Vehicle self.now.call.number frame.Init ∷ [] }
     {
-        Note::Send {
-            end: End::Vehicle,
-            call: self.call.number,
-            frame,
-        }
+        put(
+            items,
+            &Note::Send {
+                end: End::Vehicle,
+                call: self.call.number,
+                frame: Frame::Init,
+            },
+        );
     }
 
-    pub(super) fn ends(&self, timer: Timer) -> Note
-        ensures { result ≡ note.Ended «end».Vehicle self.now.call.number timer }
+    /// The set made last is sent for a request.
+    #[inline(never)]
+    fn sends_set(&self, request: Request, items: &mut Items)
+        requires { length items.old.items ≤ 4 }
+        ensures { items.new.items ≡ items.old.items ++ note.Send «end».Vehicle self.now.call.number
+            (frame.Content request self.now.call.last_attempt self.now.call.set) ∷ [] }
     {
-        Note::Ended {
-            end: End::Vehicle,
-            call: self.call.number,
-            timer,
-        }
+        put(
+            items,
+            &Note::Send {
+                end: End::Vehicle,
+                call: self.call.number,
+                frame: Frame::Content {
+                    request,
+                    attempt: self.call.last_attempt,
+                    octets: self.call.set,
+                },
+            },
+        );
+    }
+
+    #[inline(never)]
+    pub(super) fn faults(&self, items: &mut Items)
+        requires { length items.old.items ≤ 4 }
+        ensures { items.new.items ≡ items.old.items ++ note.Fault «end».Vehicle self.now.call.number ∷ [] }
+    {
+        put(
+            items,
+            &Note::Fault {
+                end: End::Vehicle,
+                call: self.call.number,
+            },
+        );
+    }
+
+    #[inline(never)]
+    pub(super) fn ends(&self, timer: Timer, items: &mut Items)
+        requires { length items.old.items ≤ 4 }
+        ensures { items.new.items ≡ items.old.items ++ note.Ended «end».Vehicle self.now.call.number timer ∷ [] }
+    {
+        put(
+            items,
+            &Note::Ended {
+                end: End::Vehicle,
+                call: self.call.number,
+                timer,
+            },
+        );
     }
 
     /// Both directions are opened, or both muted.
-    pub(super) fn voices(&self, opened: bool) -> Note
-        ensures { result ≡ note.Voice «end».Vehicle self.now.call.number opened opened }
+    #[inline(never)]
+    pub(super) fn voices(&self, opened: bool, items: &mut Items)
+        requires { length items.old.items ≤ 4 }
+        ensures { items.new.items ≡ items.old.items ++
+            note.Voice «end».Vehicle self.now.call.number opened opened ∷ [] }
     {
-        Note::Voice {
-            end: End::Vehicle,
-            call: self.call.number,
-            up: opened,
-            down: opened,
-        }
+        put(
+            items,
+            &Note::Voice {
+                end: End::Vehicle,
+                call: self.call.number,
+                up: opened,
+                down: opened,
+            },
+        );
     }
 }
 
-/// The item for the end of a timer outside a call.
-pub(super) fn ended(timer: Timer) -> Note
-    ensures { result ≡ note.Ended «end».Vehicle 0 timer }
+/// The item for an event that applies to nothing.
+#[inline(never)]
+pub(super) fn nothing(items: &mut Items)
+    requires { length items.old.items ≤ 4 }
+    ensures { items.new.items ≡ items.old.items ++ note.Nothing ∷ [] }
 {
-    Note::Ended {
-        end: End::Vehicle,
-        call: 0,
-        timer,
-    }
+    put(items, &Note::Nothing);
+}
+
+/// The item for the end of a timer outside a call.
+pub(super) fn ended(timer: Timer, items: &mut Items)
+    requires { length items.old.items ≤ 4 }
+    ensures { items.new.items ≡ items.old.items ++ note.Ended «end».Vehicle 0 timer ∷ [] }
+{
+    put(
+        items,
+        &Note::Ended {
+            end: End::Vehicle,
+            call: 0,
+            timer,
+        },
+    );
 }

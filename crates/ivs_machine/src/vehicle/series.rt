@@ -1,13 +1,13 @@
 //! What the vehicle does in a dial series: each move of the series with its items. After EN 16072.
-ghost use Rattle.std.specs.Prelude.{◌≡◌, ◌≤◌};
+ghost use Rattle.std.specs.Prelude.{◌≡◌, ◌≤◌, []};
 
-use super::moves::ended;
+use super::moves::{ended, nothing};
 use super::{Ivs, Phase};
-use link_frames::{DialAttempt, Items, Note, fill, no_items, one_item};
+use link_frames::{DialAttempt, Items, Note, put};
 use redial::{Next, Redial, Turn};
 
 impl Ivs {
-    ghost use Rattle.std.specs.Prelude.{None, Some, [], ◌∷◌, ◌++◌, IsTrue, length};
+    ghost use Rattle.std.specs.Prelude.{None, Some, ◌∷◌, ◌++◌, IsTrue, length};
     ghost use Rattle.link_frames.specs.Does.{Does};
     ghost use Rattle.link_frames.specs.declared.note.Note.TheVariants as note;
     ghost use Rattle.redial.specs.Series.{is_dialling, is_over, under_way};
@@ -18,81 +18,78 @@ impl Ivs {
     ghost use Rattle.ivs_machine.specs.inner.Moves.{begun, move_items, moved, told_items, told_by, turn_items, turned};
     ghost use Rattle.ivs_machine.specs.inner.Passing.{IvsMayPass};
 
-    /// A dial series begins. Items are those before, and then its own.
-    pub(super) fn begins(&mut self, before: &[Note], items: &mut Items)
-        requires { length before.now ≤ 4 }
-        ensures items { items.new.items ≡ before.now ++ move_items None (series.begins self.old.network).next }
+    /// A dial series begins. Its items come behind those that stand in `items`.
+    pub(super) fn begins(&mut self, items: &mut Items)
+        requires { length items.old.items ≤ 4 }
+        ensures items { items.new.items ≡ items.old.items ++ move_items None (series.begins self.old.network).next }
         ensures begun { self.new ≡ begun self.old }
     {
         let (redial, next) = Redial::begin(self.network);
         self.redial = redial;
         self.phase = Phase::InSeries;
-        self.moves(before, None, next, items)
+        self.moves(None, next, items);
     }
 
-    /// What follows in the series, behind an attempt that failed, if one was under way. Items are those before, and
-    /// then what follows.
-    fn moves(
-        &mut self,
-        before: &[Note],
-        under_way: Option<DialAttempt>,
-        next: Next,
-        items: &mut Items,
-    )
-        requires { length before.now ≤ 4 }
-        ensures items { items.new.items ≡ before.now ++ move_items under_way next }
+    /// What follows in the series, behind an attempt that failed, if one was under way. Its items come behind those that
+    /// stand in `items`.
+    fn moves(&mut self, under_way: Option<DialAttempt>, next: Next, items: &mut Items)
+        requires { length items.old.items ≤ 4 }
+        ensures items { items.new.items ≡ items.old.items ++ move_items under_way next }
         ensures moved { self.new ≡ moved next self.old }
     {
-        fill(items, before);
         if let Some(attempt) = under_way {
-            items.push(Note::Failed(attempt));
+            put(items, &Note::Failed(attempt));
         }
         match next {
-            Next::Dial(attempt) => items.push(Note::Dial(attempt)),
+            Next::Dial(attempt) => put(items, &Note::Dial(attempt)),
             Next::Pause => {}
-            Next::Seek => items.push(Note::Seeking),
+            Next::Seek => put(items, &Note::Seeking),
             Next::GaveUp => {
-                items.push(Note::GaveUp);
-                items.push(self.rests());
+                put(items, &Note::GaveUp);
+                self.rests(items);
             }
         }
     }
 
     /// The series is told of the network.
     pub(super) fn tells(&mut self, up: bool, items: &mut Items)
+        requires none { items.old.items ≡ [] }
         ensures items { items.new.items ≡
             note.Net up ∷ told_items (under_way self.old.redial) (series.told up self.old.redial).next }
         ensures told { self.new ≡ told_by (series.told up self.old.redial).next
             (record self.old { redial = (series.told up self.old.redial).new }) }
     {
+        put(items, &Note::Net(up));
         let under_way = self.redial.under_way();
         match self.redial.net(up) {
-            None => one_item(items, &Note::Net(up)),
-            Some(next) => self.moves(&[Note::Net(up)], under_way, next, items),
+            None => {}
+            Some(next) => self.moves(under_way, next, items),
         }
     }
 
     /// An attempt to dial failed.
     pub(super) fn failed(&mut self, items: &mut Items)
+        requires none { items.old.items ≡ [] }
         ensures { Does IvsStandsFor IvsIs self.old self.new items.new.items (λ v. vehicle_row v rows.Failed) }
     {
         match self.phase {
             Phase::InSeries if self.redial.dialling() => {
                 let under_way = self.redial.under_way();
                 let next = self.redial.failed();
-                self.moves(&[], under_way, next, items)
+                self.moves(under_way, next, items);
             }
-            _ => one_item(items, &Note::Nothing),
+            _ => nothing(items),
         }
     }
 
     /// Lets ticks of the series pass.
     pub(super) fn series_passes(&mut self, n: u32, items: &mut Items)
-        requires { self.old.phase ≡ Phase.InSeries }
+        requires none { items.old.items ≡ [] }
+        requires phase { self.old.phase ≡ Phase.InSeries }
         ensures { Does (IvsMayPass n) IvsIs self.old self.new items.new.items (λ v. acts (aged n v)) }
     {
         if self.redial.over() {
-            return no_items(items);
+            return;
         }
         let under_way = self.redial.under_way();
         let turn = self.redial.pass(n.min(self.redial.due()));
@@ -101,15 +98,19 @@ impl Ivs {
 
     /// What a timer of the series leads to, if one is at its end.
     fn turns(&mut self, under_way: Option<DialAttempt>, turn: Option<Turn>, items: &mut Items)
+        requires none { items.old.items ≡ [] }
         ensures items { items.new.items ≡ turn_items under_way turn }
         ensures turned { self.new ≡ turned turn self.old }
     {
         let Some(Turn { ended: timer, next }) = turn else {
-            return no_items(items);
+            return;
         };
         match timer {
-            Some(timer) => self.moves(&[ended(timer)], under_way, next, items),
-            None => self.moves(&[], under_way, next, items),
+            Some(timer) => {
+                ended(timer, items);
+                self.moves(under_way, next, items);
+            }
+            None => self.moves(under_way, next, items),
         }
     }
 }

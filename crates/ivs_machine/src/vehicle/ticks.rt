@@ -1,5 +1,5 @@
 //! What the vehicle does as ticks pass. After EN 16062 and EN 16072.
-ghost use Rattle.std.specs.Prelude.{◌≡◌};
+ghost use Rattle.std.specs.Prelude.{◌≡◌, []};
 ghost use Rattle.redial.specs.SeriesRows as series;
 
 use super::moves::ended;
@@ -7,9 +7,7 @@ use super::{
     CANCEL_PERIOD, CallStage, INITIATES_EVERY, INITIATION, Ivs, LONGEST_AWAITING, LONGEST_CALL,
     LONGEST_CONFIRMING, LONGEST_SENDING, Left, MOST_MUTED, Phase, SENDS_EVERY,
 };
-use link_frames::{
-    Frame, Items, Note, Request, Timer, Why, no_items, one_item, three_items, two_items,
-};
+use link_frames::{Items, Note, Request, Timer, Why, put};
 use msd_fit::Cause;
 
 impl Ivs {
@@ -74,10 +72,11 @@ impl Ivs {
 
     /// Lets ticks pass, and does what the timers and repeats bring that have no ticks left then.
     pub(super) fn elapse(&mut self, n: u32, items: &mut Items)
+        requires none { items.old.items ≡ [] }
         ensures { Does (IvsMayPass n) IvsIs self.old self.new items.new.items (λ v. acts (aged n v)) }
     {
         match self.phase {
-            Phase::Idle => no_items(items),
+            Phase::Idle => {}
             Phase::Standby => self.standby_passes(n, items),
             Phase::Arming(before) => self.arming_passes(before, n, items),
             Phase::InSeries => self.series_passes(n, items),
@@ -87,20 +86,21 @@ impl Ivs {
 
     /// Lets ticks of the standby pass, which may end.
     fn standby_passes(&mut self, n: u32, items: &mut Items)
-        requires { self.old.phase ≡ Phase.Standby }
+        requires none { items.old.items ≡ [] }
+        requires phase { self.old.phase ≡ Phase.Standby }
         ensures { Does (IvsMayPass n) IvsIs self.old self.new items.new.items (λ v. acts (aged n v)) }
     {
         if self.standby.pass(n) {
             self.phase = Phase::Idle;
-            two_items(items, &ended(Timer::T10), &Note::Idle)
-        } else {
-            no_items(items)
+            ended(Timer::T10, items);
+            put(items, &Note::Idle);
         }
     }
 
     /// Lets ticks of the cancel period pass, and of a standby that was left for it.
     fn arming_passes(&mut self, before: Left, n: u32, items: &mut Items)
-        requires { self.old.phase ≡ Phase.Arming before }
+        requires none { items.old.items ≡ [] }
+        requires phase { self.old.phase ≡ Phase.Arming before }
         ensures { Does (IvsMayPass n) IvsIs self.old self.new items.new.items (λ v. acts (aged n v)) }
     {
         if let Left::Standby = before {
@@ -110,15 +110,15 @@ impl Ivs {
         if self.in_phase >= CANCEL_PERIOD {
             self.cause = Cause::Manual;
             self.sets_made = 0;
-            self.begins(&[ended(Timer::T1)], items)
-        } else {
-            no_items(items)
+            ended(Timer::T1, items);
+            self.begins(items);
         }
     }
 
     /// Lets ticks of a call pass.
     fn call_passes(&mut self, stage: CallStage, n: u32, items: &mut Items)
-        requires { self.old.phase ≡ Phase.InCall stage }
+        requires none { items.old.items ≡ [] }
+        requires phase { self.old.phase ≡ Phase.InCall stage }
         ensures { Does (IvsMayPass n) IvsIs self.old self.new items.new.items (λ v. acts (aged n v)) }
     {
         self.age(n);
@@ -137,12 +137,11 @@ impl Ivs {
 
     /// What the timers and repeats of a call do that have no ticks left; mostly all have some.
     fn acts(&mut self, stage: CallStage, items: &mut Items)
-        requires { self.old.phase ≡ Phase.InCall stage }
+        requires none { items.old.items ≡ [] }
+        requires phase { self.old.phase ≡ Phase.InCall stage }
         ensures { Does IvsIsDue IvsIs self.old self.new items.new.items acts }
     {
-        if self.is_quiet() {
-            no_items(items);
-        } else {
+        if !self.is_quiet() {
             self.acts_now(stage, items);
         }
     }
@@ -177,13 +176,13 @@ impl Ivs {
     /// The timers and repeats of a call, by rank.
     #[inline(never)]
     fn acts_now(&mut self, stage: CallStage, items: &mut Items)
-        requires { self.old.phase ≡ Phase.InCall stage }
+        requires none { items.old.items ≡ [] }
+        requires phase { self.old.phase ≡ Phase.InCall stage }
         ensures { Does IvsIsDue IvsIs self.old self.new items.new.items acts }
     {
         if self.call.ticks >= LONGEST_CALL {
-            let ended = self.ends(Timer::T2);
-            let down = self.goes_down(Why::Release);
-            return three_items(items, &ended, &down, &self.rests());
+            self.ends(Timer::T2, items);
+            return self.is_released(items);
         }
         if self.call.voice.muted_for() >= MOST_MUTED {
             return self.times_out(Timer::Sum, true, items);
@@ -197,12 +196,13 @@ impl Ivs {
             CallStage::Confirming(_) if self.in_phase >= LONGEST_CONFIRMING => {
                 self.times_out(Timer::T6, false, items)
             }
-            CallStage::Awaiting | CallStage::Confirming(_) | CallStage::Talking => no_items(items),
+            CallStage::Awaiting | CallStage::Confirming(_) | CallStage::Talking => {}
         }
     }
 
     /// The end of the initiation, or its repeat.
     fn acts_initiating(&mut self, items: &mut Items)
+        requires none { items.old.items ≡ [] }
         requires phase { self.old.phase ≡ Phase.InCall CallStage.Initiating }
         requires call { self.old.call.ticks < LONGEST_CALL }
         requires sum { muted_ticks self.old.call.voice.stretch < MOST_MUTED }
@@ -210,16 +210,15 @@ impl Ivs {
     {
         if self.in_phase >= INITIATION {
             self.enters(CallStage::Awaiting);
-            one_item(items, &self.ends(Timer::T3))
+            self.ends(Timer::T3, items);
         } else if self.in_phase.is_multiple_of(INITIATES_EVERY) {
-            one_item(items, &self.sends(Frame::Init))
-        } else {
-            no_items(items)
+            self.initiates(items);
         }
     }
 
     /// The end of sending a set, or the next attempt.
     fn acts_sending(&mut self, request: Request, items: &mut Items)
+        requires none { items.old.items ≡ [] }
         requires phase { self.old.phase ≡ Phase.InCall (CallStage.Sending request) }
         requires call { self.old.call.ticks < LONGEST_CALL }
         requires sum { muted_ticks self.old.call.voice.stretch < MOST_MUTED }
@@ -228,10 +227,7 @@ impl Ivs {
         if self.in_phase >= LONGEST_SENDING {
             self.times_out(Timer::T7, true, items)
         } else if self.in_phase.is_multiple_of(SENDS_EVERY) {
-            let again = self.sends_again(request);
-            one_item(items, &again)
-        } else {
-            no_items(items)
+            self.sends_again(request, items);
         }
     }
 }

@@ -1,11 +1,12 @@
 //! What the session does at what its desk asks for, and as its call ends. After EN 16062 and EN 16072.
-ghost use Rattle.std.specs.Prelude.{◌≡◌, ◌↔◌, ◌≤◌, IsTrue};
+ghost use Rattle.std.specs.Prelude.{◌≡◌, ◌↔◌, ◌≤◌, IsTrue, []};
 
+use super::moves::nothing;
 use super::{LEAST_OPENING, Phase, Session};
-use link_frames::{Answer, End, Frame, Items, Note, Request, Why, one_item, two_items};
+use link_frames::{Answer, End, Items, Note, Request, Why, put};
 
 impl Session {
-    ghost use Rattle.std.specs.Prelude.{[], ◌∷◌, if◌then◌else◌};
+    ghost use Rattle.std.specs.Prelude.{◌∷◌, if◌then◌else◌};
     ghost use Rattle.audio_switch.specs.Switch.{is_open, open_ticks};
     ghost use Rattle.link_frames.specs.Does.{Does};
     ghost use Rattle.link_frames.specs.declared.frame.End.TheVariants as «end»;
@@ -17,34 +18,37 @@ impl Session {
 
     /// Something came that the link could not read: a point that asks for a set says so.
     pub(super) fn damaged(&mut self, items: &mut Items)
+        requires none { items.old.items ≡ [] }
         ensures { Does SessionStandsFor SessionIs self.old self.new items.new.items (λ s. point_row s rows.Damaged) }
     {
         let phase = self.phase;
         match phase {
-            Phase::Asking(request) => one_item(items, &self.sends(Frame::Nack(request))),
-            _ => one_item(items, &Note::Nothing),
+            Phase::Asking(request) => self.refuses(request, items),
+            _ => nothing(items),
         }
     }
 
     /// The desk asks for another set.
     pub(super) fn request(&mut self, items: &mut Items)
+        requires none { items.old.items ≡ [] }
         ensures { Does SessionStandsFor SessionIs self.old self.new items.new.items (λ s. point_row s rows.Request) }
     {
         match self.phase {
-            Phase::Over => one_item(items, &Note::Nothing),
+            Phase::Over => nothing(items),
             Phase::Talking if self.is_long_open() => self.asks_again(items),
-            _ => one_item(items, &Note::Busy(self.call)),
+            _ => put(items, &Note::Busy(self.call)),
         }
     }
 
     /// The desk lets the vehicle go.
     pub(super) fn clear(&mut self, items: &mut Items)
+        requires none { items.old.items ≡ [] }
         ensures { Does SessionStandsFor SessionIs self.old self.new items.new.items (λ s. point_row s rows.Clear) }
     {
         match self.phase {
-            Phase::Over => one_item(items, &Note::Nothing),
+            Phase::Over => nothing(items),
             Phase::Talking if self.is_long_open() => self.lets_go(items),
-            _ => one_item(items, &Note::Busy(self.call)),
+            _ => put(items, &Note::Busy(self.call)),
         }
     }
 
@@ -58,24 +62,25 @@ impl Session {
 
     /// Mutes an open voice, and asks for the next set; the numbers of requests may be spent.
     fn asks_again(&mut self, items: &mut Items)
-        requires { IsTrue (is_open self.old.voice.stretch) }
+        requires none { items.old.items ≡ [] }
+        requires open { IsTrue (is_open self.old.voice.stretch) }
         ensures { self.old.phase ≡ Phase.Talking → 20 ≤ open_ticks self.old.voice.stretch →
             Does SessionStandsFor SessionIs self.old self.new items.new.items (λ s. point_row s rows.Request) }
     {
         match self.asked.checked_add(1).and_then(Request::new) {
             Some(request) => {
                 self.voice.mute();
-                let muting = self.voices();
-                let start = self.asks(request);
-                two_items(items, &muting, &start)
+                self.voices(items);
+                self.asks(request, items);
             }
-            None => one_item(items, &Note::Spent(self.call)),
+            None => put(items, &Note::Spent(self.call)),
         }
     }
 
     /// Mutes an open voice, and tells the vehicle of the set shown last that it may go.
     fn lets_go(&mut self, items: &mut Items)
-        requires { IsTrue (is_open self.old.voice.stretch) }
+        requires none { items.old.items ≡ [] }
+        requires open { IsTrue (is_open self.old.voice.stretch) }
         ensures { self.old.phase ≡ Phase.Talking → 20 ≤ open_ticks self.old.voice.stretch →
             Does SessionStandsFor SessionIs self.old self.new items.new.items (λ s. point_row s rows.Clear) }
     {
@@ -84,41 +89,36 @@ impl Session {
                 self.voice.mute();
                 self.enters(Phase::Clearing(request));
                 let answer = Answer::Clear;
-                two_items(
-                    items,
-                    &self.voices(),
-                    &self.sends(Frame::App { request, answer }),
-                )
+                self.voices(items);
+                self.applies(request, answer, items);
             }
-            None => one_item(items, &Note::Unshown(self.call)),
+            None => put(items, &Note::Unshown(self.call)),
         }
     }
 
     /// A fault of the audio or the modem: a muted voice opens.
     pub(super) fn fault(&mut self, items: &mut Items)
+        requires none { items.old.items ≡ [] }
         ensures { Does SessionStandsFor SessionIs self.old self.new items.new.items (λ s. point_row s rows.Fault) }
     {
-        let fault = Note::Fault {
-            end: End::Point,
-            call: self.call,
-        };
         match self.phase {
-            Phase::Over => one_item(items, &Note::Nothing),
-            Phase::Talking => one_item(items, &fault),
+            Phase::Over => nothing(items),
+            Phase::Talking => self.faults(items),
             Phase::Listening | Phase::Asking(_) | Phase::Telling(_) | Phase::Clearing(_) => {
-                let opening = self.opens();
-                two_items(items, &fault, &opening)
+                self.faults(items);
+                self.opens(items);
             }
         }
     }
 
     /// The call ends.
     pub(super) fn ends(&mut self, why: Why, items: &mut Items)
+        requires none { items.old.items ≡ [] }
         ensures { Does SessionStandsFor SessionIs self.old self.new items.new.items
             (λ s. point_row s (rows.Ended why)) }
     {
         if self.is_over() {
-            one_item(items, &Note::Nothing)
+            nothing(items)
         } else {
             self.goes_down(why, items)
         }
@@ -126,11 +126,12 @@ impl Session {
 
     /// The leg goes down, and the session is over.
     pub(super) fn goes_down(&mut self, why: Why, items: &mut Items)
+        requires none { items.old.items ≡ [] }
         ensures items { items.new.items ≡ note.Down «end».Point self.old.call why ∷ [] }
         ensures new { self.new ≡ record self.old { phase = Phase.Over } }
     {
         self.phase = Phase::Over;
-        one_item(
+        put(
             items,
             &Note::Down {
                 end: End::Point,

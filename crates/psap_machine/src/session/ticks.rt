@@ -1,16 +1,15 @@
 //! What the session does as ticks pass. After EN 16062.
-ghost use Rattle.std.specs.Prelude.{◌≡◌, ◌↔◌, ◌≤◌, ◌<◌, ◌+◌, None, IsTrue, IfSome};
+ghost use Rattle.std.specs.Prelude.{◌≡◌, ◌↔◌, ◌≤◌, ◌<◌, ◌+◌, None, IsTrue, IfSome, []};
 
 use super::{LONGEST_ASKING, LONGEST_LISTENING, Phase, REPEATS_EVERY, Session, TELLING};
-use link_frames::{
-    Answer, End, Frame, Items, Note, Steps, Timer, Why, no_items, one_item, two_items,
-};
+use link_frames::{Answer, Items, Request, Steps, Timer, Why};
 use std::sync::ledger::Ledger;
 
 impl Session {
-    ghost use Rattle.std.specs.Prelude.{true, [], ◌∷◌, ◌==◌, if◌then◌else◌};
+    ghost use Rattle.std.specs.Prelude.{true, ◌∷◌, ◌==◌, if◌then◌else◌};
     ghost use Rattle.audio_switch.specs.Switch.{unmuted};
     ghost use Rattle.link_frames.specs.Does.{Does};
+    ghost use Rattle.link_frames.specs.declared.frame.Frame.TheVariants as frame;
     ghost use Rattle.link_frames.specs.Ranks.{to_next};
     ghost use Rattle.link_frames.specs.Row.{silent};
     ghost use Rattle.link_frames.specs.declared.frame.End.TheVariants as «end»;
@@ -68,11 +67,10 @@ impl Session {
 
     /// What the timers and repeats do that have no ticks left; mostly all have some.
     pub(super) fn acts(&mut self, items: &mut Items)
+        requires none { items.old.items ≡ [] }
         ensures { Does SessionIsDue SessionIs self.old self.new items.new.items acts }
     {
-        if self.is_quiet() {
-            no_items(items);
-        } else {
+        if !self.is_quiet() {
             self.acts_now(items);
         }
     }
@@ -94,60 +92,60 @@ impl Session {
     /// What the timers and repeats do that have no ticks left.
     #[inline(never)]
     fn acts_now(&mut self, items: &mut Items)
+        requires none { items.old.items ≡ [] }
         ensures { Does SessionIsDue SessionIs self.old self.new items.new.items acts }
     {
         let phase = self.phase;
         match phase {
-            Phase::Listening if self.in_phase < LONGEST_LISTENING => no_items(items),
+            Phase::Listening if self.in_phase < LONGEST_LISTENING => {}
             Phase::Listening => self.times_out(Timer::T4, items),
-            Phase::Asking(request) if self.in_phase < LONGEST_ASKING => {
-                self.repeats(Frame::Start(request), items)
-            }
+            Phase::Asking(request) if self.in_phase < LONGEST_ASKING => self.asks_on(
+                request, items,
+            ),
             Phase::Asking(_) => self.times_out(Timer::T8, items),
-            Phase::Telling(request) if self.in_phase < TELLING => self.repeats(
-                Frame::App {
-                    request,
-                    answer: Answer::Positive,
-                },
-                items,
-            ),
-            Phase::Telling(_) => one_item(items, &self.opens()),
-            Phase::Clearing(request) if self.in_phase < TELLING => self.repeats(
-                Frame::App {
-                    request,
-                    answer: Answer::Clear,
-                },
-                items,
-            ),
+            Phase::Telling(request) if self.in_phase < TELLING => {
+                self.tells_on(request, Answer::Positive, items)
+            }
+            Phase::Telling(_) => self.opens(items),
+            Phase::Clearing(request) if self.in_phase < TELLING => {
+                self.tells_on(request, Answer::Clear, items)
+            }
             Phase::Clearing(_) => self.goes_down(Why::Release, items),
-            Phase::Talking | Phase::Over => no_items(items),
+            Phase::Talking | Phase::Over => {}
         }
     }
 
-    /// Sends a frame again, where it is time for it.
-    fn repeats(&self, frame: Frame, items: &mut Items)
+    /// Sends a request again, where it is time for it.
+    fn asks_on(&self, request: Request, items: &mut Items)
+        requires none { items.old.items ≡ [] }
         ensures { items.new.items ≡ (if to_next 5 self.now.in_phase == 0
-            then note.Send «end».Point self.now.call frame ∷ [] else []) }
+            then note.Send «end».Point self.now.call (frame.Start request) ∷ [] else []) }
     {
-        no_items(items);
         if self.in_phase.is_multiple_of(REPEATS_EVERY) {
-            items.push(self.sends(frame));
+            self.starts(request, items);
+        }
+    }
+
+    /// Sends an application acknowledgement again, where it is time for it.
+    fn tells_on(&self, request: Request, answer: Answer, items: &mut Items)
+        requires none { items.old.items ≡ [] }
+        ensures { items.new.items ≡ (if to_next 5 self.now.in_phase == 0
+            then note.Send «end».Point self.now.call (frame.App request answer) ∷ [] else []) }
+    {
+        if self.in_phase.is_multiple_of(REPEATS_EVERY) {
+            self.applies(request, answer, items);
         }
     }
 
     /// A wait for data ends, and the voice opens.
     fn times_out(&mut self, timer: Timer, items: &mut Items)
+        requires none { items.old.items ≡ [] }
         ensures items { items.new.items ≡ note.Ended «end».Point self.old.call timer
             ∷ note.Voice «end».Point self.old.call true true ∷ [] }
         ensures new { self.new ≡ record self.old { phase = Phase.Talking; in_phase = 0; voice = self.new.voice } }
         ensures voice { self.new.voice ≡ record self.old.voice { stretch = unmuted self.old.voice.stretch } }
     {
-        let ended = Note::Ended {
-            end: End::Point,
-            call: self.call,
-            timer,
-        };
-        let opening = self.opens();
-        two_items(items, &ended, &opening)
+        self.timer_ends(timer, items);
+        self.opens(items);
     }
 }

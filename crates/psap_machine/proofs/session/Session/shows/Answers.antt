@@ -1,4 +1,7 @@
-use Rattle.std.proofs.Common.{◌≡◌, refl, sym, ◌∙◌, IsTrue}
+use Rattle.std.proofs.Common.{◌≡◌, ◌++◌, ◌∷◌, [], refl, ap, sym, ◌∙◌, IsTrue}
+use Rattle.link_frames.specs.declared.frame.End.TheVariants as «end»
+use Rattle.link_frames.specs.declared.frame.Frame.TheVariants as frame
+use Rattle.link_frames.specs.declared.note.Note.TheVariants as note
 use Rattle.psap_machine.specs.Point.{Point, Asking}
 use Rattle.psap_machine.specs.PointRows.{with_shown}
 use Rattle.psap_machine.specs.SessionStands.{SessionStandsFor}
@@ -14,7 +17,10 @@ returns-else-asks_for c =
     record {
       gives = λ s h.
           rw (shown_aside c.args.request (with_shown c.args.request c.args.octets.now s) s.phase (aside s h))
-          (let call : s.call ≡ c.args.self.now.call = h.is.call in cc);
+          (let call : s.call ≡ c.args.self.now.call = h.is.call in
+          let told : c.acknowledges.new.items.items ≡ note.Shown c.args.self.now.call c.args.request c.args.octets.now ∷ note.Send «end».Point c.args.self.now.call (frame.Ack c.args.request) ∷ [] =
+          c.acknowledges.ensures ∙ ap (λ z. z ++ note.Send «end».Point c.args.self.now.call (frame.Ack c.args.request) ∷ []) (c.put.ensures ∙ ap (λ z. z ++ note.Shown c.args.self.now.call c.args.request c.args.octets.now ∷ []) c.requires.none) in
+          cc);
       stands = λ s h.
           rw (shown_aside c.args.request (with_shown c.args.request c.args.octets.now s) s.phase (aside s h))
           record {
