@@ -172,6 +172,7 @@ fn post_frame(
 }
 
 /// Posts each frame that these items send into its call.
+#[inline(always)]
 pub(crate) fn post(
     calls: &mut Calls,
     alloc: Global,

@@ -153,6 +153,7 @@ fn begin_at(frames: &[KeptSent], tick: u64, near: usize) -> usize
 
 /// The place of the first of these that was sent at this tick or later, by halves. Out of line, since it is nearly
 /// always at `near`, behind all, or in front of them.
+#[cold]
 #[inline(never)]
 fn search_place(frames: &[KeptSent], tick: u64, near: usize) -> usize
     ensures within { result ≤ length frames.now }

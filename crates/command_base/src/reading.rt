@@ -16,6 +16,7 @@ use line_input::Lines;
 /// Reads one more line: true where there is one, and false at the end of the input. Where there is neither, the answer
 /// ends the command. What is pending is handed to the sink before the source is read, so that a person who types lines
 /// sees what each came to.
+#[inline(always)]
 pub(crate) fn read_line<I: Source, O: Sink>(
     lines: &mut Lines,
     input: &mut I,

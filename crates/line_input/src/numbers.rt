@@ -126,6 +126,7 @@ fn begins_plain(text: &[u8]) -> bool
 }
 
 /// The number that a text spells which begins with a digit from 1 to 9, so with no sign, where it is below 2^64.
+#[inline(never)]
 fn read_digits(text: &[u8]) -> Option<u64>
     requires { IsTrue (begins_plain_number text.now) }
     ensures { result ≡ positive_below (2 ^ 64) text.now }

@@ -46,8 +46,8 @@ fn find_space(text: &[u8]) -> Option<usize>
     }
 }
 
-/// Where the first space stands, byte by byte.
-#[inline]
+/// Where the first space stands, byte by byte. Out of line: it is unrolled, and many lines are read through it.
+#[inline(never)]
 fn near_space(text: &[u8]) -> Option<usize>
     ensures { result ≡ position is_space text.now }
 {
@@ -66,6 +66,7 @@ fn far_space(text: &[u8]) -> Option<usize>
 }
 
 /// The only argument of a line behind its first word, unless there are more, or none.
+#[inline(never)]
 pub fn only_argument(rest: Option<&[u8]>) -> Option<&[u8]>
     ensures { option_copied result ≡ only_word_of (words_behind (option_copied rest.entry)) }
 {

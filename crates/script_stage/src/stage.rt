@@ -151,6 +151,7 @@ impl Stage {
     }
 
     /// Plays the first event, in the first world, which knows the facts so far.
+    #[cold]
     fn begin<H: Listener, L: Ledger>(
         &mut self,
         alloc: Global,

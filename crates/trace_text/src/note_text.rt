@@ -59,7 +59,9 @@ pub fn push_note_words<const N: usize>(line: &mut ArrayVec<u8, N>, note: &Note)
     }
 }
 
-/// Appends the name of an end. Each name is known where it is copied, which a text that a match gives is not.
+/// Appends the name of an end. Each name is known where it is copied, which a text that a match gives is not. Out of
+/// line: so the copies stand once, and not in each item.
+#[inline(never)]
 fn push_end<const N: usize>(line: &mut ArrayVec<u8, N>, end: End)
     requires { array_vec_len line.old + 7 < N }
     ensures bytes { line.new.items ≡ line.old.items ++ space ∷ end_word end }

@@ -37,8 +37,8 @@ fn add_frame(due: &mut Vec<Due>, number: u32, frame: Option<&KeptFrame>) -> Resu
 }
 
 /// Adds the frames of a call that were sent at this tick, the first of which is at this place, and gives the place
-/// behind them. Out of line, so that a call in which nothing is due is soon passed over.
-#[inline(never)]
+/// behind them.
+#[inline(always)]
 fn add_from(
     due: &mut Vec<Due>,
     number: u32,
@@ -119,6 +119,7 @@ pub(crate) fn call_due(
 }
 
 /// The frames of these calls that a flow up, or down, hands over now, in place of what stood there.
+#[inline(always)]
 pub(crate) fn all_due(
     calls: &Calls,
     up: bool,

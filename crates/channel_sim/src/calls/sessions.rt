@@ -76,6 +76,7 @@ pub(crate) fn hear_session(
 
 /// Passes the session of a call up to this tick, if it is there and does something at it, and one that is over is
 /// gone: whether it did. Its items stand in `items`.
+#[inline(always)]
 pub(crate) fn act_session<L: Ledger>(
     calls: &mut Calls,
     number: u32,

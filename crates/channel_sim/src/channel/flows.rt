@@ -29,6 +29,7 @@ impl Channel {
     }
 
     /// The frames that the flow up, or down, hands over at this tick, in place of what stood there.
+    #[inline(always)]
     fn list_due(&self, up: bool, due: &mut Vec<Due>, near: &mut usize) -> Result<(), AllocError>
         ensures { (ahead floor : ℕ) (w : model.World) → StandsAt ahead floor (λ c. ahead) self.now w → OnOk result
             (map due_of due.new.items ≡ model.due_in (sent_way up) (flow_way up w) w.tick w.calls) }

@@ -129,6 +129,7 @@ impl Channel {
     }
 
     /// The next ticks at which something happens, each at most `end`.
+    #[inline(always)]
     fn next_moment(&self, near: &Near, end: u64) -> Next
         ensures most { result.acts ≤ end }
         ensures acts { (floor n : ℕ) (w : model.World) → StandsAt self.now.tick floor (λ c. self.now.tick) self.now w →
@@ -406,6 +407,7 @@ impl Channel {
     }
 
     /// Passes each end that lags up to this tick. `items` is room.
+    #[inline(always)]
     pub(crate) fn catch_all_up<L: Ledger>(&mut self, items: &mut Items, moments: &mut Steps<L>)
         ensures tick { self.new.tick ≡ self.old.tick }
         ensures caught { (floor : ℕ) (w : model.World) → StandsAt self.old.tick floor (λ c. self.old.tick) self.old w →
