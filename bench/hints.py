@@ -4,7 +4,8 @@
     hints.py catch FOLDER                     waits until a program is compiled (`rt run` in crates/ecall, elsewhere, with no
                                               crates/ecall/out), and keeps its module and the compiler's words in FOLDER
     hints.py try FOLDER PROGRAM [HINT:RE ..]  compiles PROGRAM from that module with a hint at each function whose name the
-                                              regular expression finds: alwaysinline, noinline, cold, or plain for none of these
+                                              regular expression finds: alwaysinline, noinline, cold, or plain for none of these.
+                                              All hints that find a function take the place of its own
 
 With no hint PROGRAM is the one that was built, byte for byte. A name is the function's path, as channel_sim::calls::post, and
 where it is generic, what it is made for behind it. It takes three quarters of a minute; `cache.py` counts instructions."""
@@ -45,14 +46,15 @@ def catch(folder):
         time.sleep(0.2)
 
 
-def hinted(line, groups, hint):
-    """The first line of a function with this hint in the place of those that it had."""
+def hinted(line, groups, hints):
+    """The first line of a function with these hints in the place of those that it had."""
     words = []
     group = GROUP.search(line)
     if group:
         words = [word for word in groups[group[1]].split(" ") if word not in ("alwaysinline", "noinline", "inlinehint", "cold")]
         line = line.replace(group[0], "", 1)
-    return line.replace(" {\n", "".join(f" {word}" for word in [*words, *HINTS[hint]]) + " {\n")
+    words += [word for hint in hints for word in HINTS[hint]]
+    return line.replace(" {\n", "".join(f" {word}" for word in words) + " {\n")
 
 
 def text_with(lines, hints):
@@ -62,10 +64,11 @@ def text_with(lines, hints):
     for place, line in enumerate(lines):
         if line.startswith("define "):
             name = NAME.search(line)[1].strip('"')
-            for k, (hint, finds) in enumerate(hints):
-                if finds.search(name):
-                    found[k] += 1
-                    lines[place] = hinted(line, groups, hint)
+            here = [k for k, (_, finds) in enumerate(hints) if finds.search(name)]
+            for k in here:
+                found[k] += 1
+            if here:
+                lines[place] = hinted(line, groups, [hints[k][0] for k in here])
     return "".join(lines), found
 
 
@@ -92,7 +95,7 @@ def attempt(folder, program, *said):
 if __name__ == "__main__":
     if len(sys.argv) == 3 and sys.argv[1] == "catch":
         catch(sys.argv[2])
-    elif len(sys.argv) > 3 and sys.argv[1] == "try" and all(word.split(":")[0] in HINTS for word in sys.argv[4:]):
+    elif len(sys.argv) > 3 and sys.argv[1] == "try" and all(word.partition(":")[0] in HINTS and ":" in word for word in sys.argv[4:]):
         attempt(*sys.argv[2:])
     else:
         sys.exit(__doc__)
