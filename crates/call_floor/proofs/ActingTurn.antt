@@ -2,7 +2,7 @@
 use Rattle.std.proofs.Common.{◌≡◌, ℕ, zero, suc, Bool, true, false, List, [], ◌∷◌, ◌+◌, ◌<◌, ◌≤◌, ◌⊎◌, inl, inr, Some, None, IfSome, length, get_or, set, slice_get, if◌then◌else◌, refl, ap, sym, ◌∙◌, subst, arith, ne_eqb}
 use Rattle.std.proofs.lemmas.List.{length-map}
 use Rattle.std.proofs.lemmas.Option.{slice_get_read}
-use Rattle.channel_sim.specs.Lag.{AreSameBut, StandsAt}
+use Rattle.channel_sim.specs.Lag.{level, AreSameBut, StandsAt}
 use Rattle.channel_sim.specs.Passes as its
 use Rattle.channel_sim.specs.Tidy.{AreAbove}
 use Rattle.channel_sim.specs.World.{World, Step}
@@ -58,9 +58,9 @@ others_amid v act still acts tick floor ahead after clock later aheads clocks w 
       due = h.due;
       later = h.later;
       awake = λ on.
-          subst (λ (z : World). StandsAt (after s.number) floor (later s.number) x.world.channel z) (sym (still_line v act still w s))
-          (subst (λ c. StandsAt (after s.number) floor c x.world.channel (own w s)) (clocks s.number other)
-          (subst (λ a. StandsAt a floor (clock s.number) x.world.channel (own w s)) (aheads s.number other) (h.awake on)));
+          subst (λ (z : World). StandsAt (after s.number) (level floor floor) (later s.number) x.world.channel z) (sym (still_line v act still w s))
+          (subst (λ c. StandsAt (after s.number) (level floor floor) c x.world.channel (own w s)) (clocks s.number other)
+          (subst (λ a. StandsAt a (level floor floor) (clock s.number) x.world.channel (own w s)) (aheads s.number other) (h.awake on)));
       asleep = λ off. subst (Sleeps floor x) (sym (still_line v act still w s)) (h.asleep off);
     }
 
@@ -79,8 +79,8 @@ module _ (v : ℕ) (acts : ℕ → Bool) (off : (acts v ≡ false) ⊎ (v ≡ 0)
         due = h.due;
         later = h.later;
         awake = λ on.
-            subst (λ c. StandsAt (after s.number) floor c x.world.channel (own w s)) (clocks s.number (other s.number n up on))
-            (subst (λ a. StandsAt a floor (clock s.number) x.world.channel (own w s)) (aheads s.number (other s.number n up on)) (h.awake on));
+            subst (λ c. StandsAt (after s.number) (level floor floor) c x.world.channel (own w s)) (clocks s.number (other s.number n up on))
+            (subst (λ a. StandsAt a (level floor floor) (clock s.number) x.world.channel (own w s)) (aheads s.number (other s.number n up on)) (h.awake on));
         asleep = h.asleep;
       }
 
@@ -117,7 +117,7 @@ taken acts v act w on = ap (λ b. if b then turn v act w else quiet_floor w) on
 
 -- A turn of one that acts.
 module _ (acts : ℕ → Bool) (tick floor : ℕ) (ahead after : ℕ → ℕ) (clock later : ℕ → ℕ → ℕ) (xs : List kept_seat.Seat) (w : Floor) (v i : ℕ) (x : kept_seat.Seat) (h : FloorIs (Amid acts tick floor ahead clock) xs w) (low : i < length xs) (at : x ≡ get_or xs i x) (here : SeatHere (Amid acts tick floor ahead clock) w v x) (on : acts v ≡ true) (act : World → Step) (still : Still any act) (aheads : AreSameBut v ahead after) (clocks : AreSameBelow v clock later) where
-  pub acted : (new : kept_world.World) → StandsAt (after v) floor (later v) new.channel (act (own w here.stand)).world → FloorIs (Amid acts tick floor after later) (set xs i (record x { world = new })) (turn_if acts v act w).floor
+  pub acted : (new : kept_world.World) → StandsAt (after v) (level floor floor) (later v) new.channel (act (own w here.stand)).world → FloorIs (Amid acts tick floor after later) (set xs i (record x { world = new })) (turn_if acts v act w).floor
   acted new stands =
       subst (λ (s : FloorStep). FloorIs (Amid acts tick floor after later) (set xs i (record x { world = new })) s.floor) (sym (taken acts v act w on))
       (turn_kept (Amid acts tick floor ahead clock) (Amid acts tick floor after later) xs w v i x h low at here act (record x { world = new }) (act (own w here.stand)).world refl

@@ -5,7 +5,7 @@ use Rattle.channel_sim.specs.declared.calls.due.Due as kept_due
 use Rattle.channel_sim.specs.declared.channel.Channel as kept_channel
 use Rattle.channel_sim.specs.declared.world.World as kept_world
 use Rattle.channel_sim.specs.Handing.{due_in_call, due_of, hands_way}
-use Rattle.channel_sim.specs.Lag.{StandsAt}
+use Rattle.channel_sim.specs.Lag.{level, StandsAt}
 use Rattle.channel_sim.specs.Quiet.{QuietFor}
 use Rattle.channel_sim.specs.Tidy.{AreAbove}
 use Rattle.channel_sim.specs.World.{World, Due}
@@ -110,7 +110,7 @@ module _ (acts : ℕ → Bool) (tick floor : ℕ) (ahead : ℕ → ℕ) (clock :
       record {
         was = h.was;
         ticks = h.ticks;
-        stands = subst (λ (k : kept_channel.Channel). StandsAt k.tick floor (λ c. k.tick) k h.was) (sym e) h.stands;
+        stands = subst (λ (k : kept_channel.Channel). StandsAt k.tick (level floor floor) (λ c. k.tick) k h.was) (sym e) h.stands;
         behind = h.behind;
         still = h.still;
         quiet = subst (λ (k : kept_channel.Channel). (n : ℕ) → k.tick + n < x.next → QuietFor n h.was) (sym e) h.quiet;
@@ -121,7 +121,7 @@ module _ (acts : ℕ → Bool) (tick floor : ℕ) (ahead : ℕ → ℕ) (clock :
       record {
         due = h.due;
         later = h.later;
-        awake = λ on. subst (λ (k : kept_channel.Channel). StandsAt (ahead v) floor (clock v) k u) (sym e) (h.awake on);
+        awake = λ on. subst (λ (k : kept_channel.Channel). StandsAt (ahead v) (level floor floor) (clock v) k u) (sym e) (h.awake on);
         asleep = λ off.
             let s : Sleeps floor x u = h.asleep off in
             record { before = s.before; rests = rests_same x new s.before e s.rests; ticked = s.ticked };

@@ -2,7 +2,7 @@
 use Rattle.std.proofs.Common.{◌≡◌, ℕ, zero, suc, Bool, true, false, List, [], ◌∷◌, ◌++◌, ◌==◌, ◌||◌, ◌+◌, ◌<◌, ◌≤◌, ◌⊎◌, inl, inr, Option, Some, None, length, map, option_map, get_or, drop, slice_get, if◌then◌else◌, refl, ap, sym, ◌∙◌, subst, arith, eqb-true, eq-eqb, ne_eqb}
 use Rattle.std.proofs.lemmas.Bool.{eqb-false}
 use Rattle.std.specs.List.{AllByRecursion}
-use Rattle.channel_sim.specs.Lag.{AreSameBut, StandsAt, CallLags, CallsLag, waits, clock_of}
+use Rattle.channel_sim.specs.Lag.{level, AreSameBut, StandsAt, CallLags, CallsLag, waits, clock_of}
 use Rattle.channel_sim.specs.Tidy.{AreAbove}
 use Rattle.channel_sim.specs.declared.calls.call.Call as kept_call
 use Rattle.channel_sim.specs.World.{Call, World, Step, call_of, session_passes}
@@ -311,19 +311,19 @@ all_listed w v ls u ready there = all u.calls (ready.placed v u there).numbers (
 
 -- The clocks said otherwise.
 
-lags_as : (floor : ℕ) (clock later : ℕ → ℕ) (xs : List kept_call.Call) (ks : List Call) → AllByRecursion (λ (k : Call). clock k.number ≡ later k.number) ks → CallsLag floor clock xs ks → CallsLag floor later xs ks
+lags_as : (floor : ℕ) (clock later : ℕ → ℕ) (xs : List kept_call.Call) (ks : List Call) → AllByRecursion (λ (k : Call). clock k.number ≡ later k.number) ks → CallsLag (level floor floor) clock xs ks → CallsLag (level floor floor) later xs ks
 lags_as floor clock later [] [] same h = tt
 lags_as floor clock later [] (k ∷ ks) same h = absurd h
 lags_as floor clock later (x ∷ xs) [] same h = absurd h
 lags_as floor clock later (x ∷ xs) (k ∷ ks) same h =
-    (subst (λ t. CallLags floor t x k) same.0 h.0, lags_as floor clock later xs ks same.1 h.1)
+    (subst (λ t. CallLags (level floor floor) t x k) same.0 h.0, lags_as floor clock later xs ks same.1 h.1)
 
 all_before : (before : ℕ) (ns : List ℕ) (ks : List Call) → AllByRecursion (λ (k : Call). waits k.number ns ≡ true) ks → AllByRecursion (λ (k : Call). before ≡ clock_of before ns k.number) ks
 all_before before ns [] h = tt
 all_before before ns (k ∷ ks) h = (sym (ap (λ b. if b then before else before + 1) h.0), all_before before ns ks h.1)
 
 -- none of its sessions was passed yet
-pub none_passed : (w : Floor) (v : ℕ) (ls : List kept_live.Live) (ahead floor before : ℕ) (x : kept_seat.Seat) (u : World) → IsReady w ls → own_of v w ≡ Some u → StandsAt ahead floor (λ c. before) x.world.channel u → StandsAt ahead floor (clock_left before (live_named (numbers_of w.stands) ls) v) x.world.channel u
+pub none_passed : (w : Floor) (v : ℕ) (ls : List kept_live.Live) (ahead floor before : ℕ) (x : kept_seat.Seat) (u : World) → IsReady w ls → own_of v w ≡ Some u → StandsAt ahead (level floor floor) (λ c. before) x.world.channel u → StandsAt ahead (level floor floor) (clock_left before (live_named (numbers_of w.stands) ls) v) x.world.channel u
 none_passed w v ls ahead floor before x u ready there h =
     record {
       tick = h.tick;

@@ -1,7 +1,7 @@
 -- Loops over the vehicles, the live calls and the frames that are due: how far each of them has come.
 use Rattle.std.proofs.Common.{◌≡◌, ℕ, zero, suc, Bool, true, false, List, [], ◌∷◌, ◌==◌, ◌||◌, ◌+◌, ◌<◌, ◌≤◌, Option, Some, length, get_or, map, if◌then◌else◌, refl, ap, sym, ◌∙◌, subst, arith, eq-eqb}
 use Rattle.std.specs.List.{AllByRecursion}
-use Rattle.channel_sim.specs.Lag.{StandsAt, waits, clock_of}
+use Rattle.channel_sim.specs.Lag.{level, StandsAt, waits, clock_of}
 use Rattle.call_floor.specs.declared.live.Live as kept_live
 use Rattle.call_floor.specs.declared.seat.Seat as kept_seat
 use Rattle.call_floor.specs.Floor.{Floor, Stand, Turn, own, quiet_floor, stand_of, turn}
@@ -68,7 +68,7 @@ module _ (acts : ℕ → Bool) (tick floor before : ℕ) (clock : ℕ → ℕ �
           world = record {
             due = its.due;
             later = its.later;
-            awake = λ on. subst (λ a. StandsAt a floor (clock s.number) x.world.channel (own w s)) same (its.awake on);
+            awake = λ on. subst (λ a. StandsAt a (level floor floor) (clock s.number) x.world.channel (own w s)) same (its.awake on);
             asleep = its.asleep;
           };
         },

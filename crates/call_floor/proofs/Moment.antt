@@ -3,7 +3,7 @@
 use Rattle.std.proofs.Common.{◌≡◌, ℕ, Bool, true, false, List, [], ◌∷◌, ◌++◌, ◌==◌, ◌+◌, ◌-◌, ◌<◌, ◌≤◌, ◌⊎◌, inl, inr, Option, Some, None, nat_le, option_map, if◌then◌else◌, refl, ap, sym, ◌∙◌, subst, arith, eq-eqb, ne_eqb, eqb-true}
 use Rattle.std.proofs.lemmas.Bool.{leb-true, leb-false}
 use Rattle.std.specs.List.{AllByRecursion}
-use Rattle.channel_sim.specs.Lag.{StandsAt, StandsNow}
+use Rattle.channel_sim.specs.Lag.{level, StandsAt, StandsNow}
 use Rattle.channel_sim.specs.Quiet.{QuietFor, aged_world}
 use Rattle.channel_sim.specs.Tidy.{AreAbove}
 use Rattle.channel_sim.specs.World.{World, Step, quiet_step}
@@ -51,7 +51,7 @@ back_nil (x ∷ xs) ys e = cc
 module _ (floor : ℕ) (x : kept_seat.Seat) (u : World) (r : Rests floor x u) where
   -- quiet ticks give nothing
   rested : (n : ℕ) → QuietFor n r.was → world.units n r.was ≡ quiet_step (aged_world n r.was)
-  rested n quiet = (quiet_end floor n (ticks_reached x.world + n) x.world.channel r.was r.stands quiet refl).0
+  rested n quiet = (quiet_end (level floor floor) n (ticks_reached x.world + n) x.world.channel r.was r.stands quiet refl).0
 
   pub rest_tick : ticks_reached x.world + r.ticks ≡ u.tick
   rest_tick =
@@ -92,33 +92,33 @@ module _ (floor : ℕ) (x : kept_seat.Seat) (u : World) (r : Rests floor x u) wh
   quiet_past tick next late = let now = rest_tick in r.quiet (r.ticks + 1) (omega (arith, now, next, late))
 
   -- it is woken at the next tick
-  pub woken : (tick before : ℕ) (y : kept_seat.Seat) → u.tick + 1 ≡ tick → before + 1 ≡ tick → y.world ≡ reached tick x.world → StandsAt before floor (λ c. before) y.world.channel (record u { tick = u.tick + 1 })
+  pub woken : (tick before : ℕ) (y : kept_seat.Seat) → u.tick + 1 ≡ tick → before + 1 ≡ tick → y.world ≡ reached tick x.world → StandsAt before (level floor floor) (λ c. before) y.world.channel (record u { tick = u.tick + 1 })
   woken tick before y next last is =
       let now = rest_tick in
       let here : ticks_reached x.world + r.ticks ≡ before = omega (arith, now, next, last) in
-      let at = jumped floor r.ticks tick x.world.channel r.was r.stands r.still (omega (arith, now, next)) in
+      let at = jumped (level floor floor) r.ticks tick x.world.channel r.was r.stands r.still (omega (arith, now, next)) in
       let same : u ≡ aged_world r.ticks r.was = r.behind ∙ ap (λ (s : Step). s.world) (rested r.ticks r.still) in
-      subst (λ (z : World). StandsAt before floor (λ c. before) y.world.channel (record z { tick = z.tick + 1 })) (sym same)
-      (subst (λ k. StandsAt before floor (λ c. before) k.channel (record (aged_world r.ticks r.was) { tick = (aged_world r.ticks r.was).tick + 1 })) (sym is)
-      (subst (λ t. StandsAt t floor (λ c. t) (record (x.world.channel) { tick = tick }) (record (aged_world r.ticks r.was) { tick = (aged_world r.ticks r.was).tick + 1 })) here at))
+      subst (λ (z : World). StandsAt before (level floor floor) (λ c. before) y.world.channel (record z { tick = z.tick + 1 })) (sym same)
+      (subst (λ k. StandsAt before (level floor floor) (λ c. before) k.channel (record (aged_world r.ticks r.was) { tick = (aged_world r.ticks r.was).tick + 1 })) (sym is)
+      (subst (λ t. StandsAt t (level floor floor) (λ c. t) (record (x.world.channel) { tick = tick }) (record (aged_world r.ticks r.was) { tick = (aged_world r.ticks r.was).tick + 1 })) here at))
 
   -- it is passed up to now
-  pub caught : (tick : ℕ) → u.tick ≡ tick → StandsAt tick floor (λ c. tick) (record (x.world.channel) { tick = tick }) u
+  pub caught : (tick : ℕ) → u.tick ≡ tick → StandsAt tick (level floor floor) (λ c. tick) (record (x.world.channel) { tick = tick }) u
   caught tick now =
       let last = rest_tick in
-      let at = quiet_end floor r.ticks tick x.world.channel r.was r.stands r.still (omega (arith, last, now)) in
+      let at = quiet_end (level floor floor) r.ticks tick x.world.channel r.was r.stands r.still (omega (arith, last, now)) in
       let same : u ≡ aged_world r.ticks r.was = r.behind ∙ ap (λ (s : Step). s.world) (rested r.ticks r.still) in
-      subst (StandsAt tick floor (λ c. tick) (record (x.world.channel) { tick = tick })) (sym same) at.1
+      subst (StandsAt tick (level floor floor) (λ c. tick) (record (x.world.channel) { tick = tick })) (sym same) at.1
 
 -- nothing happens in no tick
-pub still_now : (floor t : ℕ) (x : kept_seat.Seat) (u : World) → StandsAt t floor (λ c. t) x.world.channel u → QuietFor 0 u
+pub still_now : (floor t : ℕ) (x : kept_seat.Seat) (u : World) → StandsAt t (level floor floor) (λ c. t) x.world.channel u → QuietFor 0 u
 still_now floor t x u h =
-    let none = moment_quiet floor t 0 x.world.channel u h (λ n low. absurd (omega (arith, low))) in
+    let none = moment_quiet (level floor floor) t 0 x.world.channel u h (λ n low. absurd (omega (arith, low))) in
     let zero_ticks : none.0 ≡ 0 = omega (arith, none.1) in
     subst (λ n. QuietFor n u) zero_ticks none.2
 
 -- one that is asked rests
-pub starts_rest : (floor : ℕ) (x : kept_seat.Seat) (u : World) → StandsAt (ticks_reached x.world) floor (λ c. ticks_reached x.world) x.world.channel u → IsQuiet x → Rests floor x u
+pub starts_rest : (floor : ℕ) (x : kept_seat.Seat) (u : World) → StandsAt (ticks_reached x.world) (level floor floor) (λ c. ticks_reached x.world) x.world.channel u → IsQuiet x → Rests floor x u
 starts_rest floor x u h quiet =
     record {
       was = u;
@@ -262,7 +262,7 @@ woken_all floor tick before xs ys w h next last p =
 pub record IsDone (acts : ℕ → Bool) (tick floor : ℕ) (v : ℕ) (x : kept_seat.Seat) (u : World) : Type 0 where
   pub due : acts v ≡ true → x.next ≤ tick
   pub later : acts v ≡ false → tick < x.next
-  pub awake : acts v ≡ true → StandsAt tick floor (λ c. tick) x.world.channel u
+  pub awake : acts v ≡ true → StandsAt tick (level floor floor) (λ c. tick) x.world.channel u
   pub asleep : acts v ≡ false → Rests floor x u
 
 abbrev pub Done : (acts : ℕ → Bool) (tick floor : ℕ) → (v : ℕ) → kept_seat.Seat → World → Type 0
@@ -323,9 +323,9 @@ done_all acts floor tick xs w next order placed alike h =
         here : own_of s.number (unit_if acts (record w { tick = w.tick + 1 })).floor ≡ Some (own (unit_if acts (record w { tick = w.tick + 1 })).floor s)
         here = there s.number (unit_if acts (record w { tick = w.tick + 1 })).floor s found
 
-        awake : acts s.number ≡ true → StandsAt tick floor (λ c. tick) a.world.channel (own (unit w).floor t)
+        awake : acts s.number ≡ true → StandsAt tick (level floor floor) (λ c. tick) a.world.channel (own (unit w).floor t)
         awake on =
-            subst (StandsAt tick floor (λ c. tick) a.world.channel) (some_world (own (unit_if acts (record w { tick = w.tick + 1 })).floor s) (own (unit w).floor t) (sym here ∙ alike.own s.number on ∙ its)) (r.awake on)
+            subst (StandsAt tick (level floor floor) (λ c. tick) a.world.channel) (some_world (own (unit_if acts (record w { tick = w.tick + 1 })).floor s) (own (unit w).floor t) (sym here ∙ alike.own s.number on ∙ its)) (r.awake on)
 
         asleep : acts s.number ≡ false → Rests floor a (own (unit w).floor t)
         asleep off = was (own_of s.number w) refl
@@ -360,11 +360,11 @@ planned_all acts floor tick xs ys w now p h =
       where
         by : (b : Bool) → acts s.number ≡ b → Rests floor y (own w s)
         by true on =
-            let stands : StandsAt tick floor (λ c. tick) x.world.channel (own w s) = r.awake on in
+            let stands : StandsAt tick (level floor floor) (λ c. tick) x.world.channel (own w s) = r.awake on in
             let at : tick ≡ ticks_reached x.world = sym now ∙ stands.tick in
             starts_rest floor y (own w s)
-            (subst (λ k. StandsAt (ticks_reached k) floor (λ c. ticks_reached k) k.channel (own w s)) (sym q.world)
-            (subst (λ m. StandsAt m floor (λ c. m) x.world.channel (own w s)) at stands))
+            (subst (λ k. StandsAt (ticks_reached k) (level floor floor) (λ c. ticks_reached k) k.channel (own w s)) (sym q.world)
+            (subst (λ m. StandsAt m (level floor floor) (λ c. m) x.world.channel (own w s)) at stands))
             (q.acts (r.due on))
         by false off =
             subst (λ (z : kept_seat.Seat). Rests floor z (own w s)) (sym (as_it_was x y q.number (q.sleeps (r.later off)) q.world)) (r.asleep off)
@@ -377,10 +377,10 @@ asked_all floor xs ys w now p h =
     one : (x y : kept_seat.Seat) (s t : Stand) → IsAsked x y → s.number ≡ x.number → s.number ≡ t.number → stand_of s.number w.stands ≡ Some s → stand_of t.number w.stands ≡ Some t → WorldStandsFor x.world (own w s) → Rests floor y (own w t)
     one x y s t q kept same found behind r =
         let here : s ≡ t = some_stand s t (sym found ∙ ap (λ m. stand_of m w.stands) same ∙ behind) in
-        let stands : StandsNow x.world.channel (own w s) = now_stands x.world.channel (own w s) r in
+        let stands : StandsNow (ticks_reached x.world) x.world.channel (own w s) = now_stands (ticks_reached x.world) x.world.channel (own w s) r in
         let at : ticks_reached x.world ≡ floor = sym stands.tick ∙ now in
         subst (λ (z : Stand). Rests floor y (own w z)) here
         (starts_rest floor y (own w s)
-        (subst (λ k. StandsAt (ticks_reached k) floor (λ c. ticks_reached k) k.channel (own w s)) (sym q.world)
-        (subst (λ m. StandsAt (ticks_reached x.world) m (λ c. ticks_reached x.world) x.world.channel (own w s)) at stands))
+        (subst (λ k. StandsAt (ticks_reached k) (level floor floor) (λ c. ticks_reached k) k.channel (own w s)) (sym q.world)
+        (subst (λ m. StandsAt (ticks_reached x.world) (level m m) (λ c. ticks_reached x.world) x.world.channel (own w s)) at stands))
         q.quiet)

@@ -8,12 +8,12 @@ use Rattle.trace_model.specs.History.{told}
 use Rattle.channel_sim.specs.declared.channel.Channel as kept_channel
 use Rattle.channel_sim.specs.World.{Call, World, Step, did, and_then, with_legs, carries}
 use Rattle.channel_sim.specs.inner.Acts.{IsReady}
-use Rattle.channel_sim.specs.Lag.{VehicleLags, CallsLag, StandsAt, CameAt}
+use Rattle.channel_sim.specs.Lag.{LeastPassed, VehicleLags, CallsLag, StandsAt, CameAt}
 use Rattle.channel_sim.specs.Tidy.{AreAbove, CallInTime}
 use Rattle.channel_sim.proofs.CallsLemmas.{carried_numbers}
 use Rattle.channel_sim.proofs.TidyLemmas.{all_with_legs, with_legs_all, with_legs_above, with_legs_numbers, carried_in_time}
 
-pub did_done : (ahead : ℕ) (floor : ℕ) (clock : ℕ → ℕ) (kept new : kept_channel.Channel) (w : World) (v : Vehicle) (ks : List Call) (concerned : Option ℕ) (items : List Note)
+pub did_done : (ahead : ℕ) (floor : LeastPassed) (clock : ℕ → ℕ) (kept new : kept_channel.Channel) (w : World) (v : Vehicle) (ks : List Call) (concerned : Option ℕ) (items : List Note)
     → IsReady ahead floor clock kept w v ks concerned
     → new ≡ record kept { calls = new.calls }
     → CallsLag floor clock new.calls (with_legs (vehicle_call v) (map (carries (told w.tick items)) ks))
@@ -26,7 +26,7 @@ did_done ahead floor clock kept new w v ks concerned items r same calls =
       up_flow = r.up_flow ∙ sym (ap (λ x. x.up_flow) same);
       down_flow = r.down_flow ∙ sym (ap (λ x. x.down_flow) same);
       passed = subst (λ n. n ≤ ahead) (sym (ap (λ x. x.passed) same)) r.passed;
-      from = subst (λ n. floor ≤ n) (sym (ap (λ x. x.passed) same)) r.from;
+      from = subst (λ n. floor.waking ≤ n) (sym (ap (λ x. x.passed) same)) r.from;
       vehicle = subst (λ x. VehicleLags (ahead - x.passed) x.vehicle v) (sym same) r.vehicle;
       calls = calls;
       tidy =
@@ -42,7 +42,7 @@ did_done ahead floor clock kept new w v ks concerned items r same calls =
 pub came_after : {S Fault : Type 0} (grew partly : S → S → List Entry → Type 0)
     → ((a b c : S) (s t : List Entry) → grew a b s → grew b c t → grew a c (s ++ t))
     → ((a b c : S) (s t : List Entry) → grew a b s → partly b c t → partly a c (s ++ t))
-    → (a b c : S) (result : Result (Unit {0}) Fault) (ahead : ℕ) (floor : ℕ) (clock : ℕ → ℕ) (kept : kept_channel.Channel) (first : Step) (second : World → Step)
+    → (a b c : S) (result : Result (Unit {0}) Fault) (ahead : ℕ) (floor : LeastPassed) (clock : ℕ → ℕ) (kept : kept_channel.Channel) (first : Step) (second : World → Step)
     → grew a b first.entries
     → CameAt (grew b c) (partly b c) result ahead floor clock kept (second first.world)
     → CameAt (grew a c) (partly a c) result ahead floor clock kept (and_then first second)

@@ -1,5 +1,5 @@
 -- A call that comes up.
-use Rattle.std.proofs.Common.{◌≡◌, ℕ, ◌+◌, ◌-◌, ◌<◌, ◌≤◌, true, false, Option, Some, None, List, [], ◌∷◌, ◌++◌, refl, ap, sym, ◌∙◌, subst, arith}
+use Rattle.std.proofs.Common.{◌≡◌, ℕ, ◌+◌, ◌-◌, ◌<◌, ◌≤◌, true, false, inl, Option, Some, None, List, [], ◌∷◌, ◌++◌, refl, ap, sym, ◌∙◌, subst, arith}
 use Rattle.std.specs.List.{AllByRecursion}
 use Rattle.std.proofs.lemmas.Bool.{eq-eqb}
 use Rattle.std.proofs.lemmas.List.{map-append}
@@ -10,7 +10,7 @@ use Rattle.channel_sim.specs.declared.channel.Channel as kept_channel
 use Rattle.channel_sim.specs.World.{Call, World}
 use Rattle.channel_sim.specs.Lines.{with_call}
 use Rattle.channel_sim.specs.inner.Acts.{OtherHasLeg, IsReady}
-use Rattle.channel_sim.specs.Lag.{CallLags, CallsLag, StandsNow}
+use Rattle.channel_sim.specs.Lag.{LeastPassed, level, CallLags, CallsLag, StandsNow}
 use Rattle.channel_sim.specs.Tidy.{AreAbove, CallInTime, numbers_of}
 use Rattle.channel_sim.proofs.VehicleLemmas.{vehicle_stands_now, legs_others}
 
@@ -18,7 +18,7 @@ all_append : {A : Type 0} (P : A → Type 0) (xs : List A) (x : A) → AllByRecu
 all_append P [] x h one = (one, tt)
 all_append P (y ∷ ys) x h one = (h.0, all_append P ys x h.1 one)
 
-pub lag_append : (floor : ℕ) (clock : ℕ → ℕ) (xs : List kept_call.Call) (ks : List Call) (x : kept_call.Call) (k : Call) → CallsLag floor clock xs ks → CallLags floor (clock k.number) x k → CallsLag floor clock (xs ++ x ∷ []) (ks ++ k ∷ [])
+pub lag_append : (floor : LeastPassed) (clock : ℕ → ℕ) (xs : List kept_call.Call) (ks : List Call) (x : kept_call.Call) (k : Call) → CallsLag floor clock xs ks → CallLags floor (clock k.number) x k → CallsLag floor clock (xs ++ x ∷ []) (ks ++ k ∷ [])
 lag_append floor clock [] [] x k h one = (one, tt)
 lag_append floor clock [] (j ∷ ks) x k h one = absurd h
 lag_append floor clock (y ∷ xs) [] x k h one = absurd h
@@ -37,14 +37,14 @@ spared now c [] h = tt
 spared now c (k ∷ ks) h = ((λ other. h.0 refl), spared now c ks h.1)
 
 -- the vehicle heard in a call of the next number, in which nothing was sent yet
-pub arrival_ready : (kept moved : kept_channel.Channel) (w : World) (v : Vehicle)
-    → StandsNow kept w
+pub arrival_ready : (settled : ℕ) (kept moved : kept_channel.Channel) (w : World) (v : Vehicle)
+    → StandsNow settled kept w
     → vehicle_call w.vehicle ≡ None
     → moved ≡ record kept { drawn = kept.drawn + 1; calls = moved.calls; vehicle = moved.vehicle }
     → moved.calls ≡ kept.calls ++ record { number = kept.drawn + 1; session = None; passed = kept.tick; up = []; down = [] } ∷ []
     → IvsStandsFor moved.vehicle v
-    → IsReady kept.tick kept.tick (λ d. kept.tick) moved (with_call w) v (with_call w).calls (Some (w.drawn + 1))
-arrival_ready kept moved w v s out same calls stands =
+    → IsReady kept.tick (level settled kept.tick) (λ d. kept.tick) moved (with_call w) v (with_call w).calls (Some (w.drawn + 1))
+arrival_ready settled kept moved w v s out same calls stands =
     let call : Call = record { number = w.drawn + 1; session = None; up = []; down = [] } in
     let numbers : numbers_of (w.calls ++ call ∷ []) ≡ numbers_of w.calls ++ (w.drawn + 1) ∷ [] = map-append (λ k. k.number) w.calls (call ∷ []) in
     let passed : moved.passed ≡ kept.passed = ap (λ x. x.passed) same in
@@ -59,14 +59,14 @@ arrival_ready kept moved w v s out same calls stands =
       from = omega arith;
       vehicle = vehicle_stands_now (kept.tick - moved.passed) moved.vehicle v (omega arith) stands;
       calls =
-          subst (λ xs. CallsLag kept.tick (λ d. kept.tick) xs (w.calls ++ call ∷ [])) (sym calls)
-          (lag_append kept.tick (λ d. kept.tick) kept.calls w.calls _ call s.calls
+          subst (λ xs. CallsLag (level settled kept.tick) (λ d. kept.tick) xs (w.calls ++ call ∷ [])) (sym calls)
+          (lag_append (level settled kept.tick) (λ d. kept.tick) kept.calls w.calls _ call s.calls
           (record {
             number = ap (λ n. n + 1) s.drawn;
             up = refl;
             down = refl;
             passed = omega arith;
-            from = omega arith;
+            from = inl (omega arith);
             session = tt;
           }));
       numbers = subst (AreAbove 0) (sym numbers) (above_append 0 w.drawn (w.drawn + 1) (numbers_of w.calls) s.tidy.numbers s.tidy.below (omega arith) (omega arith));

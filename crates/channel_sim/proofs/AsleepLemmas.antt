@@ -1,4 +1,4 @@
--- Calls in whose sessions nothing is due: which of the first stay so when a call changes, and that they rest.
+-- Calls that sleep: which of the first stay so when a call changes, and that they rest.
 use Rattle.std.proofs.Common.{◌≡◌, ℕ, zero, suc, ◌+◌, ◌-◌, ◌<◌, ◌≤◌, inl, Option, Some, None, IfSome, List, [], ◌∷◌, ◌++◌, length, get_or, take, drop, refl, ap, sym, ◌∙◌, subst, arith, rules}
 use Rattle.std.proofs.Math.ListN.{set}
 use Rattle.std.proofs.lemmas.List.{length-set, length-append, take_more, take_more_set}
@@ -6,13 +6,13 @@ use Rattle.std.specs.List.{AllByRecursion, remove}
 use Rattle.psap_machine.specs.declared.session.Session.{Session}
 use Rattle.psap_machine.specs.Point.{Point}
 use Rattle.psap_machine.specs.PointRows as point
-use Rattle.psap_machine.specs.SessionStands.{SessionStandsFor, WaitsForNothing}
+use Rattle.psap_machine.specs.SessionStands.{SessionStandsFor, IsSettled, AtRest}
 use Rattle.trace_model.specs.History.{Sent}
 use Rattle.channel_sim.specs.declared.calls.call.Call as kept_call
 use Rattle.channel_sim.specs.World.{Call}
-use Rattle.channel_sim.specs.inner.Asleep.{NothingDue, Sleeps, AreAsleep, Waits, AreWaiting}
+use Rattle.channel_sim.specs.inner.Asleep.{Sleeps, AreAsleep, Waits, AreWaiting}
 use Rattle.channel_sim.specs.inner.Seats.{DueLater}
-use Rattle.channel_sim.specs.Lag.{SessionLags, SeatLags, CallLags, CallsLag}
+use Rattle.channel_sim.specs.Lag.{LeastPassed, SessionLags, SeatLags, CallLags, CallsLag}
 use Rattle.channel_sim.specs.inner.Past.{AreOver, HandsNothing}
 use Rattle.channel_sim.specs.Quiet.{SessionRests, CallRests, FramesRest, IsQuietCall}
 use Rattle.channel_sim.proofs.CatchLemmas.{same_item, same_length}
@@ -124,8 +124,8 @@ asleep_joined n m xs ys e h rest =
 
 -- What they stand for rests.
 
--- in a session that waits for nothing, nothing is due
-pub none_due : (kept : Session) (s : Point) → WaitsForNothing kept → SessionStandsFor kept s → point.due_of s ≡ None
+-- in a session that is settled nothing is due
+pub none_due : (kept : Session) (s : Point) → IsSettled kept → SessionStandsFor kept s → point.due_of s ≡ None
 none_due kept s none h = search rules
 
 none_later : (n : ℕ) (o : Option ℕ) → o ≡ None → IfSome o (λ due. n < due)
@@ -133,7 +133,7 @@ none_later n None e = tt
 none_later n (Some due) e = cc
 
 -- n ticks on nothing is due either
-still_none : (m : ℕ) (kept : Session) (s : Point) → NothingDue (Some kept) → SessionLags m kept s → point.due_of s ≡ None
+still_none : (m : ℕ) (kept : Session) (s : Point) → AtRest (Some kept) → SessionLags m kept s → point.due_of s ≡ None
 still_none m kept s none h = at (point.due_of s) refl
   where
     at : (o : Option ℕ) → point.due_of s ≡ o → point.due_of s ≡ None
@@ -143,20 +143,20 @@ still_none m kept s none h = at (point.due_of s) refl
         let wrong : due < due = subst (λ o. IfSome o (λ d. due < d)) (ap point.due_of (sym h.aged) ∙ e) late in
         absurd (omega arith)
 
-seat_rests : (m n : ℕ) (a : Option Session) (b : Option Point) → SeatLags m a b → NothingDue a → IfSome b (SessionRests n)
+seat_rests : (m n : ℕ) (a : Option Session) (b : Option Point) → SeatLags m a b → AtRest a → IfSome b (SessionRests n)
 seat_rests m n None None h none = tt
 seat_rests m n None (Some s) h none = absurd h
 seat_rests m n (Some k) None h none = absurd h
 seat_rests m n (Some k) (Some s) h none = record { due = none_later n (point.due_of s) (still_none m k s none h); live = h.live }
 
-call_rests : (floor clock n : ℕ) (x : kept_call.Call) (k : Call) → CallLags floor clock x k → Sleeps x → CallRests n k
+call_rests : (floor : LeastPassed) (clock n : ℕ) (x : kept_call.Call) (k : Call) → CallLags floor clock x k → Sleeps x → CallRests n k
 call_rests floor clock n x k h sleeps = seat_rests (clock - x.passed) n x.session k.session h.session sleeps
 
 -- and so it is later than any number of ticks
-pub rest_later : (n : ℕ) (kept : Session) (s : Point) → WaitsForNothing kept → SessionStandsFor kept s → IfSome (point.due_of s) (λ due. n < due)
+pub rest_later : (n : ℕ) (kept : Session) (s : Point) → IsSettled kept → SessionStandsFor kept s → IfSome (point.due_of s) (λ due. n < due)
 rest_later n kept s none h = none_later n (point.due_of s) (none_due kept s none h)
 
-pub due_later : (n : ℕ) (a : Option Session) → NothingDue a → DueLater n a
+pub due_later : (n : ℕ) (a : Option Session) → AtRest a → DueLater n a
 due_later n None none = tt
 due_later n (Some kept) none = λ s stands. rest_later n kept s none stands
 
@@ -181,7 +181,7 @@ seat_waits m n (Some k) (Some s) e h later =
     }
 
 -- what waits up to the next tick rests in it
-pub call_waits : (floor before : ℕ) (x : kept_call.Call) (k : Call) → CallLags floor before x k → Waits (before + 1) x → CallRests 1 k
+pub call_waits : (floor : LeastPassed) (before : ℕ) (x : kept_call.Call) (k : Call) → CallLags floor before x k → Waits (before + 1) x → CallRests 1 k
 call_waits floor before x k h wait =
     let within : x.passed ≤ before = h.passed in
     let sum : (before + 1) - x.passed ≡ (before - x.passed) + 1 = omega arith in
@@ -193,7 +193,7 @@ over_rests n (suc d) tick [] h = tt
 over_rests n (suc d) tick (x ∷ xs) h = (inl h.0, over_rests n (suc d) tick xs h.1)
 
 -- the first calls are quiet, where they sleep, and no flow hands a frame of them over any more
-pub front_quiet : (floor n tick up down : ℕ) (clock : ℕ → ℕ) (f : ℕ) (xs : List kept_call.Call) (ks : List Call) → CallsLag floor clock xs ks → AllByRecursion Sleeps (take f xs) → AllByRecursion (HandsNothing up down tick) (take f xs) → AllByRecursion (λ k. IsQuietCall n up down tick k) (take f ks)
+pub front_quiet : (floor : LeastPassed) (n tick up down : ℕ) (clock : ℕ → ℕ) (f : ℕ) (xs : List kept_call.Call) (ks : List Call) → CallsLag floor clock xs ks → AllByRecursion Sleeps (take f xs) → AllByRecursion (HandsNothing up down tick) (take f xs) → AllByRecursion (λ k. IsQuietCall n up down tick k) (take f ks)
 front_quiet floor n tick up down clock zero [] [] h sleep over = tt
 front_quiet floor n tick up down clock (suc f) [] [] h sleep over = tt
 front_quiet floor n tick up down clock f [] (k ∷ ks) h sleep over = absurd h

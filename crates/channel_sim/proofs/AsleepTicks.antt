@@ -6,7 +6,7 @@ use Rattle.channel_sim.specs.declared.calls.call.Call as kept_call
 use Rattle.channel_sim.specs.declared.channel.Channel as kept_channel
 use Rattle.channel_sim.specs.World.{Call, World, Step, quiet_step, and_then, each, session_passes, sessions_pass}
 use Rattle.channel_sim.specs.inner.Asleep.{Waits}
-use Rattle.channel_sim.specs.Lag.{CallLags, CallsLag, StandsAt, clock_of}
+use Rattle.channel_sim.specs.Lag.{LeastPassed, CallLags, CallsLag, StandsAt, clock_of}
 use Rattle.channel_sim.specs.Quiet.{CallRests, aged_call}
 use Rattle.channel_sim.specs.Tidy.{AreAbove, HasLeg, CallInTime, numbers_of}
 use Rattle.channel_sim.proofs.AsleepLemmas.{call_waits}
@@ -27,7 +27,7 @@ FrontRests zero ks = Unit {0}
 FrontRests (suc f) [] = Unit {0}
 FrontRests (suc f) (k ∷ ks) = CallRests 1 k × FrontRests f ks
 
-front_rests : (floor before f : ℕ) (xs : List kept_call.Call) (ks : List Call) → CallsLag floor (λ c. before) xs ks → AllByRecursion (Waits (before + 1)) (take f xs) → FrontRests f ks
+front_rests : (floor : LeastPassed) (before f : ℕ) (xs : List kept_call.Call) (ks : List Call) → CallsLag floor (λ c. before) xs ks → AllByRecursion (Waits (before + 1)) (take f xs) → FrontRests f ks
 front_rests floor before zero xs ks h wait = tt
 front_rests floor before (suc f) [] [] h wait = tt
 front_rests floor before (suc f) [] (k ∷ ks) h wait = absurd h
@@ -74,11 +74,11 @@ above_drop m zero ns h = h
 above_drop m (suc f) [] h = tt
 above_drop m (suc f) (n ∷ ns) h = let least : m < n = h.0 in above_less n m (drop f ns) (above_drop n f ns h.1) (omega arith)
 
-aged_lags : (floor before : ℕ) (x : kept_call.Call) (k : Call) → CallLags floor before x k → CallRests 1 k → CallLags floor (before + 1) x (aged_call 1 k)
+aged_lags : (floor : LeastPassed) (before : ℕ) (x : kept_call.Call) (k : Call) → CallLags floor before x k → CallRests 1 k → CallLags floor (before + 1) x (aged_call 1 k)
 aged_lags floor before x k h rests = (calls_on floor before 1 (x ∷ []) (k ∷ []) (h, tt) (rests, tt)).0
 
 -- those that wait were passed without a look, and the others are to come
-front_lags : (floor before m f : ℕ) (xs : List kept_call.Call) (ks : List Call) → CallsLag floor (λ c. before) xs ks → AllByRecursion (Waits (before + 1)) (take f xs) → AreAbove m (numbers_of ks) → CallsLag floor (clock_of before (drop f (numbers_of ks))) xs (front_aged f ks)
+front_lags : (floor : LeastPassed) (before m f : ℕ) (xs : List kept_call.Call) (ks : List Call) → CallsLag floor (λ c. before) xs ks → AllByRecursion (Waits (before + 1)) (take f xs) → AreAbove m (numbers_of ks) → CallsLag floor (clock_of before (drop f (numbers_of ks))) xs (front_aged f ks)
 front_lags floor before m zero xs ks h wait above = clocks_begin floor before (numbers_of ks) xs ks refl h
 front_lags floor before m (suc f) [] [] h wait above = tt
 front_lags floor before m (suc f) [] (k ∷ ks) h wait above = absurd h
@@ -93,7 +93,7 @@ front_lags floor before m (suc f) (x ∷ xs) (k ∷ ks) h wait above =
 abbrev pub front_passed : ℕ → World → World
 front_passed f w = record w { calls = front_aged f w.calls }
 
-pub waiting_stand : (ahead floor before f : ℕ) (kept : kept_channel.Channel) (w : World) → StandsAt ahead floor (λ c. before) kept w → AllByRecursion (Waits (before + 1)) (take f kept.calls) → StandsAt ahead floor (clock_of before (drop f (numbers_of w.calls))) kept (front_passed f w)
+pub waiting_stand : (ahead : ℕ) (floor : LeastPassed) (before f : ℕ) (kept : kept_channel.Channel) (w : World) → StandsAt ahead floor (λ c. before) kept w → AllByRecursion (Waits (before + 1)) (take f kept.calls) → StandsAt ahead floor (clock_of before (drop f (numbers_of w.calls))) kept (front_passed f w)
 waiting_stand ahead floor before f kept w s wait =
     record {
       tick = s.tick;
@@ -113,7 +113,7 @@ waiting_stand ahead floor before f kept w s wait =
           };
     }
 
-pub waiting_pass : (ahead floor before f : ℕ) (kept : kept_channel.Channel) (w : World) → StandsAt ahead floor (λ c. before) kept w → AllByRecursion (Waits (before + 1)) (take f kept.calls) → sessions_pass w ≡ each session_passes (drop f (numbers_of w.calls)) (front_passed f w)
+pub waiting_pass : (ahead : ℕ) (floor : LeastPassed) (before f : ℕ) (kept : kept_channel.Channel) (w : World) → StandsAt ahead floor (λ c. before) kept w → AllByRecursion (Waits (before + 1)) (take f kept.calls) → sessions_pass w ≡ each session_passes (drop f (numbers_of w.calls)) (front_passed f w)
 waiting_pass ahead floor before f kept w s wait =
     let rests : FrontRests f w.calls = front_rests floor before f kept.calls w.calls s.calls wait in
     let front : each session_passes (take f (numbers_of w.calls)) w ≡ quiet_step (front_passed f w) = quiet_front 0 w [] f w.calls tt s.tidy.numbers tt s.tidy.legs rests in

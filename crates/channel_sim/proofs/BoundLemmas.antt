@@ -19,7 +19,7 @@ use Rattle.channel_sim.specs.declared.calls.call.Call as kept_call
 use Rattle.channel_sim.specs.World as model
 use Rattle.channel_sim.specs.World.{Call, World, Step, Act, Due, quiet_step, and_then, session_count, ends, carries, with_legs, seated, session_of, session_in, call_of, did, vehicle_did, session_did, session_acts, does, does_each, consequences, settled, performs, one_handed, hands_up, hands_down, each, vehicle_is_in, point_is_in, due_in, flows_up, flows_down, vehicle_passes, session_passes, sessions_pass, unit, units}
 use Rattle.trace_fit.specs.Seats.{left_by, is_number}
-use Rattle.channel_sim.specs.Lag.{SessionLags, SeatLags, CallLags, CallsLag}
+use Rattle.channel_sim.specs.Lag.{LeastPassed, SessionLags, SeatLags, CallLags, CallsLag}
 use Rattle.channel_sim.specs.inner.Passes.{once_if}
 use Rattle.channel_sim.specs.Passes.{passes_of}
 use Rattle.channel_sim.specs.inner.Places.{place_of}
@@ -226,7 +226,7 @@ vehicle_gives due v kept e =
     some_items (vehicle.units due v).items h.gives
 
 -- what holds of the call at a place holds of the call of that number
-pub call_at : (P : Option Point → Type 0) (floor : ℕ) (clock : ℕ → ℕ) (c : ℕ) (xs : List kept_call.Call) (ks : List Call) (i : ℕ) (d : kept_call.Call)
+pub call_at : (P : Option Point → Type 0) (floor : LeastPassed) (clock : ℕ → ℕ) (c : ℕ) (xs : List kept_call.Call) (ks : List Call) (i : ℕ) (d : kept_call.Call)
     → CallsLag floor clock xs ks → place_of c (numbers_of ks) ≡ Some i
     → ((k : Call) → CallLags floor (clock c) (get_or xs i d) k → P k.session) → P (session_of c ks)
 call_at P floor clock c [] [] i d h place found = cc
@@ -245,7 +245,7 @@ call_at P floor clock c (x ∷ xs) (k ∷ ks) i d h place found = at (λ j. call
         further next.0 next.1 (λ m lags. found m (subst (λ j. CallLags floor (clock c) (get_or (x ∷ xs) j d) m) (sym next.2) lags))
 
 -- one session more was passed
-count_next : (floor tick before after m : ℕ) (xs : List kept_call.Call) (ks : List Call) (i : ℕ) (d : kept_call.Call)
+count_next : (floor : LeastPassed) (tick before after m : ℕ) (xs : List kept_call.Call) (ks : List Call) (i : ℕ) (d : kept_call.Call)
     → CallsLag floor (λ c. tick) xs ks → i < length xs → before ≤ m + session_count (take i ks)
     → ((k : Call) → CallLags floor tick (get_or xs i d) k → after ≤ before + once_if k.session)
     → after ≤ m + session_count (take (suc i) ks)
@@ -264,7 +264,7 @@ count_next floor tick before after m (x ∷ xs) (k ∷ ks) (suc i) d h inside so
     at true e further = let more : after ≤ (m + 1) + session_count (take (suc i) ks) = further (m + 1) (omega arith) in omega arith
     at false e further = further m e
 
-pub count_more_passed : (floor tick before after m : ℕ) (xs : List kept_call.Call) (ks : List Call) (i : ℕ) (d : kept_call.Call)
+pub count_more_passed : (floor : LeastPassed) (tick before after m : ℕ) (xs : List kept_call.Call) (ks : List Call) (i : ℕ) (d : kept_call.Call)
     → CallsLag floor (λ c. tick) xs ks → i < length xs → before ≤ m + session_count (take i ks)
     → ((k : Call) → CallLags floor tick (get_or xs i d) k → after ≤ before + once_if k.session)
     → after ≤ m + session_count (take (i + 1) ks)

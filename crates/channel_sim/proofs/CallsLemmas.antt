@@ -16,13 +16,13 @@ use Rattle.trace_model.specs.History.{Sent, told, sends, sent_by}
 use Rattle.trace_model.specs.Safety.{is_leg}
 use Rattle.channel_sim.specs.declared.calls.call.Call as kept_call
 use Rattle.channel_sim.specs.World.{Call, call_of, session_in, session_of, seated, carries}
-use Rattle.channel_sim.specs.inner.Acts.{pushed, seat_items, seat_after, CallDid, SessionDid, IsCaught}
-use Rattle.channel_sim.specs.Lag.{SeatLags, CallLags, CallsLag}
+use Rattle.channel_sim.specs.inner.Acts.{IsUpTo, pushed, seat_items, seat_after, CallDid, SessionDid, IsCaught}
+use Rattle.channel_sim.specs.Lag.{LeastPassed, SeatLags, CallLags, CallsLag}
 use Rattle.channel_sim.specs.inner.Places.{place_of}
 use Rattle.channel_sim.specs.Tidy.{AreAbove, numbers_of}
 use Rattle.channel_sim.proofs.PlaceLemmas.{numbers, next_place-some, next_place-none, place_first, place_behind, above_nowhere}
 
-pub same_numbers : (floor : ℕ) (clock : ℕ → ℕ) (xs : List kept_call.Call) (ks : List Call) → CallsLag floor clock xs ks → numbers_of ks ≡ numbers xs
+pub same_numbers : (floor : LeastPassed) (clock : ℕ → ℕ) (xs : List kept_call.Call) (ks : List Call) → CallsLag floor clock xs ks → numbers_of ks ≡ numbers xs
 same_numbers floor clock [] [] h = refl
 same_numbers floor clock [] (k ∷ ks) h = absurd h
 same_numbers floor clock (x ∷ xs) [] h = absurd h
@@ -87,7 +87,7 @@ sends_nothing e c t (note.Send f d frame) h = absurd h
 sends_nothing e c t _ h = refl
 
 -- the call, as it stands with the frames of this item that aren't its own
-carried_call : (floor : ℕ) (clock : ℕ) (es : List Entry) (x : kept_call.Call) (k : Call) → sent_by «end».Vehicle k.number es ≡ [] → sent_by «end».Point k.number es ≡ [] → CallLags floor clock x k → CallLags floor clock x (carries es k)
+carried_call : (floor : LeastPassed) (clock : ℕ) (es : List Entry) (x : kept_call.Call) (k : Call) → sent_by «end».Vehicle k.number es ≡ [] → sent_by «end».Point k.number es ≡ [] → CallLags floor clock x k → CallLags floor clock x (carries es k)
 carried_call floor clock es x k up down h =
     record {
       number = h.number;
@@ -98,7 +98,7 @@ carried_call floor clock es x k up down h =
       session = h.session;
     }
 
-pub carries_no_send : (floor : ℕ) (clock : ℕ → ℕ) (t : ℕ) (n : Note) → IsNoSend n → (xs : List kept_call.Call) (ks : List Call) → CallsLag floor clock xs ks → CallsLag floor clock xs (map (carries (told t (n ∷ []))) ks)
+pub carries_no_send : (floor : LeastPassed) (clock : ℕ → ℕ) (t : ℕ) (n : Note) → IsNoSend n → (xs : List kept_call.Call) (ks : List Call) → CallsLag floor clock xs ks → CallsLag floor clock xs (map (carries (told t (n ∷ []))) ks)
 carries_no_send floor clock t n nothing [] [] h = tt
 carries_no_send floor clock t n nothing [] (k ∷ ks) h = absurd h
 carries_no_send floor clock t n nothing (x ∷ xs) [] h = absurd h
@@ -115,7 +115,7 @@ sent_elsewhere t c d «end».Point «end».Vehicle f h = refl
 sent_elsewhere t c d «end».Point «end».Point f h = ap (λ b. if b then record { tick = t; frame = f } ∷ [] else []) h
 
 -- a frame sent in a call that isn't among these
-pub posted_elsewhere : (floor : ℕ) (clock : ℕ → ℕ) (t c : ℕ) (e : End) (f : Frame) (xs : List kept_call.Call) (ks : List Call) → CallsLag floor clock xs ks → place_of c (numbers_of ks) ≡ None → CallsLag floor clock xs (map (carries (one_sent t e c f)) ks)
+pub posted_elsewhere : (floor : LeastPassed) (clock : ℕ → ℕ) (t c : ℕ) (e : End) (f : Frame) (xs : List kept_call.Call) (ks : List Call) → CallsLag floor clock xs ks → place_of c (numbers_of ks) ≡ None → CallsLag floor clock xs (map (carries (one_sent t e c f)) ks)
 posted_elsewhere floor clock t c e f [] [] h none = tt
 posted_elsewhere floor clock t c e f [] (k ∷ ks) h none = absurd h
 posted_elsewhere floor clock t c e f (x ∷ xs) [] h none = absurd h
@@ -128,7 +128,7 @@ posted_elsewhere floor clock t c e f (x ∷ xs) (k ∷ ks) h none = at (posted_e
       further (next_place-none (place_of c (numbers_of ks)) (sym (place_behind c k.number (numbers_of ks) other) ∙ none)),
     )
 
-posted_here : (floor clock t c : ℕ) (e : End) (f : Frame) (x : kept_call.Call) (k : Call) → (k.number == c) ≡ true → CallLags floor clock x k → CallLags floor clock (pushed e (record { tick = t; frame = f }) x) (carries (one_sent t e c f) k)
+posted_here : (floor : LeastPassed) (clock t c : ℕ) (e : End) (f : Frame) (x : kept_call.Call) (k : Call) → (k.number == c) ≡ true → CallLags floor clock x k → CallLags floor clock (pushed e (record { tick = t; frame = f }) x) (carries (one_sent t e c f) k)
 posted_here floor clock t c «end».Vehicle f x k same h =
     record {
       number = h.number;
@@ -149,7 +149,7 @@ posted_here floor clock t c «end».Point f x k same h =
     }
 
 -- a frame sent in the call at i
-pub posted_at : (floor : ℕ) (clock : ℕ → ℕ) (n t c : ℕ) (e : End) (f : Frame) (xs : List kept_call.Call) (ks : List Call) (i : ℕ) (d : kept_call.Call) → CallsLag floor clock xs ks → AreAbove n (numbers_of ks) → place_of c (numbers_of ks) ≡ Some i → CallsLag floor clock (set xs i (pushed e (record { tick = t; frame = f }) (get_or xs i d))) (map (carries (one_sent t e c f)) ks)
+pub posted_at : (floor : LeastPassed) (clock : ℕ → ℕ) (n t c : ℕ) (e : End) (f : Frame) (xs : List kept_call.Call) (ks : List Call) (i : ℕ) (d : kept_call.Call) → CallsLag floor clock xs ks → AreAbove n (numbers_of ks) → place_of c (numbers_of ks) ≡ Some i → CallsLag floor clock (set xs i (pushed e (record { tick = t; frame = f }) (get_or xs i d))) (map (carries (one_sent t e c f)) ks)
 posted_at floor clock n t c e f [] [] i d h up place = cc
 posted_at floor clock n t c e f [] (k ∷ ks) i d h up place = absurd h
 posted_at floor clock n t c e f (x ∷ xs) [] i d h up place = absurd h
@@ -190,7 +190,7 @@ no_session c (k ∷ ks) none = at (no_session c ks) (k.number == c) refl
     at further true same = let first = place_first c k.number (numbers_of ks) same in cc
     at further false other = session_behind c k ks other ∙ further (next_place-none (place_of c (numbers_of ks)) (sym (place_behind c k.number (numbers_of ks) other) ∙ none))
 
-pub is_there : (floor : ℕ) (clock : ℕ → ℕ) (c : ℕ) (xs : List kept_call.Call) (ks : List Call) (i : ℕ) (d : kept_call.Call) → CallsLag floor clock xs ks → place_of c (numbers_of ks) ≡ Some i → is_some (get_or xs i d).session ≡ is_some (session_of c ks)
+pub is_there : (floor : LeastPassed) (clock : ℕ → ℕ) (c : ℕ) (xs : List kept_call.Call) (ks : List Call) (i : ℕ) (d : kept_call.Call) → CallsLag floor clock xs ks → place_of c (numbers_of ks) ≡ Some i → is_some (get_or xs i d).session ≡ is_some (session_of c ks)
 is_there floor clock c [] [] i d h place = cc
 is_there floor clock c [] (k ∷ ks) i d h place = absurd h
 is_there floor clock c (x ∷ xs) [] i d h place = absurd h
@@ -218,7 +218,7 @@ seated_nowhere c new (k ∷ ks) none = at (seated_nowhere c new ks) (k.number ==
         ap (λ b. if b then record k { session = new } ∷ ks else k ∷ seated c new ks) other
         ∙ ap (λ z. k ∷ z) (further (next_place-none (place_of c (numbers_of ks)) (sym (place_behind c k.number (numbers_of ks) other) ∙ none)))
 
-pub did_nowhere : (floor : ℕ) (clock : ℕ → ℕ) (c : ℕ) (row : Point → Row Point) (xs : List kept_call.Call) (ks : List Call) → CallsLag floor clock xs ks → place_of c (numbers_of ks) ≡ None → SessionDid floor clock false [] xs c row ks
+pub did_nowhere : (floor : LeastPassed) (clock : ℕ → ℕ) (c : ℕ) (row : Point → Row Point) (xs : List kept_call.Call) (ks : List Call) → CallsLag floor clock xs ks → place_of c (numbers_of ks) ≡ None → SessionDid floor clock false [] xs c row ks
 did_nowhere floor clock c row xs ks h none =
     record {
       items = ap (seat_items row) (sym (no_session c ks none));
@@ -228,7 +228,7 @@ did_nowhere floor clock c row xs ks h none =
     }
 
 -- the call at i did this, and its clock may have moved
-pub did_at : (floor : ℕ) (old new : ℕ → ℕ) (n c : ℕ) (row : Point → Row Point) (done : Bool) (given : List Note) (xs : List kept_call.Call) (ks : List Call) (i : ℕ) (d x' : kept_call.Call)
+pub did_at : (floor : LeastPassed) (old new : ℕ → ℕ) (n c : ℕ) (row : Point → Row Point) (done : Bool) (given : List Note) (xs : List kept_call.Call) (ks : List Call) (i : ℕ) (d x' : kept_call.Call)
     → CallsLag floor old xs ks
     → AreAbove n (numbers_of ks)
     → place_of c (numbers_of ks) ≡ Some i
@@ -279,14 +279,14 @@ did_at floor old new n c row done given (x ∷ xs) (k ∷ ks) i d x' h up place 
               (subst (λ z. CallLags floor z x k) (others k.number (eqb-false k.number c other)) h.0, rest.stands));
         })
 
--- the call at i of what is kept was passed up to its clock
-pub caught_at : (floor : ℕ) (clock : ℕ → ℕ) (c : ℕ) (xs : List kept_call.Call) (i : ℕ) (d : kept_call.Call) → IsCaught clock c xs → i < length xs → (get_or xs i d).number ≡ c → (get_or xs i d).passed ≡ clock c
+-- the call at i of what is kept was passed up to its clock, or is settled
+pub caught_at : (floor : LeastPassed) (clock : ℕ → ℕ) (c : ℕ) (xs : List kept_call.Call) (i : ℕ) (d : kept_call.Call) → IsCaught clock c xs → i < length xs → (get_or xs i d).number ≡ c → IsUpTo (clock c) (get_or xs i d)
 caught_at floor clock c [] i d h inside here = absurd (omega arith)
 caught_at floor clock c (x ∷ xs) zero d h inside here = h.0 here
 caught_at floor clock c (x ∷ xs) (suc i) d h inside here = caught_at floor clock c xs i d h.1 (omega arith) here
 
 -- where a call stands, by what the search found
-pub found_at : (floor : ℕ) (clock : ℕ → ℕ) (c : ℕ) (ys xs : List kept_call.Call) (ks : List Call) (r : Option ℕ) → ys ≡ xs → (AreAbove 0 (numbers ys) → r ≡ place_of c (numbers ys)) → CallsLag floor clock xs ks → AreAbove 0 (numbers_of ks) → place_of c (numbers_of ks) ≡ r
+pub found_at : (floor : LeastPassed) (clock : ℕ → ℕ) (c : ℕ) (ys xs : List kept_call.Call) (ks : List Call) (r : Option ℕ) → ys ≡ xs → (AreAbove 0 (numbers ys) → r ≡ place_of c (numbers ys)) → CallsLag floor clock xs ks → AreAbove 0 (numbers_of ks) → place_of c (numbers_of ks) ≡ r
 found_at floor clock c ys xs ks r e found h above =
     let same : numbers_of ks ≡ numbers ys = same_numbers floor clock xs ks h ∙ ap numbers (sym e) in
     ap (place_of c) same ∙ sym (found (subst (AreAbove 0) same above))
@@ -312,7 +312,7 @@ number_at (x ∷ xs) zero d h = refl
 number_at (x ∷ xs) (suc i) d h = number_at xs i d (omega arith)
 
 -- the call at the place has the number
-pub number_found : (floor : ℕ) (clock : ℕ → ℕ) (c : ℕ) (xs : List kept_call.Call) (ks : List Call) (i : ℕ) (d : kept_call.Call) → CallsLag floor clock xs ks → place_of c (numbers_of ks) ≡ Some i → i < length xs → (get_or xs i d).number ≡ c
+pub number_found : (floor : LeastPassed) (clock : ℕ → ℕ) (c : ℕ) (xs : List kept_call.Call) (ks : List Call) (i : ℕ) (d : kept_call.Call) → CallsLag floor clock xs ks → place_of c (numbers_of ks) ≡ Some i → i < length xs → (get_or xs i d).number ≡ c
 number_found floor clock c xs ks i d h place inside =
     sym (number_at xs i d inside) ∙ (place_within c (numbers xs) i (sym (ap (place_of c) (same_numbers floor clock xs ks h)) ∙ place)).1
 
@@ -321,7 +321,7 @@ on_ok (Ok a) f h = f h
 on_ok (Err e) f h = h
 
 -- where no call has this number, the clocks of all stood
-all_stood : (floor : ℕ) (old new : ℕ → ℕ) (c : ℕ) (xs : List kept_call.Call) (ks : List Call) → CallsLag floor old xs ks → place_of c (numbers_of ks) ≡ None → ((j : ℕ) → (j ≡ c → ⊥) → old j ≡ new j) → CallsLag floor new xs ks
+all_stood : (floor : LeastPassed) (old new : ℕ → ℕ) (c : ℕ) (xs : List kept_call.Call) (ks : List Call) → CallsLag floor old xs ks → place_of c (numbers_of ks) ≡ None → ((j : ℕ) → (j ≡ c → ⊥) → old j ≡ new j) → CallsLag floor new xs ks
 all_stood floor old new c [] [] h none others = tt
 all_stood floor old new c [] (k ∷ ks) h none others = absurd h
 all_stood floor old new c (x ∷ xs) [] h none others = absurd h
@@ -334,5 +334,5 @@ all_stood floor old new c (x ∷ xs) (k ∷ ks) h none others = at (all_stood fl
       further (next_place-none (place_of c (numbers_of ks)) (sym (place_behind c k.number (numbers_of ks) other) ∙ none)) others,
     )
 
-pub lags_elsewhere : (floor : ℕ) (old new : ℕ → ℕ) (n c : ℕ) (row : Point → Row Point) (xs : List kept_call.Call) (ks : List Call) → CallsLag floor old xs ks → AreAbove n (numbers_of ks) → place_of c (numbers_of ks) ≡ None → ((j : ℕ) → (j ≡ c → ⊥) → old j ≡ new j) → SessionDid floor new false [] xs c row ks
+pub lags_elsewhere : (floor : LeastPassed) (old new : ℕ → ℕ) (n c : ℕ) (row : Point → Row Point) (xs : List kept_call.Call) (ks : List Call) → CallsLag floor old xs ks → AreAbove n (numbers_of ks) → place_of c (numbers_of ks) ≡ None → ((j : ℕ) → (j ≡ c → ⊥) → old j ≡ new j) → SessionDid floor new false [] xs c row ks
 lags_elsewhere floor old new n c row xs ks h above none others = did_nowhere floor new c row xs ks (all_stood floor old new c xs ks h none others) none

@@ -11,7 +11,7 @@ use Rattle.channel_sim.specs.declared.channel.Channel as kept_channel
 use Rattle.channel_sim.specs.World.{Call, Due, World, call_of, due_frames, due_in}
 use Rattle.channel_sim.specs.inner.Acts.{due_by}
 use Rattle.channel_sim.specs.Handing.{flow_way, sent_way}
-use Rattle.channel_sim.specs.Lag.{CallLags, CallsLag, StandsAt}
+use Rattle.channel_sim.specs.Lag.{LeastPassed, CallLags, CallsLag, StandsAt}
 use Rattle.channel_sim.specs.Tidy.{CallInTime, AreFrom, numbers_of, ticks_of}
 use Rattle.channel_sim.specs.Quiet.{FramesRest}
 use Rattle.channel_sim.specs.inner.Places.{place_of}
@@ -213,7 +213,7 @@ due_call up d now i ks k e =
     ∙ ap (λ z. due_in (sent_way up) (suc d) now (take i ks) ++ z) (append-nil (due_frames k.number (suc d) now (sent_way up k)))
 
 -- what was sent in a call, as it is kept
-pub way_kept : (up : Bool) (floor clock : ℕ) (x : kept_call.Call) (k : Call) → CallLags floor clock x k → (if up then x.up else x.down) ≡ sent_way up k
+pub way_kept : (up : Bool) (floor : LeastPassed) (clock : ℕ) (x : kept_call.Call) (k : Call) → CallLags floor clock x k → (if up then x.up else x.down) ≡ sent_way up k
 way_kept true floor clock x k h = sym h.up
 way_kept false floor clock x k h = sym h.down
 
@@ -227,12 +227,12 @@ all_at sent zero now ks due tick some e h = absurd (some refl)
 all_at sent (suc d) now ks due tick some e h = h d ∙ ap (λ n. due_in sent (suc d) n ks) e
 
 -- the delay of a flow, as it is kept
-pub flow_kept : (up : Bool) (ahead floor : ℕ) (clock : ℕ → ℕ) (kept : kept_channel.Channel) (w : World) → StandsAt ahead floor clock kept w → (if up then kept.up_flow else kept.down_flow) ≡ flow_way up w
+pub flow_kept : (up : Bool) (ahead : ℕ) (floor : LeastPassed) (clock : ℕ → ℕ) (kept : kept_channel.Channel) (w : World) → StandsAt ahead floor clock kept w → (if up then kept.up_flow else kept.down_flow) ≡ flow_way up w
 flow_kept true ahead floor clock kept w s = sym s.up_flow
 flow_kept false ahead floor clock kept w s = sym s.down_flow
 
 -- the call at its place, as it is kept
-pub call_at : (floor : ℕ) (clock : ℕ → ℕ) (c : ℕ) (xs : List kept_call.Call) (ks : List Call) (i : ℕ) (d : kept_call.Call) → CallsLag floor clock xs ks → place_of c (numbers_of ks) ≡ Some i → (k : Call) × (call_of c ks ≡ Some k) × CallLags floor (clock k.number) (get_or xs i d) k
+pub call_at : (floor : LeastPassed) (clock : ℕ → ℕ) (c : ℕ) (xs : List kept_call.Call) (ks : List Call) (i : ℕ) (d : kept_call.Call) → CallsLag floor clock xs ks → place_of c (numbers_of ks) ≡ Some i → (k : Call) × (call_of c ks ≡ Some k) × CallLags floor (clock k.number) (get_or xs i d) k
 call_at floor clock c [] [] i d h place = cc
 call_at floor clock c [] (k ∷ ks) i d h place = absurd h
 call_at floor clock c (x ∷ xs) [] i d h place = absurd h

@@ -9,7 +9,7 @@ use Rattle.trace_model.specs.History.{Sent}
 use Rattle.channel_sim.specs.declared.channel.Channel as kept_channel
 use Rattle.channel_sim.specs.World.{World, Step, Session, InCall, Hears, Due, call_of, quiet_step, one_handed, performs, settled, point_is_in, vehicle_is_in, hands_up, hands_down}
 use Rattle.channel_sim.specs.Lines.{HandsUp, HandsDown, hands_one, or_nothing, sent_up, sent_down}
-use Rattle.channel_sim.specs.Lag.{VehicleLags, CallsLag, StandsAt, StandsNow, CameAt, CameNow}
+use Rattle.channel_sim.specs.Lag.{LeastPassed, level, VehicleLags, CallsLag, StandsAt, StandsNow, CameAt, CameNow}
 use Rattle.channel_sim.proofs.LineLemmas.{one_deed, in_call_performs}
 use Rattle.channel_sim.proofs.SessionLemmas.{no_session_step}
 
@@ -18,13 +18,13 @@ pub record Alike (s t : Step) : Type 0 where
   pub entries : s.entries ≡ t.entries
   pub world : s.world ≡ t.world
 
-pub came_alike : {Fault : Type 0} (Grew Partly : List Entry → Type 0) (result : Result (Unit {0}) Fault) (ahead floor : ℕ) (clock : ℕ → ℕ) (kept : kept_channel.Channel) (s t : Step) → Alike s t → CameAt Grew Partly result ahead floor clock kept t → CameAt Grew Partly result ahead floor clock kept s
+pub came_alike : {Fault : Type 0} (Grew Partly : List Entry → Type 0) (result : Result (Unit {0}) Fault) (ahead : ℕ) (floor : LeastPassed) (clock : ℕ → ℕ) (kept : kept_channel.Channel) (s t : Step) → Alike s t → CameAt Grew Partly result ahead floor clock kept t → CameAt Grew Partly result ahead floor clock kept s
 came_alike Grew Partly (Ok u) ahead floor clock kept s t h came = (subst Grew (sym h.entries) came.0, subst (StandsAt ahead floor clock kept) (sym h.world) came.1)
 came_alike Grew Partly (Err e) ahead floor clock kept s t h came = subst Partly (sym h.entries) came
 
-pub came_alike_now : {Fault : Type 0} (Grew Partly : List Entry → Type 0) (result : Result (Unit {0}) Fault) (kept : kept_channel.Channel) (s t : Step) → Alike s t → CameNow Grew Partly result kept t → CameNow Grew Partly result kept s
-came_alike_now Grew Partly (Ok u) kept s t h came = (subst Grew (sym h.entries) came.0, subst (StandsNow kept) (sym h.world) came.1)
-came_alike_now Grew Partly (Err e) kept s t h came = subst Partly (sym h.entries) came
+pub came_alike_now : {Fault : Type 0} (settled : ℕ) (Grew Partly : List Entry → Type 0) (result : Result (Unit {0}) Fault) (kept : kept_channel.Channel) (s t : Step) → Alike s t → CameNow Grew Partly result settled kept t → CameNow Grew Partly result settled kept s
+came_alike_now settled Grew Partly (Ok u) kept s t h came = (subst Grew (sym h.entries) came.0, subst (StandsNow settled kept) (sym h.world) came.1)
+came_alike_now settled Grew Partly (Err e) kept s t h came = subst Partly (sym h.entries) came
 
 pub alike_step : (s t u : Step) → s ≡ t → Alike t u → Alike s u
 alike_step s t u e h = record { entries = ap (λ (z : Step). z.entries) e ∙ h.entries; world = ap (λ (z : Step). z.world) e ∙ h.world }
@@ -77,7 +77,7 @@ down_line c place w frame e = at (vehicle_is_in c w) refl (slice_get (sent_down 
         (subst (λ g. Alike (hands_down d w) (performs (Hears (vehicle.Arrives g)) w)) (sym same) (down_alike d w f))
 
 -- what is kept with other calls that stand for the same
-pub with_calls : (ahead floor : ℕ) (clock : ℕ → ℕ) (kept moved : kept_channel.Channel) (w : World) → StandsAt ahead floor clock kept w → moved ≡ record kept { calls = moved.calls } → CallsLag floor clock moved.calls w.calls → StandsAt ahead floor clock moved w
+pub with_calls : (ahead : ℕ) (floor : LeastPassed) (clock : ℕ → ℕ) (kept moved : kept_channel.Channel) (w : World) → StandsAt ahead floor clock kept w → moved ≡ record kept { calls = moved.calls } → CallsLag floor clock moved.calls w.calls → StandsAt ahead floor clock moved w
 with_calls ahead floor clock kept moved w s same calls =
     record {
       tick = s.tick ∙ sym (ap (λ x. x.tick) same);
@@ -85,16 +85,16 @@ with_calls ahead floor clock kept moved w s same calls =
       up_flow = s.up_flow ∙ sym (ap (λ x. x.up_flow) same);
       down_flow = s.down_flow ∙ sym (ap (λ x. x.down_flow) same);
       passed = subst (λ n. n ≤ ahead) (sym (ap (λ x. x.passed) same)) s.passed;
-      from = subst (λ n. floor ≤ n) (sym (ap (λ x. x.passed) same)) s.from;
+      from = subst (λ n. floor.waking ≤ n) (sym (ap (λ x. x.passed) same)) s.from;
       vehicle = subst (λ x. VehicleLags (ahead - x.passed) x.vehicle w.vehicle) (sym same) s.vehicle;
       calls = calls;
       tidy = s.tidy;
     }
 
 -- all ends were caught up
-pub caught_all : (floor : ℕ) (kept moved : kept_channel.Channel) (w : World) → StandsAt kept.tick floor (λ c. kept.tick) kept w → moved ≡ record kept { calls = moved.calls } → kept.passed ≡ kept.tick → CallsLag kept.tick (λ c. kept.tick) moved.calls w.calls → StandsNow moved w
-caught_all floor kept moved w s same passed calls =
-    subst (λ x. StandsNow x w) (sym same)
+pub caught_all : (floor : LeastPassed) (settled : ℕ) (kept moved : kept_channel.Channel) (w : World) → StandsAt kept.tick floor (λ c. kept.tick) kept w → moved ≡ record kept { calls = moved.calls } → kept.passed ≡ kept.tick → CallsLag (level settled kept.tick) (λ c. kept.tick) moved.calls w.calls → StandsNow settled moved w
+caught_all floor settled kept moved w s same passed calls =
+    subst (λ x. StandsNow settled x w) (sym same)
     (record {
       tick = s.tick;
       drawn = s.drawn;

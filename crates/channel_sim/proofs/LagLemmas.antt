@@ -1,5 +1,5 @@
 -- Ends that lag and catch up.
-use Rattle.std.proofs.Common.{◌≡◌, ℕ, zero, suc, ◌+◌, ◌-◌, ◌<◌, ◌≤◌, true, false, List, [], Option, Some, None, IfSome, refl, ap, sym, ◌∙◌, subst, arith}
+use Rattle.std.proofs.Common.{◌≡◌, ℕ, zero, suc, ◌+◌, ◌-◌, ◌<◌, ◌≤◌, true, false, inl, List, [], Option, Some, None, IfSome, refl, ap, sym, ◌∙◌, subst, arith}
 use Rattle.std.specs.Option.{is_some}
 use Rattle.link_frames.specs.declared.note.Note.{Note}
 use Rattle.link_frames.specs.Row.{Row, silent}
@@ -15,7 +15,7 @@ use Rattle.channel_sim.specs.declared.calls.call.Call as kept_call
 use Rattle.channel_sim.specs.World.{Call}
 use Rattle.trace_fit.specs.Seats.{left_by}
 use Rattle.channel_sim.specs.inner.Acts.{CallDid, seat_items, seat_after}
-use Rattle.channel_sim.specs.Lag.{SessionLags, SeatLags, CallLags, VehicleLags}
+use Rattle.channel_sim.specs.Lag.{LeastPassed, SessionLags, SeatLags, CallLags, VehicleLags}
 use Rattle.channel_sim.proofs.SeatLemmas.{stands_now}
 use Rattle.channel_sim.proofs.EndJump.{point_acts, point_quiet, point_again, point_later, point_live, vehicle_acts, vehicle_quiet, vehicle_again, vehicle_later}
 
@@ -80,9 +80,9 @@ some_later n (Some due) h = omega arith
 
 -- What a session does at its unit tick, as it is kept.
 
-pub acted_over : (floor before tick : ℕ) (x : kept_call.Call) (k : Call) (row : Point → Row Point) (session : Session) (items : List Note)
+pub acted_over : (floor : LeastPassed) (before tick : ℕ) (x : kept_call.Call) (k : Call) (row : Point → Row Point) (session : Session) (items : List Note)
     → CallLags floor before x k
-    → floor ≤ tick
+    → floor.waking ≤ tick
     → x.session ≡ Some session
     → ((s : Point) → SessionLags (before - x.passed) session s → (items ≡ (row s).items) × (left_by (row s).new ≡ None))
     → CallDid floor tick true items (record x { session = None; passed = tick }) k row
@@ -101,14 +101,14 @@ acted_over floor before tick x k row session items h floor_up e did = at k.sessi
                 up = h.up;
                 down = h.down;
                 passed = omega arith;
-                from = floor_up;
+                from = inl floor_up;
                 session = subst (λ o. SeatLags (tick - tick) None o) (sym (ap (seat_after row) f ∙ (did s seat).1)) tt;
               };
         }
 
-pub acted_on : (floor before tick : ℕ) (x : kept_call.Call) (k : Call) (row : Point → Row Point) (session new : Session) (items : List Note)
+pub acted_on : (floor : LeastPassed) (before tick : ℕ) (x : kept_call.Call) (k : Call) (row : Point → Row Point) (session new : Session) (items : List Note)
     → CallLags floor before x k
-    → floor ≤ tick
+    → floor.waking ≤ tick
     → x.session ≡ Some session
     → ((s : Point) → SessionLags (before - x.passed) session s → (items ≡ (row s).items) × (left_by (row s).new ≡ Some (row s).new) × SessionStandsFor new (row s).new)
     → CallDid floor tick true items (record x { session = Some new; passed = tick }) k row
@@ -127,7 +127,7 @@ acted_on floor before tick x k row session new items h floor_up e did = at k.ses
                 up = h.up;
                 down = h.down;
                 passed = omega arith;
-                from = floor_up;
+                from = inl floor_up;
                 session =
                     subst (λ o. SeatLags (tick - tick) (Some new) o) (sym (ap (seat_after row) f ∙ (did s seat).1))
                     (stands_now (tick - tick) new (row s).new (omega arith) (did s seat).2 (did s seat).1);
@@ -135,7 +135,7 @@ acted_on floor before tick x k row session new items h floor_up e did = at k.ses
         }
 
 -- one that isn't due does nothing
-pub rested : (floor before tick : ℕ) (x : kept_call.Call) (k : Call) (session : Session)
+pub rested : (floor : LeastPassed) (before tick : ℕ) (x : kept_call.Call) (k : Call) (session : Session)
     → CallLags floor before x k
     → before + 1 ≡ tick
     → x.session ≡ Some session
@@ -177,7 +177,7 @@ rested floor before tick x k session h next e later = at k.session refl (subst (
               };
         }
 
-pub nobody_acts : (floor before tick : ℕ) (x : kept_call.Call) (k : Call) (row : Point → Row Point) → CallLags floor before x k → before ≤ tick → x.session ≡ None → CallDid floor tick false [] x k row
+pub nobody_acts : (floor : LeastPassed) (before tick : ℕ) (x : kept_call.Call) (k : Call) (row : Point → Row Point) → CallLags floor before x k → before ≤ tick → x.session ≡ None → CallDid floor tick false [] x k row
 nobody_acts floor before tick x k row h le e = at k.session refl (subst (λ o. SeatLags (before - x.passed) o k.session) e h.session)
   where
     at : (o : Option Point) → k.session ≡ o → SeatLags (before - x.passed) None o → CallDid floor tick false [] x k row

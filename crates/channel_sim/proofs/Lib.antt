@@ -4,6 +4,8 @@ pub mod Acts
 mod ArrivalLemmas
 mod AsleepLemmas
 mod AsleepTicks
+-- which ends were passed behind a line
+mod Behind
 -- what bounds the work of one line: at most so many passes and calls
 pub mod BoundLemmas
 -- the calls of a world, found by number, through all that changes them
@@ -36,6 +38,8 @@ mod PlayedLong
 mod Reached
 -- each line of a script keeps a world that fits
 pub mod Running
+-- a session that is settled and lags, and hears something
+mod RestLemmas
 mod SeatLemmas
 mod SendsLemmas
 mod SessionLemmas

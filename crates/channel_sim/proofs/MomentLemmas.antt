@@ -13,7 +13,7 @@ use Rattle.psap_machine.specs.PointRows as point
 use Rattle.channel_sim.specs.declared.calls.call.Call as kept_call
 use Rattle.channel_sim.specs.declared.channel.Channel as kept_channel
 use Rattle.channel_sim.specs.World.{Call, World, Step, quiet_step, and_then, vehicle_passes, sessions_pass, unit, units}
-use Rattle.channel_sim.specs.Lag.{SessionLags, SeatLags, VehicleLags, CallsLag, StandsAt}
+use Rattle.channel_sim.specs.Lag.{LeastPassed, SessionLags, SeatLags, VehicleLags, CallsLag, StandsAt}
 use Rattle.channel_sim.specs.Quiet.{SessionRests, CallRests, EndsRest, FramesRest, QuietFor, aged_call, aged_world}
 use Rattle.channel_sim.specs.Tidy.{CallInTime, HasLeg, IsTidy}
 use Rattle.channel_sim.proofs.SeatLemmas.{due_later}
@@ -54,7 +54,7 @@ seat_on m n None (Some s) h rests = absurd h
 seat_on m n (Some k) None h rests = absurd h
 seat_on m n (Some k) (Some s) h rests = session_on m n k s h rests
 
-pub calls_on : (floor t n : ℕ) (xs : List kept_call.Call) (ks : List Call) → CallsLag floor (λ c. t) xs ks → AllByRecursion (CallRests n) ks → CallsLag floor (λ c. t + n) xs (map (aged_call n) ks)
+pub calls_on : (floor : LeastPassed) (t n : ℕ) (xs : List kept_call.Call) (ks : List Call) → CallsLag floor (λ c. t) xs ks → AllByRecursion (CallRests n) ks → CallsLag floor (λ c. t + n) xs (map (aged_call n) ks)
 calls_on floor t n [] [] h rests = tt
 calls_on floor t n [] (k ∷ ks) h rests = absurd h
 calls_on floor t n (x ∷ xs) [] h rests = absurd h
@@ -87,7 +87,7 @@ in_time_more m n (k ∷ ks) le h = (
 )
 
 -- quiet ticks later, and one tick more, at which nobody was passed yet
-pub jumped : (floor n tick : ℕ) (kept : kept_channel.Channel) (w : World) → StandsAt kept.tick floor (λ c. kept.tick) kept w → QuietFor n w → kept.tick + n + 1 ≡ tick → StandsAt (kept.tick + n) floor (λ c. kept.tick + n) (record kept { tick = tick }) (record (aged_world n w) { tick = (aged_world n w).tick + 1 })
+pub jumped : (floor : LeastPassed) (n tick : ℕ) (kept : kept_channel.Channel) (w : World) → StandsAt kept.tick floor (λ c. kept.tick) kept w → QuietFor n w → kept.tick + n + 1 ≡ tick → StandsAt (kept.tick + n) floor (λ c. kept.tick + n) (record kept { tick = tick }) (record (aged_world n w) { tick = (aged_world n w).tick + 1 })
 jumped floor n tick kept w s quiet next =
     let within : kept.passed ≤ kept.tick = s.passed in
     let sum : (kept.tick - kept.passed) + n ≡ (kept.tick + n) - kept.passed = omega arith in
@@ -115,12 +115,12 @@ still_same m kept v h =
     let e : m + 0 ≡ m = omega arith in
     ap (vehicle.aged 0) h.aged ∙ vehicle_again m 0 h.was ∙ ap (λ k. vehicle.aged k h.was) e ∙ sym h.aged
 
-pub units_jump : (floor n : ℕ) (kept : kept_channel.Channel) (w : World) → StandsAt kept.tick floor (λ c. kept.tick) kept w → QuietFor n w → units (n + 1) w ≡ unit (aged_world n w)
+pub units_jump : (floor : LeastPassed) (n : ℕ) (kept : kept_channel.Channel) (w : World) → StandsAt kept.tick floor (λ c. kept.tick) kept w → QuietFor n w → units (n + 1) w ≡ unit (aged_world n w)
 units_jump floor n kept w s quiet =
     units_behind n 1 w s.tidy (still_same (kept.tick - kept.passed) kept.vehicle w.vehicle s.vehicle) quiet ∙ units_one (aged_world n w)
 
 -- quiet ticks up to one at which nothing happens either
-pub quiet_end : (floor n tick : ℕ) (kept : kept_channel.Channel) (w : World) → StandsAt kept.tick floor (λ c. kept.tick) kept w → QuietFor n w → kept.tick + n ≡ tick → (units n w ≡ quiet_step (aged_world n w)) × StandsAt tick floor (λ c. tick) (record kept { tick = tick }) (aged_world n w)
+pub quiet_end : (floor : LeastPassed) (n tick : ℕ) (kept : kept_channel.Channel) (w : World) → StandsAt kept.tick floor (λ c. kept.tick) kept w → QuietFor n w → kept.tick + n ≡ tick → (units n w ≡ quiet_step (aged_world n w)) × StandsAt tick floor (λ c. tick) (record kept { tick = tick }) (aged_world n w)
 quiet_end floor n tick kept w s quiet e =
     let within : kept.passed ≤ kept.tick = s.passed in
     let sum : (kept.tick - kept.passed) + n ≡ tick - kept.passed = omega arith in (
@@ -140,7 +140,7 @@ quiet_end floor n tick kept w s quiet e =
 
 -- Nothing happens in no tick.
 
-calls_rest : (floor t : ℕ) (xs : List kept_call.Call) (ks : List Call) → CallsLag floor (λ c. t) xs ks → AllByRecursion (CallRests 0) ks
+calls_rest : (floor : LeastPassed) (t : ℕ) (xs : List kept_call.Call) (ks : List Call) → CallsLag floor (λ c. t) xs ks → AllByRecursion (CallRests 0) ks
 calls_rest floor t [] [] h = tt
 calls_rest floor t [] (k ∷ ks) h = absurd h
 calls_rest floor t (x ∷ xs) [] h = absurd h
@@ -168,7 +168,7 @@ all_frames : (sent : Call → List Sent) (flow tick : ℕ) (ks : List Call) → 
 all_frames sent flow tick [] = tt
 all_frames sent flow tick (k ∷ ks) = (frames_rest flow tick (sent k), all_frames sent flow tick ks)
 
-quiet_none : (floor t : ℕ) (kept : kept_channel.Channel) (w : World) → StandsAt t floor (λ c. t) kept w → QuietFor 0 w
+quiet_none : (floor : LeastPassed) (t : ℕ) (kept : kept_channel.Channel) (w : World) → StandsAt t floor (λ c. t) kept w → QuietFor 0 w
 quiet_none floor t kept w s =
     record {
       ends = (vehicle_due_later w.vehicle, calls_rest floor t kept.calls w.calls s.calls);
@@ -177,7 +177,7 @@ quiet_none floor t kept w s =
     }
 
 -- up to the next moment it is quiet
-pub moment_quiet : (floor t next_due : ℕ) (kept : kept_channel.Channel) (w : World) → StandsAt t floor (λ c. t) kept w → ((n : ℕ) → t + n < next_due → QuietFor n w) → (n : ℕ) × (t + n + 1 ≡ max next_due (t + 1)) × QuietFor n w
+pub moment_quiet : (floor : LeastPassed) (t next_due : ℕ) (kept : kept_channel.Channel) (w : World) → StandsAt t floor (λ c. t) kept w → ((n : ℕ) → t + n < next_due → QuietFor n w) → (n : ℕ) × (t + n + 1 ≡ max next_due (t + 1)) × QuietFor n w
 moment_quiet floor t next_due kept w s quiet = at (nat_lt t next_due) refl
   where
     at : (b : Bool) → nat_lt t next_due ≡ b → (n : ℕ) × (t + n + 1 ≡ max next_due (t + 1)) × QuietFor n w
@@ -209,7 +209,7 @@ quiet_ends w tidy rests =
     quiet_then (vehicle_passes w) sessions_pass passed (record passed { calls = map (aged_call 1) w.calls })
     (quiet_vehicle w rests.0 tidy.legs) (quiet_sessions passed tidy.numbers legs rests.1)
 
-pub ends_stand : (floor before : ℕ) (kept : kept_channel.Channel) (w : World) → StandsAt before floor (λ c. before) kept w → before + 1 ≡ kept.tick → EndsRest 1 w → ((and_then (vehicle_passes w) sessions_pass).entries ≡ []) × StandsAt kept.tick floor (λ c. kept.tick) kept (and_then (vehicle_passes w) sessions_pass).world
+pub ends_stand : (floor : LeastPassed) (before : ℕ) (kept : kept_channel.Channel) (w : World) → StandsAt before floor (λ c. before) kept w → before + 1 ≡ kept.tick → EndsRest 1 w → ((and_then (vehicle_passes w) sessions_pass).entries ≡ []) × StandsAt kept.tick floor (λ c. kept.tick) kept (and_then (vehicle_passes w) sessions_pass).world
 ends_stand floor before kept w s next rests =
     let within : kept.passed ≤ before = s.passed in
     let sum : (before - kept.passed) + 1 ≡ kept.tick - kept.passed = omega arith in

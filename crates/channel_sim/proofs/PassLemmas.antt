@@ -15,7 +15,7 @@ use Rattle.channel_sim.specs.declared.channel.Channel as kept_channel
 use Rattle.channel_sim.specs.World.{Call, World, Step, quiet_step, vehicle_passes, settled, session_acts, session_of, seated, did, carries, with_legs}
 use Rattle.trace_fit.specs.Seats.{left_by}
 use Rattle.channel_sim.specs.inner.Acts.{SessionDid, IsReady, OtherHasLeg, seat_items, seat_after}
-use Rattle.channel_sim.specs.Lag.{AreSameBut, VehicleLags, CallLags, CallsLag, StandsAt, waits, clock_of}
+use Rattle.channel_sim.specs.Lag.{LeastPassed, AreSameBut, VehicleLags, CallLags, CallsLag, StandsAt, waits, clock_of}
 use Rattle.channel_sim.specs.Tidy.{AreAbove, HasLeg, numbers_of}
 use Rattle.channel_sim.proofs.ActLemmas.{did_done}
 use Rattle.channel_sim.proofs.CallsLemmas.{carries_none}
@@ -44,7 +44,7 @@ seated_legs ic c o (k ∷ ks) h there = at (k.number == c) (seated_legs ic c o k
     at false rest = (h.0, rest)
 
 -- a session that isn't due gives nothing
-pub rests_step : (ahead floor : ℕ) (old new : ℕ → ℕ) (kept moved : kept_channel.Channel) (w : World) (c : ℕ) (done : Bool) (given : List Note) (row : Point → Row Point)
+pub rests_step : (ahead : ℕ) (floor : LeastPassed) (old new : ℕ → ℕ) (kept moved : kept_channel.Channel) (w : World) (c : ℕ) (done : Bool) (given : List Note) (row : Point → Row Point)
     → StandsAt ahead floor old kept w
     → moved ≡ record kept { calls = moved.calls }
     → done ≡ false
@@ -115,14 +115,14 @@ all_wait : (ns : List ℕ) → AllByRecursion (λ c. waits c ns ≡ true) ns
 all_wait [] = tt
 all_wait (n ∷ ns) = (ap (λ b. b || waits n ns) (eq-eqb n n refl), all_still n ns ns (all_wait ns))
 
-begins : (floor before : ℕ) (ns : List ℕ) (xs : List kept_call.Call) (ks : List Call) → AllByRecursion (λ c. waits c ns ≡ true) (numbers_of ks) → CallsLag floor (λ c. before) xs ks → CallsLag floor (clock_of before ns) xs ks
+begins : (floor : LeastPassed) (before : ℕ) (ns : List ℕ) (xs : List kept_call.Call) (ks : List Call) → AllByRecursion (λ c. waits c ns ≡ true) (numbers_of ks) → CallsLag floor (λ c. before) xs ks → CallsLag floor (clock_of before ns) xs ks
 begins floor before ns [] [] all h = tt
 begins floor before ns [] (k ∷ ks) all h = absurd h
 begins floor before ns (x ∷ xs) [] all h = absurd h
 begins floor before ns (x ∷ xs) (k ∷ ks) all h =
     (subst (λ z. CallLags floor z x k) (sym (ap (λ b. if b then before else before + 1) all.0)) h.0, begins floor before ns xs ks all.1 h.1)
 
-pub clocks_begin : (floor before : ℕ) (ns : List ℕ) (xs : List kept_call.Call) (ks : List Call) → ns ≡ numbers_of ks → CallsLag floor (λ c. before) xs ks → CallsLag floor (clock_of before ns) xs ks
+pub clocks_begin : (floor : LeastPassed) (before : ℕ) (ns : List ℕ) (xs : List kept_call.Call) (ks : List Call) → ns ≡ numbers_of ks → CallsLag floor (λ c. before) xs ks → CallsLag floor (clock_of before ns) xs ks
 clocks_begin floor before ns xs ks e h = subst (λ z. CallsLag floor (clock_of before z) xs ks) (sym e) (begins floor before (numbers_of ks) xs ks (all_wait (numbers_of ks)) h)
 
 pub above_behind : (n : ℕ) (ns : List ℕ) (i d : ℕ) → AreAbove n ns → i < length ns → AreAbove (get_or ns i d) (drop (suc i) ns)
@@ -131,7 +131,7 @@ above_behind n (x ∷ ns) zero d h inside = h.1
 above_behind n (x ∷ ns) (suc i) d h inside = above_behind x ns i d h.1 (omega arith)
 
 -- another clock for the sessions
-pub reclocked : (ahead floor : ℕ) (old new : ℕ → ℕ) (kept : kept_channel.Channel) (w : World) → StandsAt ahead floor old kept w → CallsLag floor new kept.calls w.calls → StandsAt ahead floor new kept w
+pub reclocked : (ahead : ℕ) (floor : LeastPassed) (old new : ℕ → ℕ) (kept : kept_channel.Channel) (w : World) → StandsAt ahead floor old kept w → CallsLag floor new kept.calls w.calls → StandsAt ahead floor new kept w
 reclocked ahead floor old new kept w s calls =
     record {
       tick = s.tick;
@@ -146,7 +146,7 @@ reclocked ahead floor old new kept w s calls =
     }
 
 -- the vehicle did this at its unit tick
-pub vehicle_passed_ready : (floor before : ℕ) (clock : ℕ → ℕ) (kept moved : kept_channel.Channel) (w : World) (v : Vehicle) (call : Option ℕ)
+pub vehicle_passed_ready : (floor : LeastPassed) (before : ℕ) (clock : ℕ → ℕ) (kept moved : kept_channel.Channel) (w : World) (v : Vehicle) (call : Option ℕ)
     → StandsAt before floor clock kept w
     → before + 1 ≡ kept.tick
     → moved ≡ record kept { vehicle = moved.vehicle; passed = moved.passed }
@@ -155,7 +155,7 @@ pub vehicle_passed_ready : (floor before : ℕ) (clock : ℕ → ℕ) (kept move
     → call ≡ vehicle_call w.vehicle
     → IsReady kept.tick floor clock moved w v w.calls call
 vehicle_passed_ready floor before clock kept moved w v call s next same passed stands e =
-    let low : floor ≤ kept.passed = s.from in
+    let low : floor.waking ≤ kept.passed = s.from in
     let high : kept.passed ≤ before = s.passed in
     record {
       tick = s.tick ∙ sym (ap (λ x. x.tick) same);
@@ -173,7 +173,7 @@ vehicle_passed_ready floor before clock kept moved w v call s next same passed s
     }
 
 -- the vehicle did nothing at it
-pub vehicle_rests_stand : (floor before : ℕ) (clock : ℕ → ℕ) (kept : kept_channel.Channel) (w : World)
+pub vehicle_rests_stand : (floor : LeastPassed) (before : ℕ) (clock : ℕ → ℕ) (kept : kept_channel.Channel) (w : World)
     → StandsAt before floor clock kept w
     → before + 1 ≡ kept.tick
     → IfSome (vehicle.due_of w.vehicle) (λ due. 1 < due)

@@ -1,5 +1,5 @@
 -- A session of a call that lags, that hears something, or that acts.
-use Rattle.std.proofs.Common.{◌≡◌, ℕ, ◌-◌, ◌<◌, Bool, true, false, Option, Some, None, IfSome, List, [], ◌∷◌, refl, ap, sym, ◌∙◌, subst, arith}
+use Rattle.std.proofs.Common.{◌≡◌, ℕ, ◌-◌, ◌<◌, ◌≤◌, Bool, true, false, inl, inr, Option, Some, None, IfSome, List, [], ◌∷◌, refl, ap, sym, ◌∙◌, subst, arith}
 use Rattle.std.specs.Option.{is_some}
 use Rattle.link_frames.specs.declared.frame.End.TheVariants as «end»
 use Rattle.link_frames.specs.declared.note.Note.{Note}
@@ -15,7 +15,7 @@ use Rattle.channel_sim.specs.declared.calls.call.Call as kept_call
 use Rattle.channel_sim.specs.World.{Call}
 use Rattle.trace_fit.specs.Seats.{left_by, unless_over}
 use Rattle.channel_sim.specs.inner.Acts.{seat_items, seat_after, CallDid}
-use Rattle.channel_sim.specs.Lag.{SessionLags, SeatLags, CallLags}
+use Rattle.channel_sim.specs.Lag.{LeastPassed, SessionLags, SeatLags, CallLags, IsFrom}
 use Rattle.channel_sim.proofs.EndJump.{point_none}
 
 pub soonest_later : {A : Type 0} (ds : List (Deadline A)) → IfSome (soonest ds) (λ due. 0 < due)
@@ -54,8 +54,12 @@ stands_now n kept s e h live =
       live = live;
     }
 
+from_gone : (floor : LeastPassed) (x : kept_call.Call) → IsFrom floor x → IsFrom floor (record x { session = None })
+from_gone floor x (inl low) = inl low
+from_gone floor x (inr low) = inr (low.0, tt)
+
 -- What a session gives that hears something, and the call behind it.
-pub heard_over : (floor : ℕ) (clock : ℕ) (x : kept_call.Call) (k : Call) (row : Point → Row Point) (session new : Session) (items : List Note) (over : Bool)
+pub heard_over : (floor : LeastPassed) (clock : ℕ) (x : kept_call.Call) (k : Call) (row : Point → Row Point) (session new : Session) (items : List Note) (over : Bool)
     → CallLags floor clock x k
     → x.session ≡ Some session
     → ((s : Point) → SessionLags (clock - x.passed) session s → (items ≡ (row s).items) × (left_by (row s).new ≡ None))
@@ -75,19 +79,21 @@ heard_over floor clock x k row session new items over h e did = at k.session ref
                 up = h.up;
                 down = h.down;
                 passed = h.passed;
-                from = h.from;
+                from = from_gone floor x h.from;
                 session = subst (λ o. SeatLags (clock - x.passed) None o) (sym (ap (seat_after row) f ∙ (did s seat).1)) tt;
               };
         }
 
-pub heard_on : (floor : ℕ) (clock : ℕ) (x : kept_call.Call) (k : Call) (row : Point → Row Point) (session new : Session) (items : List Note)
+pub heard_on : (floor : LeastPassed) (clock passed : ℕ) (x : kept_call.Call) (k : Call) (row : Point → Row Point) (session new : Session) (items : List Note)
     → CallLags floor clock x k
     → x.session ≡ Some session
-    → ((s : Point) → SessionLags (clock - x.passed) session s → (items ≡ (row s).items) × (left_by (row s).new ≡ Some (row s).new) × SessionLags (clock - x.passed) new (row s).new)
-    → CallDid floor clock true items (record x { session = Some new }) k row
-heard_on floor clock x k row session new items h e did = at k.session refl (subst (λ o. SeatLags (clock - x.passed) o k.session) e h.session)
+    → passed ≤ clock
+    → IsFrom floor (record x { session = Some new; passed = passed })
+    → ((s : Point) → SessionLags (clock - x.passed) session s → (items ≡ (row s).items) × (left_by (row s).new ≡ Some (row s).new) × SessionLags (clock - passed) new (row s).new)
+    → CallDid floor clock true items (record x { session = Some new; passed = passed }) k row
+heard_on floor clock passed x k row session new items h e within from did = at k.session refl (subst (λ o. SeatLags (clock - x.passed) o k.session) e h.session)
   where
-    at : (o : Option Point) → k.session ≡ o → SeatLags (clock - x.passed) (Some session) o → CallDid floor clock true items (record x { session = Some new }) k row
+    at : (o : Option Point) → k.session ≡ o → SeatLags (clock - x.passed) (Some session) o → CallDid floor clock true items (record x { session = Some new; passed = passed }) k row
     at None f seat = absurd seat
     at (Some s) f seat =
         record {
@@ -99,14 +105,14 @@ heard_on floor clock x k row session new items h e did = at k.session refl (subs
                 number = h.number;
                 up = h.up;
                 down = h.down;
-                passed = h.passed;
-                from = h.from;
-                session = subst (λ o. SeatLags (clock - x.passed) (Some new) o) (sym (ap (seat_after row) f ∙ (did s seat).1)) (did s seat).2;
+                passed = within;
+                from = from;
+                session = subst (λ o. SeatLags (clock - passed) (Some new) o) (sym (ap (seat_after row) f ∙ (did s seat).1)) (did s seat).2;
               };
         }
 
 -- where there is no session, nobody does anything
-pub none_did : (floor : ℕ) (clock : ℕ) (x : kept_call.Call) (k : Call) (row : Point → Row Point) → CallLags floor clock x k → x.session ≡ None → CallDid floor clock false [] x k row
+pub none_did : (floor : LeastPassed) (clock : ℕ) (x : kept_call.Call) (k : Call) (row : Point → Row Point) → CallLags floor clock x k → x.session ≡ None → CallDid floor clock false [] x k row
 none_did floor clock x k row h e = at k.session refl (subst (λ o. SeatLags (clock - x.passed) o k.session) e h.session)
   where
     at : (o : Option Point) → k.session ≡ o → SeatLags (clock - x.passed) None o → CallDid floor clock false [] x k row
@@ -136,7 +142,7 @@ call_aged n s Talking = refl
 call_aged n s (Clearing r) = refl
 call_aged n s Over = refl
 
-phase_aged : (n : ℕ) (s : Point) (p : Phase) → (aged_in n s p).phase ≡ s.phase
+pub phase_aged : (n : ℕ) (s : Point) (p : Phase) → (aged_in n s p).phase ≡ s.phase
 phase_aged n s Listening = refl
 phase_aged n s (Asking r) = refl
 phase_aged n s (Telling r) = refl
@@ -162,3 +168,11 @@ ended n kept s h =
     let was = ends_in h.was h.was.phase refl (λ e. live_now s h.live (ap (λ z. z.phase) h.aged ∙ phase_aged n h.was h.was.phase ∙ e)) in
     let call : s.call ≡ h.was.call = ap (λ z. z.call) h.aged ∙ call_aged n h.was h.was.phase in
     (now.0 ∙ ap (λ z. note.Down «end».Point z why.Release ∷ []) call ∙ sym was.0, was.1, now.2)
+
+-- there is a session, and that cannot be
+pub no_seat : {A : Type 0} (floor : LeastPassed) (clock : ℕ) (x : kept_call.Call) (k : Call) (session : Session) → CallLags floor clock x k → x.session ≡ Some session → ((s : Point) → SessionLags (clock - x.passed) session s → ⊥) → A
+no_seat {A = A} floor clock x k session h e never = at k.session (subst (λ o. SeatLags (clock - x.passed) o k.session) e h.session)
+  where
+    at : (o : Option Point) → SeatLags (clock - x.passed) (Some session) o → A
+    at None seat = absurd seat
+    at (Some s) seat = absurd (never s seat)

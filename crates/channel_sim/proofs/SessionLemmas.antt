@@ -10,7 +10,7 @@ use Rattle.psap_machine.specs.Point.{Point}
 use Rattle.channel_sim.specs.declared.channel.Channel as kept_channel
 use Rattle.channel_sim.specs.World.{Call, World, quiet_step, did, seated, call_of, session_in, session_of, session_acts, settled}
 use Rattle.channel_sim.specs.inner.Acts.{OtherHasLeg, IsReady, SessionDid, seat_items, seat_after}
-use Rattle.channel_sim.specs.Lag.{VehicleLags, CallsLag, StandsAt}
+use Rattle.channel_sim.specs.Lag.{LeastPassed, VehicleLags, CallsLag, StandsAt}
 use Rattle.channel_sim.specs.Tidy.{HasLeg, CallInTime, numbers_of, AreAbove}
 
 pub seated_numbers : (c : ℕ) (new : Option Point) (ks : List Call) → numbers_of (seated c new ks) ≡ numbers_of ks
@@ -45,7 +45,7 @@ seated_others ic c new (k ∷ ks) h = at (k.number == c) refl (seated_others ic 
     at false apart rest = ((λ other. h.0), rest)
 
 -- the session of this call became another, or left
-pub seated_ready : (ahead floor : ℕ) (old new : ℕ → ℕ) (kept moved : kept_channel.Channel) (w : World) (c : ℕ) (after : Option Point)
+pub seated_ready : (ahead : ℕ) (floor : LeastPassed) (old new : ℕ → ℕ) (kept moved : kept_channel.Channel) (w : World) (c : ℕ) (after : Option Point)
     → StandsAt ahead floor old kept w
     → moved ≡ record kept { calls = moved.calls }
     → CallsLag floor new moved.calls (seated c after w.calls)
@@ -57,7 +57,7 @@ seated_ready ahead floor old new kept moved w c after s same calls =
       up_flow = s.up_flow ∙ sym (ap (λ x. x.up_flow) same);
       down_flow = s.down_flow ∙ sym (ap (λ x. x.down_flow) same);
       passed = subst (λ n. n ≤ ahead) (sym (ap (λ x. x.passed) same)) s.passed;
-      from = subst (λ n. floor ≤ n) (sym (ap (λ x. x.passed) same)) s.from;
+      from = subst (λ n. floor.waking ≤ n) (sym (ap (λ x. x.passed) same)) s.from;
       vehicle = subst (λ x. VehicleLags (ahead - x.passed) x.vehicle w.vehicle) (sym same) s.vehicle;
       calls = calls;
       numbers = subst (AreAbove 0) (sym (seated_numbers c after w.calls)) s.tidy.numbers;
@@ -67,7 +67,7 @@ seated_ready ahead floor old new kept moved w c after s same calls =
     }
 
 -- a session of this call did this
-pub session_ready : (ahead floor : ℕ) (old new : ℕ → ℕ) (kept moved : kept_channel.Channel) (w : World) (c : ℕ) (done : Bool) (given : List Note) (row : Point → Row Point)
+pub session_ready : (ahead : ℕ) (floor : LeastPassed) (old new : ℕ → ℕ) (kept moved : kept_channel.Channel) (w : World) (c : ℕ) (done : Bool) (given : List Note) (row : Point → Row Point)
     → StandsAt ahead floor old kept w
     → moved ≡ record kept { calls = moved.calls }
     → SessionDid floor new done given moved.calls c row w.calls
@@ -108,7 +108,7 @@ seated_same c (k ∷ ks) none = at (k.number == c) refl (seated_same c ks)
         ∙ ap (λ z. k ∷ z) (rest (sym (ap (λ b. session_in (if b then Some k else call_of c ks)) apart) ∙ none))
 
 -- where there is no session, what is kept stands for the same world
-pub nobody_did : (ahead : ℕ) (floor : ℕ) (old new : ℕ → ℕ) (kept moved : kept_channel.Channel) (w : World) (c : ℕ) (done : Bool) (given : List Note) (row : Point → Row Point)
+pub nobody_did : (ahead : ℕ) (floor : LeastPassed) (old new : ℕ → ℕ) (kept moved : kept_channel.Channel) (w : World) (c : ℕ) (done : Bool) (given : List Note) (row : Point → Row Point)
     → StandsAt ahead floor old kept w
     → moved ≡ record kept { calls = moved.calls }
     → is_some (session_of c w.calls) ≡ false
@@ -122,7 +122,7 @@ nobody_did ahead floor old new kept moved w c done given row s same gone did =
       up_flow = s.up_flow ∙ sym (ap (λ x. x.up_flow) same);
       down_flow = s.down_flow ∙ sym (ap (λ x. x.down_flow) same);
       passed = subst (λ n. n ≤ ahead) (sym (ap (λ x. x.passed) same)) s.passed;
-      from = subst (λ n. floor ≤ n) (sym (ap (λ x. x.passed) same)) s.from;
+      from = subst (λ n. floor.waking ≤ n) (sym (ap (λ x. x.passed) same)) s.from;
       vehicle = subst (λ x. VehicleLags (ahead - x.passed) x.vehicle w.vehicle) (sym same) s.vehicle;
       calls = subst (CallsLag floor new moved.calls) (ap (λ o. seated c (seat_after row o) w.calls) none ∙ seated_same c w.calls none) did.stands;
       tidy = s.tidy;

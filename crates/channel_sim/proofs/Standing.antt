@@ -1,5 +1,5 @@
 -- Between lines: what is kept stands for the world, with no end that lags.
-use Rattle.std.proofs.Common.{◌≡◌, ℕ, ◌-◌, ◌≤◌, ◌==◌, if◌then◌else◌, Bool, true, false, get_or, Option, Some, None, List, [], ◌∷◌, refl, sym, ◌∙◌, subst, arith}
+use Rattle.std.proofs.Common.{◌≡◌, ℕ, ◌-◌, ◌≤◌, ◌==◌, if◌then◌else◌, Bool, true, false, inl, inr, get_or, Option, Some, None, List, [], ◌∷◌, refl, sym, ◌∙◌, subst, arith}
 use Rattle.psap_machine.specs.declared.session.Session.{Session}
 use Rattle.psap_machine.specs.Point.{Point}
 use Rattle.channel_sim.specs.declared.calls.call.Call as kept_call
@@ -11,7 +11,7 @@ use Rattle.channel_sim.specs.inner.Places.{place_of}
 use Rattle.channel_sim.specs.Tidy.{numbers_of}
 use Rattle.channel_sim.proofs.PlaceLemmas.{next_place-some, place_first, place_behind}
 use Rattle.channel_sim.specs.WorldStands.{FoundStandsFor, CallsStandFor, ChannelStandsFor}
-use Rattle.channel_sim.specs.Lag.{SeatLags, CallsLag, StandsNow}
+use Rattle.channel_sim.specs.Lag.{SeatLags, CallsLag, IsFrom, StandsNow, level}
 use Rattle.channel_sim.proofs.SeatLemmas.{lag_none, stands_now}
 use Rattle.channel_sim.proofs.VehicleLemmas.{vehicle_lag_none, vehicle_stands_now}
 
@@ -27,29 +27,33 @@ seat_found n None (Some p) e h = absurd h
 seat_found n (Some s) None e h = absurd h
 seat_found n (Some s) (Some p) e h = (lag_none n s p e h, h.live)
 
-calls_now : (tick : ℕ) (xs : List kept_call.Call) (ks : List Call) → CallsStandFor tick xs ks → CallsLag tick (λ c. tick) xs ks
-calls_now tick [] [] h = tt
-calls_now tick [] (k ∷ ks) h = absurd h
-calls_now tick (x ∷ xs) [] h = absurd h
-calls_now tick (x ∷ xs) (k ∷ ks) h =
+calls_now : (settled tick : ℕ) (xs : List kept_call.Call) (ks : List Call) → CallsStandFor tick xs ks → CallsLag (level settled tick) (λ c. tick) xs ks
+calls_now settled tick [] [] h = tt
+calls_now settled tick [] (k ∷ ks) h = absurd h
+calls_now settled tick (x ∷ xs) [] h = absurd h
+calls_now settled tick (x ∷ xs) (k ∷ ks) h =
     let passed : x.passed ≡ tick = h.0.passed in (
       record {
         number = h.0.number;
         up = h.0.up;
         down = h.0.down;
         passed = omega arith;
-        from = omega arith;
+        from = inl (omega arith);
         session = seat_now (tick - x.passed) x.session k.session (omega arith) h.0.session;
       },
-      calls_now tick xs ks h.1,
+      calls_now settled tick xs ks h.1,
     )
 
-calls_found : (tick : ℕ) (xs : List kept_call.Call) (ks : List Call) → CallsLag tick (λ c. tick) xs ks → CallsStandFor tick xs ks
-calls_found tick [] [] h = tt
-calls_found tick [] (k ∷ ks) h = absurd h
-calls_found tick (x ∷ xs) [] h = absurd h
-calls_found tick (x ∷ xs) (k ∷ ks) h =
-    let low : tick ≤ x.passed = h.0.from in
+exact_from : (settled tick : ℕ) (x : kept_call.Call) → tick ≤ settled → IsFrom (level settled tick) x → tick ≤ x.passed
+exact_from settled tick x exact (inl low) = low
+exact_from settled tick x exact (inr low) = let from : settled ≤ x.passed = low.0 in omega arith
+
+calls_found : (settled tick : ℕ) (xs : List kept_call.Call) (ks : List Call) → tick ≤ settled → CallsLag (level settled tick) (λ c. tick) xs ks → CallsStandFor tick xs ks
+calls_found settled tick [] [] exact h = tt
+calls_found settled tick [] (k ∷ ks) exact h = absurd h
+calls_found settled tick (x ∷ xs) [] exact h = absurd h
+calls_found settled tick (x ∷ xs) (k ∷ ks) exact h =
+    let low : tick ≤ x.passed = exact_from settled tick x exact h.0.from in
     let high : x.passed ≤ tick = h.0.passed in (
       record {
         number = h.0.number;
@@ -58,11 +62,11 @@ calls_found tick (x ∷ xs) (k ∷ ks) h =
         session = seat_found (tick - x.passed) x.session k.session (omega arith) h.0.session;
         passed = omega arith;
       },
-      calls_found tick xs ks h.1,
+      calls_found settled tick xs ks exact h.1,
     )
 
-pub now_stands : (kept : kept_channel.Channel) (w : World) → ChannelStandsFor kept w → StandsNow kept w
-now_stands kept w h =
+pub now_stands : (settled : ℕ) (kept : kept_channel.Channel) (w : World) → ChannelStandsFor kept w → StandsNow settled kept w
+now_stands settled kept w h =
     let passed : kept.passed ≡ kept.tick = h.passed in
     record {
       tick = h.tick;
@@ -72,12 +76,12 @@ now_stands kept w h =
       passed = omega arith;
       from = omega arith;
       vehicle = vehicle_stands_now (kept.tick - kept.passed) kept.vehicle w.vehicle (omega arith) h.vehicle;
-      calls = calls_now kept.tick kept.calls w.calls h.calls;
+      calls = calls_now settled kept.tick kept.calls w.calls h.calls;
       tidy = h.tidy;
     }
 
-pub stands_then : (kept : kept_channel.Channel) (w : World) → StandsNow kept w → ChannelStandsFor kept w
-stands_then kept w s =
+pub stands_then : (settled : ℕ) (kept : kept_channel.Channel) (w : World) → kept.tick ≤ settled → StandsNow settled kept w → ChannelStandsFor kept w
+stands_then settled kept w exact s =
     let low : kept.tick ≤ kept.passed = s.from in
     let high : kept.passed ≤ kept.tick = s.passed in
     record {
@@ -87,14 +91,14 @@ stands_then kept w s =
       down_flow = s.down_flow;
       vehicle = vehicle_lag_none (kept.tick - kept.passed) kept.vehicle w.vehicle (omega arith) s.vehicle;
       passed = omega arith;
-      calls = calls_found kept.tick kept.calls w.calls s.calls;
+      calls = calls_found settled kept.tick kept.calls w.calls exact s.calls;
       tidy = s.tidy;
     }
 
 -- a flow is set
-pub flow_stands : (b : Bool) (d : ℕ) (kept moved : kept_channel.Channel) (w : World) → StandsNow kept w → moved ≡ (if b then record kept { up_flow = d } else record kept { down_flow = d }) → ((happens (happening.Flow b d) w).entries ≡ []) × StandsNow moved (happens (happening.Flow b d) w).world
-flow_stands true d kept moved w s same =
-    subst (λ x. ((quiet_step w).entries ≡ []) × StandsNow x (record w { up_flow = d })) (sym same) (
+pub flow_stands : (settled : ℕ) (b : Bool) (d : ℕ) (kept moved : kept_channel.Channel) (w : World) → StandsNow settled kept w → moved ≡ (if b then record kept { up_flow = d } else record kept { down_flow = d }) → ((happens (happening.Flow b d) w).entries ≡ []) × StandsNow settled moved (happens (happening.Flow b d) w).world
+flow_stands settled true d kept moved w s same =
+    subst (λ x. ((quiet_step w).entries ≡ []) × StandsNow settled x (record w { up_flow = d })) (sym same) (
       refl,
       record {
         tick = s.tick;
@@ -108,8 +112,8 @@ flow_stands true d kept moved w s same =
         tidy = s.tidy;
       },
     )
-flow_stands false d kept moved w s same =
-    subst (λ x. ((quiet_step w).entries ≡ []) × StandsNow x (record w { down_flow = d })) (sym same) (
+flow_stands settled false d kept moved w s same =
+    subst (λ x. ((quiet_step w).entries ≡ []) × StandsNow settled x (record w { down_flow = d })) (sym same) (
       refl,
       record {
         tick = s.tick;

@@ -9,7 +9,7 @@ use Rattle.channel_sim.specs.declared.calls.call.Call as kept_call
 use Rattle.channel_sim.specs.declared.calls.counts.Counts.{Counts}
 use Rattle.channel_sim.specs.declared.sends.KeptSent.{KeptSent}
 use Rattle.channel_sim.specs.Handing.{sent_way}
-use Rattle.channel_sim.specs.Lag.{CallLags, CallsLag}
+use Rattle.channel_sim.specs.Lag.{LeastPassed, CallLags, CallsLag}
 use Rattle.channel_sim.specs.Sends.{sent_of}
 use Rattle.channel_sim.specs.Tidy.{ticks_of}
 use Rattle.channel_sim.specs.World.{Call, due_in}
@@ -212,12 +212,12 @@ ticks_before : (tick : ℕ) (xs : List Sent) → AllByRecursion (λ s. s.tick < 
 ticks_before tick [] h = tt
 ticks_before tick (x ∷ xs) h = (h.0, ticks_before tick xs h.1)
 
-way_before : (up : Bool) (floor clock tick : ℕ) (x : kept_call.Call) (k : Call) → CallLags floor clock x k → IsBefore tick x → AllByRecursion (λ (s : Sent). s.tick < tick) (sent_way up k)
+way_before : (up : Bool) (floor : LeastPassed) (clock tick : ℕ) (x : kept_call.Call) (k : Call) → CallLags floor clock x k → IsBefore tick x → AllByRecursion (λ (s : Sent). s.tick < tick) (sent_way up k)
 way_before true floor clock tick x k h before = subst (AllByRecursion (λ (s : Sent). s.tick < tick)) (sym h.up) before.up
 way_before false floor clock tick x k h before = subst (AllByRecursion (λ (s : Sent). s.tick < tick)) (sym h.down) before.down
 
 -- of calls in which all was sent earlier, nothing is due
-pub none_of_front : (up : Bool) (d tick floor : ℕ) (clock : ℕ → ℕ) (f : ℕ) (xs : List kept_call.Call) (ks : List Call) → CallsLag floor clock xs ks → AllByRecursion (IsBefore tick) (take f xs) → due_in (sent_way up) (suc d) (tick + suc d) (drop f ks) ≡ due_in (sent_way up) (suc d) (tick + suc d) ks
+pub none_of_front : (up : Bool) (d tick : ℕ) (floor : LeastPassed) (clock : ℕ → ℕ) (f : ℕ) (xs : List kept_call.Call) (ks : List Call) → CallsLag floor clock xs ks → AllByRecursion (IsBefore tick) (take f xs) → due_in (sent_way up) (suc d) (tick + suc d) (drop f ks) ≡ due_in (sent_way up) (suc d) (tick + suc d) ks
 none_of_front up d tick floor clock zero xs ks h before = refl
 none_of_front up d tick floor clock (suc f) [] [] h before = refl
 none_of_front up d tick floor clock (suc f) [] (k ∷ ks) h before = absurd h

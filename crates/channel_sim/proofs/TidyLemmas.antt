@@ -15,7 +15,7 @@ use Rattle.channel_sim.specs.declared.calls.call.Call as kept_call
 use Rattle.channel_sim.specs.World.{Call, with_legs, carries}
 use Rattle.trace_fit.specs.Seats.{is_number}
 use Rattle.channel_sim.specs.inner.Acts.{OtherHasLeg}
-use Rattle.channel_sim.specs.Lag.{CallsLag}
+use Rattle.channel_sim.specs.Lag.{LeastPassed, CallsLag}
 use Rattle.channel_sim.specs.inner.Places.{place_of}
 use Rattle.channel_sim.specs.Tidy.{AreAbove, AreFrom, ticks_of, HasLeg, InTime, CallInTime, numbers_of}
 use Rattle.channel_sim.proofs.CallsLemmas.{seat_there}
@@ -110,7 +110,7 @@ flipped a b e = at (b == a) refl
     at true f = absurd (eqb-false a b e (sym (eqb-true b a f)))
 
 -- the concerned call has its session
-pub session_has : (ic : Option ℕ) (floor : ℕ) (clock : ℕ → ℕ) (n c : ℕ) (xs : List kept_call.Call) (ks : List Call) (i : ℕ) (d : kept_call.Call) → CallsLag floor clock xs ks → AreAbove n (numbers_of ks) → place_of c (numbers_of ks) ≡ Some i → AllByRecursion (OtherHasLeg ic (Some c)) ks → is_some (get_or xs i d).session ≡ true → with_legs ic ks ≡ ks
+pub session_has : (ic : Option ℕ) (floor : LeastPassed) (clock : ℕ → ℕ) (n c : ℕ) (xs : List kept_call.Call) (ks : List Call) (i : ℕ) (d : kept_call.Call) → CallsLag floor clock xs ks → AreAbove n (numbers_of ks) → place_of c (numbers_of ks) ≡ Some i → AllByRecursion (OtherHasLeg ic (Some c)) ks → is_some (get_or xs i d).session ≡ true → with_legs ic ks ≡ ks
 session_has ic floor clock n c [] [] i d h up place others there = refl
 session_has ic floor clock n c [] (k ∷ ks) i d h up place others there = absurd h
 session_has ic floor clock n c (x ∷ xs) [] i d h up place others there = absurd h
@@ -137,7 +137,7 @@ session_has ic floor clock n c (x ∷ xs) (k ∷ ks) i d h up place others there
         kept (further next.0 next.1 (subst (λ z. is_some (get_or (x ∷ xs) z d).session ≡ true) next.2 there)) (others.0 (flipped k.number c other))
 
 -- the concerned call lost its last leg
-pub dropped_at : (ic : Option ℕ) (floor : ℕ) (clock : ℕ → ℕ) (n c : ℕ) (xs : List kept_call.Call) (ks : List Call) (i : ℕ) (d : kept_call.Call) → CallsLag floor clock xs ks → AreAbove n (numbers_of ks) → place_of c (numbers_of ks) ≡ Some i → AllByRecursion (OtherHasLeg ic (Some c)) ks → is_some (get_or xs i d).session ≡ false → is_number c ic ≡ false → CallsLag floor clock (remove xs i) (with_legs ic ks)
+pub dropped_at : (ic : Option ℕ) (floor : LeastPassed) (clock : ℕ → ℕ) (n c : ℕ) (xs : List kept_call.Call) (ks : List Call) (i : ℕ) (d : kept_call.Call) → CallsLag floor clock xs ks → AreAbove n (numbers_of ks) → place_of c (numbers_of ks) ≡ Some i → AllByRecursion (OtherHasLeg ic (Some c)) ks → is_some (get_or xs i d).session ≡ false → is_number c ic ≡ false → CallsLag floor clock (remove xs i) (with_legs ic ks)
 dropped_at ic floor clock n c [] [] i d h up place others gone out = cc
 dropped_at ic floor clock n c [] (k ∷ ks) i d h up place others gone out = absurd h
 dropped_at ic floor clock n c (x ∷ xs) [] i d h up place others gone out = absurd h

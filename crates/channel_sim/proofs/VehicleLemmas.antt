@@ -13,7 +13,7 @@ use Rattle.channel_sim.specs.declared.channel.Channel as kept_channel
 use Rattle.channel_sim.specs.World.{Call, World}
 use Rattle.trace_fit.specs.Seats.{is_number}
 use Rattle.channel_sim.specs.inner.Acts.{OtherHasLeg, IsReady}
-use Rattle.channel_sim.specs.Lag.{VehicleLags, StandsAt}
+use Rattle.channel_sim.specs.Lag.{LeastPassed, VehicleLags, StandsAt}
 use Rattle.channel_sim.specs.Tidy.{HasLeg}
 use Rattle.channel_sim.proofs.Jump.{call_stays}
 use Rattle.channel_sim.proofs.SeatLemmas.{soonest_later}
@@ -52,7 +52,7 @@ legs_others was now (k ∷ ks) h = (one, legs_others was now ks h.1)
         ap (λ z. is_number k.number now || z) session ∙ or_true (is_number k.number now)
 
 -- a vehicle that doesn't lag did this
-pub vehicle_ready : (ahead : ℕ) (floor : ℕ) (clock : ℕ → ℕ) (kept : kept_channel.Channel) (w : World) (new : Ivs) (v : Vehicle) (call : Option ℕ)
+pub vehicle_ready : (ahead : ℕ) (floor : LeastPassed) (clock : ℕ → ℕ) (kept : kept_channel.Channel) (w : World) (new : Ivs) (v : Vehicle) (call : Option ℕ)
     → StandsAt ahead floor clock kept w
     → ahead ≡ kept.passed
     → IvsStandsFor new v
@@ -74,7 +74,7 @@ vehicle_ready ahead floor clock kept w new v call s caught stands e =
       frames = s.tidy.frames;
     }
 
-pub vehicle_is : (ahead : ℕ) (floor : ℕ) (clock : ℕ → ℕ) (kept : kept_channel.Channel) (w : World) → StandsAt ahead floor clock kept w → ahead ≡ kept.passed → IvsStandsFor kept.vehicle w.vehicle
+pub vehicle_is : (ahead : ℕ) (floor : LeastPassed) (clock : ℕ → ℕ) (kept : kept_channel.Channel) (w : World) → StandsAt ahead floor clock kept w → ahead ≡ kept.passed → IvsStandsFor kept.vehicle w.vehicle
 vehicle_is ahead floor clock kept w s caught = vehicle_lag_none (ahead - kept.passed) kept.vehicle w.vehicle (omega arith) s.vehicle
 
 -- the call of a vehicle that lags is that of the model's

@@ -6,7 +6,7 @@ use Rattle.ivs_machine.specs.Vehicle.{Vehicle}
 use Rattle.ivs_machine.specs.VehicleRows as vehicle
 use Rattle.channel_sim.specs.declared.channel.Channel as kept_channel
 use Rattle.channel_sim.specs.World.{Call, World}
-use Rattle.channel_sim.specs.Lag.{StandsAt}
+use Rattle.channel_sim.specs.Lag.{LeastPassed, StandsAt}
 use Rattle.channel_sim.specs.Quiet.{CallRests, FramesRest, IsQuietCall, QuietFor, EndsRest, UpRests, DownRests}
 use Rattle.channel_sim.specs.Tidy.{CallInTime}
 use Rattle.channel_sim.proofs.EndJump.{vehicle_later}
@@ -16,7 +16,7 @@ waits_for m n passed next None h low = tt
 waits_for m n passed next (Some d) h low = omega arith
 
 -- what is due at the vehicle is due later
-pub vehicle_waits : (floor n next : ℕ) (due : Option ℕ) (kept : kept_channel.Channel) (w : World) → StandsAt kept.tick floor (λ c. kept.tick) kept w → ((u : Vehicle) → IvsStandsFor kept.vehicle u → due ≡ vehicle.due_of u) → IfSome due (λ d. next ≤ kept.passed + d) → kept.tick + n < next → IfSome (vehicle.due_of w.vehicle) (λ d. n < d)
+pub vehicle_waits : (floor : LeastPassed) (n next : ℕ) (due : Option ℕ) (kept : kept_channel.Channel) (w : World) → StandsAt kept.tick floor (λ c. kept.tick) kept w → ((u : Vehicle) → IvsStandsFor kept.vehicle u → due ≡ vehicle.due_of u) → IfSome due (λ d. next ≤ kept.passed + d) → kept.tick + n < next → IfSome (vehicle.due_of w.vehicle) (λ d. n < d)
 vehicle_waits floor n next due kept w s is within low =
     let h = s.vehicle in
     let passed : kept.passed ≤ kept.tick = s.passed in

@@ -5,13 +5,12 @@ use Rattle.link_frames.specs.Row.{Row}
 use Rattle.psap_machine.specs.declared.session.Session.{Session}
 use Rattle.psap_machine.specs.Point.{Point}
 use Rattle.psap_machine.specs.PointRows as point
-use Rattle.psap_machine.specs.SessionStands.{SessionStandsFor}
+use Rattle.psap_machine.specs.SessionStands.{SessionStandsFor, AtRest}
 use Rattle.channel_sim.specs.declared.calls.call.Call as kept_call
 use Rattle.channel_sim.specs.World.{Call}
 use Rattle.channel_sim.specs.inner.Acts.{CallDid}
-use Rattle.channel_sim.specs.inner.Asleep.{NothingDue}
 use Rattle.channel_sim.specs.inner.Seats.{DueLater, IsQuietFor}
-use Rattle.channel_sim.specs.Lag.{SessionLags, SeatLags, CallLags}
+use Rattle.channel_sim.specs.Lag.{LeastPassed, SessionLags, SeatLags, CallLags}
 use Rattle.channel_sim.specs.Quiet.{SessionRests, CallRests}
 use Rattle.channel_sim.proofs.AsleepLemmas.{due_later}
 use Rattle.channel_sim.proofs.EndJump.{point_later}
@@ -28,31 +27,31 @@ seat_quiet m n (Some k) (Some s) h later =
     }
 
 -- a call whose session is quiet for longer rests
-pub call_quiet : (floor tick n quiet : ℕ) (x : kept_call.Call) (k : Call) → CallLags floor tick x k → IsQuietFor quiet x.session → tick + n < x.passed + quiet → CallRests n k
+pub call_quiet : (floor : LeastPassed) (tick n quiet : ℕ) (x : kept_call.Call) (k : Call) → CallLags floor tick x k → IsQuietFor quiet x.session → tick + n < x.passed + quiet → CallRests n k
 call_quiet floor tick n quiet x k h known low =
     let within : x.passed ≤ tick = h.passed in
     seat_quiet (tick - x.passed) n x.session k.session h.session (known ((tick - x.passed) + n) (omega arith))
 
 -- a session that is quiet for longer than up to the next tick does nothing at it
-pub quiet_did : (floor before tick quiet : ℕ) (x : kept_call.Call) (k : Call) → CallLags floor before x k → before + 1 ≡ tick → IsQuietFor quiet x.session → tick - x.passed < quiet → CallDid floor tick false [] x k point.unit_row
+pub quiet_did : (floor : LeastPassed) (before tick quiet : ℕ) (x : kept_call.Call) (k : Call) → CallLags floor before x k → before + 1 ≡ tick → IsQuietFor quiet x.session → tick - x.passed < quiet → CallDid floor tick false [] x k point.unit_row
 quiet_did floor before tick quiet x k h next known low = at x.session refl
   where
     at : (o : Option Session) → x.session ≡ o → CallDid floor tick false [] x k point.unit_row
     at None e = nobody_acts floor before tick x k point.unit_row h (omega (arith, next)) e
     at (Some session) e = rested floor before tick x k session h next e (subst (DueLater (tick - x.passed)) e (known (tick - x.passed) low))
 
--- one that waits for nothing is quiet for any number of ticks
-pub rest_quiet : (quiet : ℕ) (a : Option Session) → NothingDue a → IsQuietFor quiet a
+-- one that is settled is quiet for any number of ticks
+pub rest_quiet : (quiet : ℕ) (a : Option Session) → AtRest a → IsQuietFor quiet a
 rest_quiet quiet a none = λ n low. due_later n a none
 
 -- The call that did this, by its equations.
 
-pub heard_as : (floor clock : ℕ) (done : Bool) (items : List Note) (x y : kept_call.Call) (a b : Option Session) (k : Call) (row : Point → Row Point) → y ≡ x → b ≡ a → CallDid floor clock done items (record x { session = a }) k row → CallDid floor clock done items (record y { session = b }) k row
+pub heard_as : (floor : LeastPassed) (clock : ℕ) (done : Bool) (items : List Note) (x y : kept_call.Call) (a b : Option Session) (k : Call) (row : Point → Row Point) → y ≡ x → b ≡ a → CallDid floor clock done items (record x { session = a }) k row → CallDid floor clock done items (record y { session = b }) k row
 heard_as floor clock done items x y a b k row same seat did =
     subst (λ (z : kept_call.Call). CallDid floor clock done items (record z { session = b }) k row) (sym same)
     (subst (λ (o : Option Session). CallDid floor clock done items (record x { session = o }) k row) (sym seat) did)
 
-pub acted_as : (floor clock : ℕ) (done : Bool) (items : List Note) (x y : kept_call.Call) (a b : Option Session) (k : Call) (row : Point → Row Point) → y ≡ x → b ≡ a → CallDid floor clock done items (record x { session = a; passed = clock }) k row → CallDid floor clock done items (record y { session = b; passed = clock }) k row
+pub acted_as : (floor : LeastPassed) (clock : ℕ) (done : Bool) (items : List Note) (x y : kept_call.Call) (a b : Option Session) (k : Call) (row : Point → Row Point) → y ≡ x → b ≡ a → CallDid floor clock done items (record x { session = a; passed = clock }) k row → CallDid floor clock done items (record y { session = b; passed = clock }) k row
 acted_as floor clock done items x y a b k row same seat did =
     subst (λ (z : kept_call.Call). CallDid floor clock done items (record z { session = b; passed = clock }) k row) (sym same)
     (subst (λ (o : Option Session). CallDid floor clock done items (record x { session = o; passed = clock }) k row) (sym seat) did)

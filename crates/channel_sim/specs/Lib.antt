@@ -4,6 +4,7 @@ pub mod inner
 pub mod Lag
 pub mod Lines
 pub mod Passes
+pub mod PlayStands
 pub mod Quiet
 pub mod Sends
 pub mod SimFault

@@ -16,14 +16,14 @@ ghost use Rattle.channel_sim.specs.Lines as lines;
 ghost use Rattle.channel_sim.specs.World as model;
 ghost use Rattle.channel_sim.specs.inner.Acts.{OtherHasLeg};
 ghost use Rattle.channel_sim.specs.Handing.{full};
-ghost use Rattle.channel_sim.specs.Lag.{CallsLag};
+ghost use Rattle.channel_sim.specs.Lag.{LeastPassed, CallsLag};
 ghost use Rattle.channel_sim.specs.inner.Asleep.{IsActingPart, IsAwakePart, IsLatePart};
 ghost use Rattle.channel_sim.specs.inner.Places.{place_of};
 ghost use Rattle.channel_sim.specs.Tidy.{AreAbove, numbers_of};
 
 use crate::kept::KeptFrame;
-pub(crate) use asleep::catch_each_up;
 use asleep::count_waiting;
+pub(crate) use asleep::{catch_each_up, catch_waking_each};
 pub(crate) use call::Call;
 use counts::Counts;
 pub use due::Due;
@@ -138,7 +138,7 @@ fn likely_place(calls: &[Call], number: u32) -> usize {
 
 /// Posts what one item sends into its call.
 fn post_one(calls: &mut Calls, alloc: Global, tick: u64, note: &Note) -> Result<(), AllocError>
-    ensures { (floor : ℕ) (clock : ℕ → ℕ) (ks : List model.Call) → CallsLag floor clock calls.old ks →
+    ensures { (floor : LeastPassed) (clock : ℕ → ℕ) (ks : List model.Call) → CallsLag floor clock calls.old ks →
         AreAbove 0 (numbers_of ks) →
         OnOk result (CallsLag floor clock calls.new (map (model.carries (told tick (note.now ∷ []))) ks)) }
 {
@@ -157,7 +157,7 @@ fn post_frame(
     number: u32,
     frame: &Frame,
 ) -> Result<(), AllocError>
-    ensures { (floor : ℕ) (clock : ℕ → ℕ) (ks : List model.Call) → CallsLag floor clock calls.old ks →
+    ensures { (floor : LeastPassed) (clock : ℕ → ℕ) (ks : List model.Call) → CallsLag floor clock calls.old ks →
         AreAbove 0 (numbers_of ks) →
         OnOk result (CallsLag floor clock calls.new (map (model.carries (told tick
         (Note.Send end number frame.now ∷ []))) ks)) }
@@ -179,7 +179,7 @@ pub(crate) fn post(
     tick: u64,
     items: &[Note],
 ) -> Result<(), AllocError>
-    ensures { (floor : ℕ) (clock : ℕ → ℕ) (ks : List model.Call) → CallsLag floor clock calls.old ks →
+    ensures { (floor : LeastPassed) (clock : ℕ → ℕ) (ks : List model.Call) → CallsLag floor clock calls.old ks →
         AreAbove 0 (numbers_of ks) →
         OnOk result (CallsLag floor clock calls.new (map (model.carries (told tick items.now)) ks)) }
 {
@@ -191,7 +191,7 @@ pub(crate) fn post(
 
 /// Drops the call of a number, in which the vehicle isn't, if its session isn't there.
 pub(crate) fn drop_without_session(calls: &mut Calls, number: u32)
-    ensures { (floor : ℕ) (clock : ℕ → ℕ) (in_call : Option ℕ) (ks : List model.Call) →
+    ensures { (floor : LeastPassed) (clock : ℕ → ℕ) (in_call : Option ℕ) (ks : List model.Call) →
         CallsLag floor clock calls.old ks →
         AreAbove 0 (numbers_of ks) → AllByRecursion (OtherHasLeg in_call (Some number)) ks →
         is_number number in_call ≡ false → CallsLag floor clock calls.new (model.with_legs in_call ks) }
@@ -206,7 +206,7 @@ pub(crate) fn drop_without_session(calls: &mut Calls, number: u32)
 
 /// The frame sent up, or down, in a call at this place, from 0.
 pub(crate) fn sent_frame(calls: &[Call], up: bool, number: u32, place: usize) -> Option<&KeptFrame>
-    ensures { (floor : ℕ) (clock : ℕ → ℕ) (ks : List model.Call) → CallsLag floor clock calls.now ks →
+    ensures { (floor : LeastPassed) (clock : ℕ → ℕ) (ks : List model.Call) → CallsLag floor clock calls.now ks →
         AreAbove 0 (numbers_of ks) → option_map (λ f. full f.now) result ≡
         option_map (λ s. s.frame) (slice_get (if up then lines.sent_up (model.call_of number ks)
         else lines.sent_down (model.call_of number ks)) place) }

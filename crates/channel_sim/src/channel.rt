@@ -17,6 +17,15 @@ use std::alloc::Global;
 use std::sync::ledger::Ledger;
 use trace_model::Listener;
 
+/// Which ends are passed where a line of elapsed time ends.
+#[derive(Clone, Copy)]
+pub(crate) enum Passing {
+    /// All.
+    All,
+    /// All but the sessions that are settled.
+    Waking,
+}
+
 /// A vehicle, the calls with a leg up, and all that was ever sent in them.
 #[derive(Drop)]
 pub(crate) struct Channel {
@@ -37,7 +46,7 @@ impl Channel {
     ghost use Rattle.channel_sim.specs.SimFault.{CountsFaults};
     ghost use Rattle.channel_sim.specs.WorldStands.{ChannelStandsFor};
     ghost use Rattle.channel_sim.specs.Lag.{CameNow, StandsNow};
-    ghost use Rattle.channel_sim.specs.inner.Happenings.{DrawsCall, happens, happening_passes};
+    ghost use Rattle.channel_sim.specs.inner.Happenings.{DrawsCall, IfAll, happens, happening_passes, settled_behind};
 
     /// The world before anything happened, with a vehicle that knows these facts. It takes no memory.
     pub(crate) fn new(alloc: Global, facts: Facts) -> Channel
@@ -56,22 +65,24 @@ impl Channel {
         }
     }
 
-    /// What one happening does.
+    /// What one happening does. Where it is elapsed time, these ends are passed in the end.
     pub(crate) fn plays<H: Listener, L: Ledger>(
         &mut self,
         alloc: Global,
         happening: &Happening<'_>,
+        passing: Passing,
         room: &mut Room,
         to: &mut H,
         moments: &mut Steps<L>,
     ) -> Result<(), SimFault>
         requires calls { DrawsCall happening.now → self.old.drawn < 4294967295 }
         requires ticks { (n : ℕ) → happening.now ≡ Happening.Elapse n → self.old.tick + n < 2 ^ 64 }
-        ensures step { (w : model.World) → StandsNow self.old w →
-            CameNow (H.grew to.old to.new) (H.partly to.old to.new) result self.new (happens happening.now w) }
+        ensures step { (settled : ℕ) (w : model.World) → StandsNow settled self.old w → settled ≤ self.old.tick →
+            CameNow (H.grew to.old to.new) (H.partly to.old to.new) result
+            (settled_behind happening.now passing settled self.new.tick) self.new (happens happening.now w) }
         ensures faults { CountsFaults result (H.faults to.old) (H.faults to.new) }
-        ensures passes { (w : model.World) → StandsNow self.old w →
-            moments.new ≤ moments.old + happening_passes happening.now w }
+        ensures passes { (settled : ℕ) (w : model.World) → StandsNow settled self.old w → settled ≤ self.old.tick →
+            IfAll passing (self.old.tick ≤ settled) → moments.new ≤ moments.old + happening_passes happening.now w }
     {
         let given = &mut room.given;
         match happening {
@@ -95,7 +106,7 @@ impl Channel {
                 Ok(())
             }
             Happening::ResetPoint => self.reset_point(alloc, room, to, moments),
-            Happening::Elapse(n) => self.elapses(alloc, *n, room, to, moments),
+            Happening::Elapse(n) => self.elapses(alloc, *n, passing, room, to, moments),
         }
     }
 

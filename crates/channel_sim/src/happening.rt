@@ -37,6 +37,7 @@ pub(crate) fn happening_of(event: &Event) -> Happening<'_>
     ensures passes { (w : model.World) → lines.passes_within w event.now ≡ happening_passes result w }
     ensures calls { DrawsCall result → NeedsCall event.now }
     ensures ticks { (n : ℕ) → result ≡ Happening.Elapse n → event.now ≡ Event.Tick n }
+    ensures elapses { (n : ℕ) → event.now ≡ Event.Tick n → result ≡ Happening.Elapse n }
     ensures few { TicksIn event.now (λ n. n ≤ 4294967295) }
 {
     match event {

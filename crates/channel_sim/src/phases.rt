@@ -11,7 +11,7 @@ use trace_model::Listener;
 impl World {
     ghost use Rattle.std.specs.Prelude.{◌≡◌, ◌+◌, ◌^◌, ◌<◌, ◌≤◌, ◌++◌, ℕ, OnOk, IfErr, map};
     ghost use Rattle.channel_sim.specs.Handing.{due_in_call, due_of, hands_way};
-    ghost use Rattle.channel_sim.specs.Lag.{AreSameBut, CameAt, StandsAt};
+    ghost use Rattle.channel_sim.specs.Lag.{LeastPassed, AreSameBut, CameAt, StandsAt};
     ghost use Rattle.channel_sim.specs.Passes.{passes_of};
     ghost use Rattle.channel_sim.specs.Quiet.{QuietFor};
     ghost use Rattle.channel_sim.specs.SimFault.{CountsFaults};
@@ -40,7 +40,7 @@ impl World {
     /// be right too, and cost a look at each tick between.
     pub fn next_tick(&self, end: u64) -> u64
         ensures most { result ≤ end }
-        ensures quiet { (floor n : ℕ) (w : model.World) →
+        ensures quiet { (floor : LeastPassed) (n : ℕ) (w : model.World) →
             StandsAt (ticks_reached self.now) floor (λ c. ticks_reached self.now) self.now.channel w →
             ticks_reached self.now + n < result → QuietFor n w }
     {
@@ -54,15 +54,15 @@ impl World {
         to: &mut H,
         moments: &mut Steps<L>,
     ) -> Result<(), SimFault>
-        ensures step { (floor before : ℕ) (w : model.World) → StandsAt before floor (λ c. before) self.old.channel w →
+        ensures step { (floor : LeastPassed) (before : ℕ) (w : model.World) → StandsAt before floor (λ c. before) self.old.channel w →
             before + 1 ≡ ticks_reached self.old →
             CameAt (H.grew to.old to.new) (H.partly to.old to.new) result (ticks_reached self.old) floor (λ c. before)
             self.new.channel (model.vehicle_passes w) }
         ensures tick { ticks_reached self.new ≡ ticks_reached self.old }
         ensures faults { CountsFaults result (H.faults to.old) (H.faults to.new) }
-        ensures passes { (floor before : ℕ) (w : model.World) →
+        ensures passes { (floor : LeastPassed) (before : ℕ) (w : model.World) →
             StandsAt before floor (λ c. before) self.old.channel w → before + 1 ≡ ticks_reached self.old →
-            ticks_reached self.old < floor + 2 ^ 32 →
+            ticks_reached self.old < floor.waking + 2 ^ 32 →
             moments.new ≤ moments.old + passes_of (model.vehicle_passes w) }
     {
         self.channel
@@ -77,7 +77,7 @@ impl World {
         to: &mut H,
         moments: &mut Steps<L>,
     ) -> Result<(), SimFault>
-        ensures step { (ahead floor : ℕ) (before after : ℕ → ℕ) (w : model.World) →
+        ensures step { (ahead : ℕ) (floor : LeastPassed) (before after : ℕ → ℕ) (w : model.World) →
             StandsAt ahead floor before self.old.channel w →
             ahead ≡ ticks_reached self.old → before number + 1 ≡ ahead → after number ≡ ahead →
             AreSameBut number before after →
@@ -85,10 +85,10 @@ impl World {
             (model.session_passes number w) }
         ensures tick { ticks_reached self.new ≡ ticks_reached self.old }
         ensures faults { CountsFaults result (H.faults to.old) (H.faults to.new) }
-        ensures passes { (ahead floor : ℕ) (before after : ℕ → ℕ) (w : model.World) →
+        ensures passes { (ahead : ℕ) (floor : LeastPassed) (before after : ℕ → ℕ) (w : model.World) →
             StandsAt ahead floor before self.old.channel w →
             ahead ≡ ticks_reached self.old → before number + 1 ≡ ahead → after number ≡ ahead →
-            AreSameBut number before after → ticks_reached self.old < floor + 2 ^ 32 →
+            AreSameBut number before after → ticks_reached self.old < floor.waking + 2 ^ 32 →
             moments.new ≤ moments.old + passes_of (model.session_passes number w) }
     {
         self.channel
@@ -98,7 +98,7 @@ impl World {
     /// Adds the frames of a call that its flow up, or down, hands over at this tick.
     pub fn list_due(&mut self, number: u32, up: bool, due: &mut Vec<Due>) -> Result<(), AllocError>
         ensures same { self.new.channel ≡ self.old.channel }
-        ensures due { (ahead floor : ℕ) (clock : ℕ → ℕ) (w : model.World) →
+        ensures due { (ahead : ℕ) (floor : LeastPassed) (clock : ℕ → ℕ) (w : model.World) →
             StandsAt ahead floor clock self.old.channel w → OnOk result
             (map due_of due.new.items ≡ map due_of due.old.items ++ due_in_call up number w) }
     {
@@ -117,15 +117,15 @@ impl World {
         to: &mut H,
         moments: &mut Steps<L>,
     ) -> Result<(), SimFault>
-        ensures step { (ahead floor : ℕ) (w : model.World) →
+        ensures step { (ahead : ℕ) (floor : LeastPassed) (w : model.World) →
             StandsAt ahead floor (λ c. ahead) self.old.channel w → ahead ≡ ticks_reached self.old →
             CameAt (H.grew to.old to.new) (H.partly to.old to.new) result ahead floor (λ c. ahead) self.new.channel
             (hands_way up (due_of due.now) w) }
         ensures tick { ticks_reached self.new ≡ ticks_reached self.old }
         ensures faults { CountsFaults result (H.faults to.old) (H.faults to.new) }
-        ensures passes { (ahead floor : ℕ) (w : model.World) →
+        ensures passes { (ahead : ℕ) (floor : LeastPassed) (w : model.World) →
             StandsAt ahead floor (λ c. ahead) self.old.channel w → ahead ≡ ticks_reached self.old →
-            ticks_reached self.old < floor + 2 ^ 32 →
+            ticks_reached self.old < floor.waking + 2 ^ 32 →
             moments.new ≤ moments.old + passes_of (hands_way up (due_of due.now) w) }
     {
         self.channel
@@ -134,13 +134,14 @@ impl World {
 
     /// Passes each end that lags up to this tick: from now on the world stands as between lines.
     pub fn catch_all_up<L: Ledger>(&mut self, moments: &mut Steps<L>)
-        ensures stands { (floor : ℕ) (w : model.World) →
+        ensures stands { (floor : LeastPassed) (w : model.World) →
             StandsAt (ticks_reached self.old) floor (λ c. ticks_reached self.old) self.old.channel w →
             WorldStandsFor self.new w }
         ensures tick { ticks_reached self.new ≡ ticks_reached self.old }
-        ensures passes { (floor : ℕ) (w : model.World) →
+        ensures passes { (floor : LeastPassed) (w : model.World) →
             StandsAt (ticks_reached self.old) floor (λ c. ticks_reached self.old) self.old.channel w →
-            ticks_reached self.old < floor + 2 ^ 32 → moments.new ≤ moments.old + model.ends w }
+            ticks_reached self.old < floor.waking + 2 ^ 32 → ticks_reached self.old < floor.settled + 2 ^ 32 →
+            moments.new ≤ moments.old + model.ends w }
     {
         self.channel.catch_all_up(&mut self.room.given.own, moments);
     }

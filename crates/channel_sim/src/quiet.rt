@@ -3,7 +3,7 @@
 ghost use Rattle.std.specs.Prelude.{◌≡◌, ◌≤◌, ◌<◌, ◌-◌, ◌+◌, Option, Some, None, IfSome, ◌^◌};
 ghost use Rattle.psap_machine.specs.Point.{Point};
 ghost use Rattle.psap_machine.specs.PointRows as point;
-ghost use Rattle.psap_machine.specs.SessionStands.{SessionStandsFor, WaitsForNothing};
+ghost use Rattle.psap_machine.specs.SessionStands.{SessionStandsFor, IsSettled};
 ghost use Rattle.channel_sim.specs.inner.Seats.{IsQuietFor};
 ghost use Rattle.channel_sim.specs.Lag.{SessionLags, VehicleLags};
 ghost use Rattle.ivs_machine.specs.IvsStands.{IvsStandsFor};
@@ -72,11 +72,11 @@ pub(crate) fn pass_known<L: Ledger>(
     }
 }
 
-/// Lets so many ticks pass in a session that waits for nothing.
+/// Lets so many ticks pass in a session that is settled.
 #[inline]
 pub(crate) fn rest_by<L: Ledger>(session: &mut Session, lag: u64, moments: &mut Steps<L>)
-    requires { WaitsForNothing session.old }
-    ensures waits { WaitsForNothing session.new }
+    requires { IsSettled session.old }
+    ensures settled { IsSettled session.new }
     ensures lags { (s : Point) → SessionLags lag session.old s → SessionLags 0 session.new s }
     ensures passes { lag < 2 ^ 32 → moments.new ≤ moments.old + 1 }
     ensures still { lag ≡ 0 → moments.new ≡ moments.old }
@@ -94,8 +94,8 @@ pub(crate) fn rest_by<L: Ledger>(session: &mut Session, lag: u64, moments: &mut 
 /// The same for many ticks. Out of line: nearly always they are fewer than one pass takes.
 #[inline(never)]
 fn rest_long<L: Ledger>(session: &mut Session, lag: u64, moments: &mut Steps<L>)
-    requires { WaitsForNothing session.old }
-    ensures waits { WaitsForNothing session.new }
+    requires { IsSettled session.old }
+    ensures settled { IsSettled session.new }
     ensures lags { (s : Point) → SessionLags lag session.old s → SessionLags 0 session.new s }
     ensures passes { lag < 2 ^ 32 → moments.new ≤ moments.old + 1 }
     ensures still { lag ≡ 0 → moments.new ≡ moments.old }

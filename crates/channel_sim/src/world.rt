@@ -1,7 +1,7 @@
 //! The world, and what one event line does in it.
 
 use crate::calls::find;
-use crate::channel::Channel;
+use crate::channel::{Channel, Passing};
 use crate::fault::SimFault;
 use crate::happening::happening_of;
 use crate::room::Room;
@@ -144,10 +144,7 @@ impl World {
     {
         let happening = happening_of(event);
         let (tick, drawn) = (self.channel.tick, self.channel.drawn);
-        match self
-            .channel
-            .plays(alloc, &happening, &mut self.room, to, moments)
-        {
+        match self.channel.plays(alloc, &happening, Passing::All, &mut self.room, to, moments) {
             Ok(()) => Ok(()),
             Err(fault) => {
                 self.channel.tick = tick;

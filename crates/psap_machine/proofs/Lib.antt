@@ -3,4 +3,5 @@ pub mod Content
 pub mod Hears
 mod Played
 pub mod PointOwed
+pub mod Settled
 pub mod Ticks

@@ -1,10 +1,10 @@
 -- Which states of the answering point's session a `Session` stands for: one equation for each of its fields, where its
 -- two sums agree up to the greatest u32, and what every such state keeps. This project's profile. Cited by the
 -- contracts of `Session`, and by what stands on it.
-use Rattle.std.specs.Prelude.{◌≡◌, ◌⊎◌, ℕ, List, [], ◌∷◌, Option, Some, None, min, ◌-◌, ◌^◌}
-use Rattle.audio_switch.specs.Switch.{Switching}
+use Rattle.std.specs.Prelude.{◌≡◌, ◌≤◌, ◌⊎◌, ℕ, List, [], ◌∷◌, Option, Some, None, min, ◌-◌, ◌^◌}
+use Rattle.audio_switch.specs.Switch.{Switching, open_ticks}
 use Rattle.audio_switch.specs.declared.switch.Stretch.TheVariants.{Muted, Open}
-use Rattle.link_frames.specs.Legs.{Kept, muting_limit}
+use Rattle.link_frames.specs.Legs.{Kept, least_opening, muting_limit}
 use Rattle.link_frames.specs.Requests.{RequestsStandFor}
 use Rattle.link_frames.specs.declared.frame.End.TheVariants as «end»
 use Rattle.psap_machine.specs.declared.session.Session.{Session}
@@ -50,6 +50,14 @@ pub record SessionStandsFor (session : Session) (s : Point) : Type 0 where
   pub is : SessionIs session s
   pub kept : IsKept s
 
--- The session waits for nothing: it only talks, or is over.
-abbrev pub WaitsForNothing : Session → Type 0
-WaitsForNothing session = (session.phase ≡ phase.Talking) ⊎ (session.phase ≡ phase.Over)
+-- The session is settled: it only talks, and has for so long that the desk may ask or let go, or it is over. It does
+-- nothing however many ticks pass, and at an event it does the same however many passed.
+abbrev pub IsSettled : Session → Type 0
+IsSettled session =
+    ((session.phase ≡ phase.Talking) × (least_opening ≤ open_ticks session.voice.stretch))
+    ⊎ (session.phase ≡ phase.Over)
+
+-- the session, if there is one, is settled
+abbrev pub AtRest : Option Session → Type 0
+AtRest None = Unit {0}
+AtRest (Some session) = IsSettled session

@@ -11,7 +11,7 @@ use Rattle.trace_text.specs.declared.script.ScriptLine.TheVariants as script
 use Rattle.channel_sim.specs.Lines as lines
 use Rattle.channel_sim.specs.Lines.{passes_within, world_after}
 use Rattle.channel_sim.specs.World.{first_world}
-use Rattle.channel_sim.specs.declared.world.World as kept
+use Rattle.channel_sim.specs.declared.play.Play as kept
 use Rattle.script_stage.specs.Stage.{StandsBy, ticks_by}
 use Rattle.relay_text.specs.ItemLine.{text_with_desk}
 use Rattle.relay_command.specs.Scenes.{Scene, event_step}
@@ -21,7 +21,7 @@ use Rattle.relay_watch.specs.Clocks.{Came, Clock, IsTold, and_then, clock_of, el
 use Rattle.relay_command.proofs.SceneFollows.{came_of, clock_at, event_follows, finish}
 
 -- the tick that a stage with a world has reached
-pub tick_by : (draft : Draft) (o : Option kept.World) (said : Said) (events : List Event) (known : Facts)
+pub tick_by : (draft : Draft) (o : Option kept.Play) (said : Said) (events : List Event) (known : Facts)
     → facts_in said.facts ≡ Some known → said.eventful ≡ true → StandsBy draft o said events
     → ticks_by o ≡ (world_after (first_world known) events).tick
 tick_by draft None said events known facts eventful h =

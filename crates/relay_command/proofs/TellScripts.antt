@@ -18,7 +18,7 @@ use Rattle.channel_sim.specs.Lines as lines
 use Rattle.channel_sim.specs.Lines.{passes_within, world_after}
 use Rattle.channel_sim.specs.World as model
 use Rattle.channel_sim.specs.World.{first_world}
-use Rattle.channel_sim.specs.declared.world.World as kept
+use Rattle.channel_sim.specs.declared.play.Play as kept
 use Rattle.script_stage.proofs.StagePlays.{world_after-push}
 use Rattle.script_stage.specs.Progress.{entries_in, entries_of, passes_by, passes_in, world_left}
 use Rattle.script_stage.specs.Stage.{Obeys, StageStandsFor, StandsBy, ticks_by, ticks_in}
@@ -178,7 +178,7 @@ module _ (seen : RelaySeen) (old new : Stage) (desk0 desk1 desk2 : DeskClock) (h
   no_passes None f = refl
   no_passes (Some w) f = refl
 
-  no_ticks : (draft : Draft) (o : Option kept.World) (said : Said) (events : List Event) → said.eventful ≡ false
+  no_ticks : (draft : Draft) (o : Option kept.Play) (said : Said) (events : List Event) → said.eventful ≡ false
       → StandsBy draft o said events → ticks_by o ≡ 0
   no_ticks draft None said events early s = refl
   no_ticks draft (Some world) said events early s = let no : true ≡ false = sym s.2 ∙ early in absurd (cc)

@@ -10,11 +10,11 @@ use Rattle.trace_model.specs.Tallies.{TallyGrew, tally_of}
 use Rattle.trace_model.specs.declared.entry.Entry.{Entry}
 use Rattle.trace_model.specs.declared.event.Event.{Event}
 use Rattle.trace_model.specs.declared.tally.Tally.{Tally}
-use Rattle.channel_sim.specs.declared.world.World.{World}
+use Rattle.channel_sim.specs.declared.play.Play.{Play}
 use Rattle.channel_sim.specs.Lines.{bound, passes_within, step, trace, world_after}
 use Rattle.channel_sim.specs.World as model
 use Rattle.channel_sim.specs.World.{first_world}
-use Rattle.channel_sim.specs.WorldStands.{WorldStandsFor, calls_drawn, ticks_reached}
+use Rattle.channel_sim.specs.PlayStands.{PlayStandsFor, calls_drawn, ticks_reached}
 use Rattle.script_commands.specs.declared.make.CallTimes.{CallTimes}
 use Rattle.script_commands.specs.Make.{call_times, made_script, most_made, text_of_lines, x_behind}
 use Rattle.script_stage.specs.ScriptTrace.{script_passes, script_trace}
@@ -27,8 +27,8 @@ use Rattle.script_stage.proofs.StagePlays.{world_after-push}
 use Rattle.script_stage.specs.inner.TraceLaws.{trace_from-append}
 
 -- before any event
-pub counted_none : (start : ℕ) (known : Facts) (world : World) (tally : Tally)
-    → WorldStandsFor world (first_world known) → calls_drawn world ≡ 0 → ticks_reached world ≡ 0
+pub counted_none : (start : ℕ) (known : Facts) (world : Play) (tally : Tally)
+    → PlayStandsFor world (first_world known) → calls_drawn world ≡ 0 → ticks_reached world ≡ 0
     → tally ≡ tally_of [] → Counted start known [] world tally start
 counted_none start known world tally stands calls ticks none = record {
   stands = stands;
@@ -39,17 +39,17 @@ counted_none start known world tally stands calls ticks none = record {
 }
 
 -- what an event that was played says, where it is counted
-abbrev pub PlaysCounted : (known : Facts) → List Event → Event → (old new : World) → (tally tally' : Tally)
+abbrev pub PlaysCounted : (known : Facts) → List Event → Event → (old new : Play) → (tally tally' : Tally)
     → (passes passes' : ℕ) → Type 0
 PlaysCounted known events e old new tally tally' passes passes' =
     TallyGrew tally tally' (step (world_after (first_world known) events) e).entries
-    × WorldStandsFor new (step (world_after (first_world known) events) e).world
+    × PlayStandsFor new (step (world_after (first_world known) events) e).world
     × (calls_drawn new ≤ calls_drawn old + 1)
     × (ticks_reached new ≤ ticks_reached old + 4294967295)
     × (passes' ≤ passes + passes_within (world_after (first_world known) events) e)
 
 -- one event more
-pub counted_event : (start : ℕ) (known : Facts) (events : List Event) (e : Event) (old new : World)
+pub counted_event : (start : ℕ) (known : Facts) (events : List Event) (e : Event) (old new : Play)
     (tally tally' : Tally) (passes passes' : ℕ) → Counted start known events old tally passes
     → PlaysCounted known events e old new tally tally' passes passes'
     → Counted start known (events ++ e ∷ []) new tally' passes'
@@ -61,7 +61,7 @@ counted_event start known events e old new tally tally' passes passes' before pl
     ∙ ap (λ n. bound known events + n) (add-zero (passes_within w e)) in
     record {
       stands =
-          subst (λ (v : model.World). WorldStandsFor new v) (sym (world_after-push (first_world known) events e))
+          subst (λ (v : model.World). PlayStandsFor new v) (sym (world_after-push (first_world known) events e))
           plays.1;
       told =
           plays.0 (trace known events) before.told
@@ -95,13 +95,13 @@ few_more : (events more : List Event) (i : ℕ) → length events ≤ most_event
 few_more events more i few ten =
     omega (arith, length-append events (take i more), length-take i more, few, ten)
 
-pub still_few : (start : ℕ) (known : Facts) (events more : List Event) (i : ℕ) (world : World) (tally : Tally)
+pub still_few : (start : ℕ) (known : Facts) (events more : List Event) (i : ℕ) (world : Play) (tally : Tally)
     (passes : ℕ) → length events ≤ most_events → length more ≡ 10
     → Counted start known (events ++ take i more) world tally passes → calls_drawn world < 4294967295
 still_few start known events more i world tally passes few ten counted =
     omega (arith, few_more events more i few ten, counted.calls)
 
-pub still_soon : (start : ℕ) (known : Facts) (events more : List Event) (i : ℕ) (world : World) (tally : Tally)
+pub still_soon : (start : ℕ) (known : Facts) (events more : List Event) (i : ℕ) (world : Play) (tally : Tally)
     (passes : ℕ) → length events ≤ most_events → length more ≡ 10
     → Counted start known (events ++ take i more) world tally passes
     → ticks_reached world + 4294967295 < 2 ^ 64
@@ -126,7 +126,7 @@ ten_events events call times are = ap length are
 
 -- all events of a call
 pub counted_whole : (start : ℕ) (known : Facts) (events all : List Event) (i call number : ℕ) (times : CallTimes)
-    (world : World) (tally : Tally) (passes : ℕ) → all ≡ call_events call times → call ≡ number → 10 ≤ i
+    (world : Play) (tally : Tally) (passes : ℕ) → all ≡ call_events call times → call ≡ number → 10 ≤ i
     → Counted start known (events ++ take i all) world tally passes
     → Counted start known (events ++ call_events number times) world tally passes
 counted_whole start known events all i call number times world tally passes are is long counted =
@@ -143,7 +143,7 @@ length-events_of_calls seed (suc calls) =
     ap length (events_of_calls-suc seed calls) ∙ length-append (events_of_calls seed calls) ten ∙ omega (arith, fewer)
 
 -- one call more, by the times that were drawn for it
-pub counted_call : (start : ℕ) (known : Facts) (seed calls : ℕ) (times : CallTimes) (x : ℕ) (world : World)
+pub counted_call : (start : ℕ) (known : Facts) (seed calls : ℕ) (times : CallTimes) (x : ℕ) (world : Play)
     (tally : Tally) (passes : ℕ) → x ≡ x_behind seed calls → times ≡ call_times x
     → Counted start known (events_of_calls seed calls ++ call_events (calls + 1) times) world tally passes
     → Counted start known (events_of_calls seed (calls + 1)) world tally passes
@@ -198,7 +198,7 @@ halted_calls start seed calls times x passes is drawn few bounded =
 abbrev made_known : Facts
 made_known = facts.Own made_own
 
-pub counted_tally : (start seed calls : ℕ) (world : World) (tally : Tally) (passes : ℕ) → calls ≡ most_made
+pub counted_tally : (start seed calls : ℕ) (world : Play) (tally : Tally) (passes : ℕ) → calls ≡ most_made
     → Counted start (facts.Own made_own) (events_of_calls seed calls) world tally passes → tally ≡ made_tally seed
 unfolding made_tally
 counted_tally start seed calls world tally passes all counted =
@@ -206,7 +206,7 @@ counted_tally start seed calls world tally passes all counted =
     ∙ ap (λ (n : ℕ). tally_of (trace made_known (events_of_calls seed n))) all
     ∙ sym (ap (λ (s : Script). tally_of (script_trace s)) (made_says seed))
 
-pub counted_passes : (start seed calls : ℕ) (world : World) (tally : Tally) (passes : ℕ) → calls ≡ most_made
+pub counted_passes : (start seed calls : ℕ) (world : Play) (tally : Tally) (passes : ℕ) → calls ≡ most_made
     → Counted start (facts.Own made_own) (events_of_calls seed calls) world tally passes
     → passes ≤ start + script_passes (script_of (made_script seed))
 counted_passes start seed calls world tally passes all counted =

@@ -19,7 +19,7 @@ ghost use Rattle.script_commands.specs.inner.Trialled.{Counted, call_events, mad
 use crate::make::{CallTimes, Draws, LinesText, MADE_CALLS};
 use arrayvec::ArrayVec;
 use call_io::{Sink, write_all};
-use channel_sim::World;
+use channel_sim::Play;
 use command_base::Status;
 use line_input::push_number;
 use link_frames::Steps;
@@ -56,7 +56,7 @@ fn count_calls<L: Ledger>(alloc: Global, seed: u32, moments: &mut Steps<L>) -> R
     ensures tally { IfOk result (λ tally. tally ≡ made_tally seed) }
     ensures passes { moments.new ≤ moments.old + script_passes (script_of (made_script seed)) }
 {
-    let mut world = World::new(alloc, Facts::Own(own_facts()));
+    let mut world = Play::new(alloc, Facts::Own(own_facts()));
     let mut tally = Tally::new();
     let mut draws = Draws::new(seed);
     for made in 0..MADE_CALLS {
@@ -77,7 +77,7 @@ fn count_call<L: Ledger>(
     number: u32,
     times: &CallTimes,
     alloc: Global,
-    world: &mut World,
+    world: &mut Play,
     tally: &mut Tally,
     moments: &mut Steps<L>,
 ) -> Result<(), Halt>

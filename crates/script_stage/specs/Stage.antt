@@ -12,29 +12,29 @@ use Rattle.trace_text.specs.declared.fact_line.FactLine.{FactLine}
 use Rattle.line_input.specs.declared.reason.Reason.{Reason}
 use Rattle.line_input.specs.declared.reason.Reason.TheVariants as reason
 use Rattle.trace_text.specs.Script.{Said, placed, said_after}
-use Rattle.channel_sim.specs.declared.world.World.{World}
+use Rattle.channel_sim.specs.declared.play.Play.{Play}
 use Rattle.channel_sim.specs.SimFault.{SimFaultCause}
 use Rattle.channel_sim.specs.Lines.{world_after}
 use Rattle.channel_sim.specs.World as model
 use Rattle.channel_sim.specs.World.{first_world}
-use Rattle.channel_sim.specs.WorldStands.{WorldStandsFor, calls_drawn, ticks_reached}
+use Rattle.channel_sim.specs.PlayStands.{PlayStandsFor, calls_drawn, ticks_reached}
 use Rattle.script_stage.specs.declared.stage.Stage.{Stage}
 use Rattle.script_stage.specs.declared.stage.Halt.{Halt}
 use Rattle.script_stage.specs.declared.stage.Halt.TheVariants as halt
 use Rattle.script_stage.specs.Progress.{event_of, entries_of, passes_by}
 
 -- the facts, or the world that they led to, stand for what the lines said and the events that they brought
-abbrev pub StandsBy : Draft → Option World → Said → List Event → Type 0
+abbrev pub StandsBy : Draft → Option Play → Said → List Event → Type 0
 StandsBy draft None said events = DraftOf draft said.facts × (said.eventful ≡ false) × (events ≡ [])
 StandsBy draft (Some world) said events =
     (known : Facts) × (facts_in said.facts ≡ Some known) × (said.eventful ≡ true)
-    × WorldStandsFor world (world_after (first_world known) events)
+    × PlayStandsFor world (world_after (first_world known) events)
 
 abbrev pub StageStandsFor : Stage → Said → List Event → Type 0
 StageStandsFor s said events = StandsBy s.draft s.world said events
 
 -- how many calls were drawn
-abbrev pub calls_by : Option World → ℕ
+abbrev pub calls_by : Option Play → ℕ
 calls_by None = 0
 calls_by (Some world) = calls_drawn world
 
@@ -42,7 +42,7 @@ abbrev pub calls_in : Stage → ℕ
 calls_in s = calls_by s.world
 
 -- how many ticks were reached
-abbrev pub ticks_by : Option World → ℕ
+abbrev pub ticks_by : Option Play → ℕ
 ticks_by None = 0
 ticks_by (Some world) = ticks_reached world
 
@@ -95,13 +95,13 @@ Learns old new fact (Err (halt.Refused why)) =
 Learns old new fact (Err (halt.Sim fault)) = ⊥
 
 -- there is a world, and it stands for this one
-abbrev pub StandsIn : Option World → model.World → Type 0
+abbrev pub StandsIn : Option Play → model.World → Type 0
 StandsIn None w = ⊥
-StandsIn (Some world) w = WorldStandsFor world w
+StandsIn (Some world) w = PlayStandsFor world w
 
 -- what the answer to an event says, where a world stood for the model's
-abbrev pub PlaysEvent : {A : Type 0} → (Grew Partly : List Entry → Type 0) → (Counted : ℕ → Type 0) → (old : World)
-    → (new : Option World) → model.Step → (passes : ℕ) → Result A Halt → Type 0
+abbrev pub PlaysEvent : {A : Type 0} → (Grew Partly : List Entry → Type 0) → (Counted : ℕ → Type 0) → (old : Play)
+    → (new : Option Play) → model.Step → (passes : ℕ) → Result A Halt → Type 0
 PlaysEvent Grew Partly Counted old new step passes (Ok done) =
     Grew step.entries × StandsIn new step.world × (calls_by new ≤ calls_drawn old + 1)
     × (ticks_by new ≤ ticks_reached old + 4294967295) × Counted passes

@@ -5,12 +5,12 @@ ghost use Rattle.trace_model.specs.declared.event.Event.{Event};
 ghost use Rattle.trace_text.specs.Script.{Said, nothing_said};
 ghost use Rattle.channel_sim.specs.Lines as lines;
 ghost use Rattle.channel_sim.specs.World as model;
-ghost use Rattle.channel_sim.specs.WorldStands.{WorldStandsFor, calls_drawn, ticks_reached};
+ghost use Rattle.channel_sim.specs.PlayStands.{PlayStandsFor, calls_drawn, ticks_reached};
 ghost use Rattle.trace_text.specs.declared.script.ScriptLine.TheVariants as line;
 ghost use Rattle.script_stage.specs.Stage.{HaltWriteCause, Learns, Obeys, PlaysEvent, SetsOut};
 ghost use Rattle.script_stage.specs.Stage.{StageStandsFor, calls_in, ticks_in};
 
-use channel_sim::{SimFault, World};
+use channel_sim::{Play, SimFault};
 use line_input::Reason;
 use link_frames::Steps;
 use std::alloc::Global;
@@ -22,7 +22,7 @@ use trace_text::{Draft, FactLine, ScriptLine};
 #[derive(Drop)]
 pub struct Stage {
     draft: Draft,
-    world: Option<World>,
+    world: Option<Play>,
 }
 
 /// Why a line isn't played to its end.
@@ -98,7 +98,7 @@ impl Stage {
         let Some(facts) = self.draft.facts() else {
             return Err(Reason::Missing);
         };
-        self.world = Some(World::new(alloc, facts));
+        self.world = Some(Play::new(alloc, facts));
         Ok(())
     }
 
@@ -169,7 +169,7 @@ impl Stage {
         let Some(facts) = self.draft.facts() else {
             return Err(Halt::Refused(Reason::Missing));
         };
-        let mut world = World::new(alloc, facts);
+        let mut world = Play::new(alloc, facts);
         let played = play(&mut world, alloc, event, to, moments);
         self.world = Some(world);
         played
@@ -178,7 +178,7 @@ impl Stage {
 
 /// Plays an event in a world.
 pub fn play<H: Listener, L: Ledger>(
-    world: &mut World,
+    world: &mut Play,
     alloc: Global,
     event: &Event,
     to: &mut H,
@@ -186,10 +186,10 @@ pub fn play<H: Listener, L: Ledger>(
 ) -> Result<(), Halt>
     requires few { calls_drawn world.old < 4294967295 }
     requires soon { ticks_reached world.old + 4294967295 < 2 ^ 64 }
-    ensures played { (w : model.World) → WorldStandsFor world.old w →
+    ensures played { (w : model.World) → PlayStandsFor world.old w →
         PlaysEvent (H.grew to.old to.new) (H.partly to.old to.new) (λ n. moments.new ≤ moments.old + n)
         world.old (Some world.new) (lines.step w event.now) (lines.passes_within w event.now) result }
-    ensures passes { (w : model.World) → WorldStandsFor world.old w →
+    ensures passes { (w : model.World) → PlayStandsFor world.old w →
         moments.new ≤ moments.old + lines.passes_within w event.now }
     ensures unwritten { HaltWriteCause result (H.faults to.old) (H.faults to.new) }
     ensures counted { H.faults to.old ≤ H.faults to.new }

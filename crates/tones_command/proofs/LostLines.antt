@@ -14,7 +14,7 @@ use Rattle.trace_text.specs.Script.{Said, placed, placed_event, placed_line, sai
 use Rattle.trace_text.specs.declared.draft.Draft.{Draft}
 use Rattle.trace_text.specs.declared.script.ScriptLine.{ScriptLine}
 use Rattle.trace_text.specs.declared.script.ScriptLine.TheVariants as line
-use Rattle.channel_sim.specs.declared.world.World.{World}
+use Rattle.channel_sim.specs.declared.play.Play.{Play}
 use Rattle.script_stage.specs.Progress.{event_of}
 use Rattle.script_stage.specs.ScriptTrace.{played}
 use Rattle.script_stage.specs.Stage.{StandsBy}
@@ -91,7 +91,7 @@ line_is_lost seen (line.Event e) h =
     by (Some frame) h = ap (λ b. cond b seen.toning.kept (seen.toning.kept ++ e ∷ [])) h
 
 -- a stage stands for what was said with a line that is lost, as it did before
-pub stage_behind_lost : (seen : ToneSeen) (says : ScriptLine) (draft : Draft) (world : Option World)
+pub stage_behind_lost : (seen : ToneSeen) (says : ScriptLine) (draft : Draft) (world : Option Play)
     → line_lost seen says ≡ true → StandsBy draft world seen.said seen.toning.kept
     → StandsBy draft world (said_after seen.said says) (toning_behind seen says).kept
 stage_behind_lost seen says draft None lost s =

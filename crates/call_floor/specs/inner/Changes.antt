@@ -1,7 +1,7 @@
 -- What becomes of each vehicle that is kept, one for one. Cited by the private functions of `Floor` alone.
 use Rattle.std.specs.Prelude.{◌≡◌, ◌≤◌, ◌<◌, ◌+◌, ℕ, List, [], ◌∷◌}
 use Rattle.channel_sim.specs.declared.world.World as kept_world
-use Rattle.channel_sim.specs.Lag.{StandsAt}
+use Rattle.channel_sim.specs.Lag.{level, StandsAt}
 use Rattle.channel_sim.specs.Quiet.{QuietFor}
 use Rattle.channel_sim.specs.World.{World}
 use Rattle.channel_sim.specs.WorldStands.{ticks_reached}
@@ -28,7 +28,7 @@ pub record IsWoken (tick : ℕ) (x y : kept_seat.Seat) : Type 0 where
 -- up to the next tick of this one its world is quiet
 abbrev pub IsQuiet : kept_seat.Seat → Type 0
 IsQuiet x = (floor n : ℕ) (u : World) →
-    StandsAt (ticks_reached x.world) floor (λ c. ticks_reached x.world) x.world.channel u →
+    StandsAt (ticks_reached x.world) (level floor floor) (λ c. ticks_reached x.world) x.world.channel u →
     ticks_reached x.world + n < x.next → QuietFor n u
 
 -- it knows its next tick

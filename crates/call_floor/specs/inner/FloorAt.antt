@@ -6,7 +6,7 @@ use Rattle.trace_model.specs.declared.event.Event.{Event}
 use Rattle.trace_model.specs.declared.event.Event.TheVariants as event
 use Rattle.channel_sim.specs.declared.calls.due.Due as kept_due
 use Rattle.channel_sim.specs.Handing.{due_in_call, due_of, hands_way, sent_way}
-use Rattle.channel_sim.specs.Lag.{StandsAt}
+use Rattle.channel_sim.specs.Lag.{level, StandsAt}
 use Rattle.channel_sim.specs.Quiet.{QuietFor}
 use Rattle.channel_sim.specs.Tidy.{AreAbove}
 use Rattle.channel_sim.specs.World.{World, session_passes}
@@ -54,7 +54,7 @@ Now v x u = WorldStandsFor x.world u
 pub record Rests (floor : ℕ) (x : kept_seat.Seat) (u : World) : Type 0 where
   pub was : World
   pub ticks : ℕ
-  pub stands : StandsAt (ticks_reached x.world) floor (λ c. ticks_reached x.world) x.world.channel was
+  pub stands : StandsAt (ticks_reached x.world) (level floor floor) (λ c. ticks_reached x.world) x.world.channel was
   pub behind : u ≡ (world.units ticks was).world
   pub still : QuietFor ticks was
   pub quiet : (n : ℕ) → ticks_reached x.world + n < x.next → QuietFor n was
@@ -74,7 +74,7 @@ pub record IsAmid (acts : ℕ → Bool) (tick floor : ℕ) (ahead : ℕ → ℕ)
     (u : World) : Type 0 where
   pub due : acts v ≡ true → x.next ≤ tick
   pub later : acts v ≡ false → tick < x.next
-  pub awake : acts v ≡ true → StandsAt (ahead v) floor (clock v) x.world.channel u
+  pub awake : acts v ≡ true → StandsAt (ahead v) (level floor floor) (clock v) x.world.channel u
   pub asleep : acts v ≡ false → Sleeps floor x u
 
 abbrev pub Amid : (acts : ℕ → Bool) (tick floor : ℕ) (ahead : ℕ → ℕ) (clock : ℕ → ℕ → ℕ) → Relation

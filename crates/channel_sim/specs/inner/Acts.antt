@@ -1,6 +1,6 @@
 -- What it means that the session of a call did something: its items, and the calls behind it. Cited by the private
 -- functions of `World` and on its calls alone.
-use Rattle.std.specs.Prelude.{◌≡◌, ◌≤◌, ◌-◌, ℕ, Bool, true, false, List, [], ◌∷◌, ◌++◌, Option, Some, None}
+use Rattle.std.specs.Prelude.{◌≡◌, ◌≤◌, ◌-◌, ◌⊎◌, ℕ, Bool, true, false, List, [], ◌∷◌, ◌++◌, Option, Some, None}
 use Rattle.std.specs.List.{AllByRecursion}
 use Rattle.std.specs.Option.{is_some}
 use Rattle.link_frames.specs.declared.frame.End.{End}
@@ -13,7 +13,7 @@ use Rattle.ivs_machine.specs.Vehicle.{Vehicle, vehicle_call}
 use Rattle.ivs_machine.specs.VehicleRows as vehicle
 use Rattle.psap_machine.specs.declared.session.Session as kept_session
 use Rattle.psap_machine.specs.Point.{Point}
-use Rattle.psap_machine.specs.SessionStands.{SessionStandsFor}
+use Rattle.psap_machine.specs.SessionStands.{SessionStandsFor, AtRest}
 use Rattle.psap_machine.specs.PointRows as point
 use Rattle.trace_model.specs.History.{Sent}
 use Rattle.channel_sim.specs.declared.calls.call.Call as kept_call
@@ -23,7 +23,7 @@ use Rattle.channel_sim.specs.declared.channel.Channel as kept_channel
 use Rattle.channel_sim.specs.World.{Act, Due, Session, InCall, Call, World, Step, due_in, each, seated, session_of}
 use Rattle.trace_fit.specs.Seats.{is_number, left_by}
 use Rattle.channel_sim.specs.Handing.{flow_way, hands_way, sent_way}
-use Rattle.channel_sim.specs.Lag.{VehicleLags, CallLags, CallsLag}
+use Rattle.channel_sim.specs.Lag.{LeastPassed, VehicleLags, CallLags, CallsLag}
 use Rattle.channel_sim.specs.Tidy.{AreAbove, HasLeg, CallInTime, numbers_of}
 
 -- the call, in which this end sent one frame more
@@ -42,7 +42,7 @@ seat_after row (Some s) = left_by (row s).new
 
 -- the session of this call, if it is there, did this
 pub record CallDid
-    (floor clock : ℕ) (done : Bool) (given : List Note) (new : kept_call.Call) (k : Call) (row : Point → Row Point)
+    (floor : LeastPassed) (clock : ℕ) (done : Bool) (given : List Note) (new : kept_call.Call) (k : Call) (row : Point → Row Point)
     : Type 0 where
   pub items : given ≡ seat_items row k.session
   pub acts : done ≡ true → is_some k.session ≡ true
@@ -51,7 +51,7 @@ pub record CallDid
 
 -- the session of the call of this number, if it is there, did this
 pub record SessionDid
-    (floor : ℕ) (clock : ℕ → ℕ) (done : Bool) (given : List Note) (new : List kept_call.Call) (c : ℕ)
+    (floor : LeastPassed) (clock : ℕ → ℕ) (done : Bool) (given : List Note) (new : List kept_call.Call) (c : ℕ)
     (row : Point → Row Point) (ks : List Call)
     : Type 0 where
   pub items : given ≡ seat_items row (session_of c ks)
@@ -59,9 +59,13 @@ pub record SessionDid
   pub rests : done ≡ false → is_some (seat_after row (session_of c ks)) ≡ is_some (session_of c ks)
   pub stands : CallsLag floor clock new (seated c (seat_after row (session_of c ks)) ks)
 
--- the call of this number was passed up to its clock
+-- a call was passed up to this tick, or its session is settled
+abbrev pub IsUpTo : ℕ → kept_call.Call → Type 0
+IsUpTo tick x = (x.passed ≡ tick) ⊎ AtRest x.session
+
+-- the call of this number was passed up to its clock, or its session is settled
 abbrev pub IsCaught : (ℕ → ℕ) → ℕ → List kept_call.Call → Type 0
-IsCaught clock c xs = AllByRecursion (λ x. x.number ≡ c → x.passed ≡ clock c) xs
+IsCaught clock c xs = AllByRecursion (λ x. x.number ≡ c → IsUpTo (clock c) x) xs
 
 -- whether a call is this one
 abbrev pub OtherHasLeg : (in_call concerned : Option ℕ) → Call → Type 0
@@ -70,7 +74,7 @@ OtherHasLeg in_call concerned k = is_number k.number concerned ≡ false → Has
 -- An end did something: what is kept stands for this world with this vehicle and these calls, before it is told and
 -- posted. Only the call that is concerned may have lost a leg.
 pub record IsReady
-    (ahead floor : ℕ) (clock : ℕ → ℕ) (kept : kept_channel.Channel) (w : World) (v : Vehicle) (ks : List Call)
+    (ahead : ℕ) (floor : LeastPassed) (clock : ℕ → ℕ) (kept : kept_channel.Channel) (w : World) (v : Vehicle) (ks : List Call)
     (concerned : Option ℕ)
     : Type 0 where
   pub tick : w.tick ≡ kept.tick
@@ -78,7 +82,7 @@ pub record IsReady
   pub up_flow : w.up_flow ≡ kept.up_flow
   pub down_flow : w.down_flow ≡ kept.down_flow
   pub passed : kept.passed ≤ ahead
-  pub from : floor ≤ kept.passed
+  pub from : floor.waking ≤ kept.passed
   pub vehicle : VehicleLags (ahead - kept.passed) kept.vehicle v
   pub calls : CallsLag floor clock kept.calls ks
   pub numbers : AreAbove 0 (numbers_of ks)

@@ -1,28 +1,23 @@
--- Sessions with nothing due: a session that waits for nothing does nothing, however many ticks pass. Cited by the model
--- of the calls that are kept, and by the private functions on elapsed time.
-use Rattle.std.specs.Prelude.{◌≡◌, ◌≤◌, ◌-◌, ℕ, List, Option, Some, None, length, take, drop}
+-- Calls that sleep: a session that is settled does nothing, however many ticks pass. Cited by the model of the calls that
+-- are kept, and by the private functions on elapsed time.
+use Rattle.std.specs.Prelude.{◌≡◌, ◌≤◌, ◌-◌, ℕ, List, length, take, drop}
 use Rattle.std.specs.List.{AllByRecursion}
-use Rattle.psap_machine.specs.declared.session.Session.{Session}
-use Rattle.psap_machine.specs.SessionStands.{WaitsForNothing}
 use Rattle.channel_sim.specs.declared.calls.call.Call.{Call}
 use Rattle.channel_sim.specs.declared.calls.counts.Counts.{Counts}
+use Rattle.psap_machine.specs.SessionStands.{AtRest}
 use Rattle.channel_sim.specs.inner.Past.{HandsNothing, IsBefore, IsPast}
 use Rattle.channel_sim.specs.inner.Seats.{DueLater}
 
--- this session, if it is there, waits for nothing
-abbrev pub NothingDue : Option Session → Type 0
-NothingDue None = Unit {0}
-NothingDue (Some session) = WaitsForNothing session
-
+-- its session, if it is there, is settled
 abbrev pub Sleeps : Call → Type 0
-Sleeps k = NothingDue k.session
+Sleeps k = AtRest k.session
 
--- in so many of the first of these calls nothing is due
+-- in so many of the first of these calls it is so
 pub record AreAsleep (n : ℕ) (calls : List Call) : Type 0 where
   pub within : n ≤ length calls
   pub sleep : AllByRecursion Sleeps (take n calls)
 
--- all of these calls but the first, in which nothing is due
+-- all of these calls but the first, which sleep
 pub record IsAwakePart (part calls : List Call) : Type 0 where
   pub front : ℕ
   pub same : part ≡ drop front calls
@@ -35,7 +30,7 @@ pub record IsStirringPart (up_flow down_flow tick : ℕ) (part calls : List Call
   pub sleep : AllByRecursion Sleeps (take front calls)
   pub over : AllByRecursion (HandsNothing up_flow down_flow tick) (take front calls)
 
--- all of these calls but the first, in which nothing is due, and all frames were sent earlier than at this tick
+-- all of these calls but the first, which sleep, and in which all frames were sent earlier than at this tick
 pub record IsLatePart (tick : ℕ) (part calls : List Call) : Type 0 where
   pub front : ℕ
   pub same : part ≡ drop front calls

@@ -5,6 +5,8 @@ use Rattle.link_frames.specs.declared.note.Why.TheVariants as why
 use Rattle.ivs_machine.specs.Vehicle.{vehicle_call, is_dialling, is_reachable}
 use Rattle.ivs_machine.specs.VehicleRows as vehicle
 use Rattle.psap_machine.specs.PointRows as point
+use Rattle.channel_sim.specs.declared.channel.Passing.{Passing}
+use Rattle.channel_sim.specs.declared.channel.Passing.TheVariants as passing
 use Rattle.channel_sim.specs.declared.happening.Happening.{Happening}
 use Rattle.channel_sim.specs.declared.happening.Happening.TheVariants as happening
 use Rattle.channel_sim.specs.World.{World, Step, Hears, InCall, quiet_step, call_of, vehicle_is_in, point_is_in, units, ends}
@@ -28,6 +30,21 @@ happens (happening.Flow true delay) w = quiet_step (record w { up_flow = delay }
 happens (happening.Flow false delay) w = quiet_step (record w { down_flow = delay })
 happens happening.ResetPoint w = point_resets w
 happens (happening.Elapse n) w = units n w
+
+-- from which tick on sessions that are settled may lag, behind a line of elapsed time and behind any happening
+
+abbrev pub settled_by : Passing → (settled tick : ℕ) → ℕ
+settled_by passing.All settled tick = tick
+settled_by passing.Waking settled tick = settled
+
+abbrev pub settled_behind : Happening → Passing → (settled tick : ℕ) → ℕ
+settled_behind (happening.Elapse n) passed settled tick = settled_by passed settled tick
+settled_behind _ passed settled tick = settled
+
+-- where all ends are passed, this holds
+abbrev pub IfAll : Passing → Type 0 → Type 0
+IfAll passing.All Holds = Holds
+IfAll passing.Waking Holds = Unit {0}
 
 -- a happening that may draw a call number
 abbrev pub DrawsCall : Happening → Type 0

@@ -1,13 +1,13 @@
 //! A call with a leg up, and what its session does.
 
-ghost use Rattle.std.specs.Prelude.{◌≡◌, ◌≤◌, ◌<◌, ◌-◌, ◌+◌, ℕ, [], Option, true, false, Some, None, OnOk, length, slice_get, if◌then◌else◌, ◌^◌};
+ghost use Rattle.std.specs.Prelude.{◌≡◌, ◌≤◌, ◌<◌, ◌-◌, ◌+◌, ◌↔◌, ℕ, IsTrue, [], Option, true, false, Some, None, OnOk, length, slice_get, if◌then◌else◌, ◌^◌};
 ghost use Rattle.std.specs.Option.{is_some, option_map};
 ghost use Rattle.psap_machine.specs.Point.{Point};
 ghost use Rattle.psap_machine.specs.PointRows as point;
 ghost use Rattle.channel_sim.specs.World as model;
-ghost use Rattle.channel_sim.specs.inner.Acts.{pushed, CallDid};
+ghost use Rattle.channel_sim.specs.inner.Acts.{pushed, CallDid, IsUpTo};
 ghost use Rattle.channel_sim.specs.Handing.{full};
-ghost use Rattle.channel_sim.specs.Lag.{CallLags};
+ghost use Rattle.channel_sim.specs.Lag.{LeastPassed, CallLags};
 ghost use Rattle.channel_sim.specs.inner.Asleep.{Sleeps};
 ghost use Rattle.channel_sim.specs.inner.Past.{IsPast};
 ghost use Rattle.channel_sim.specs.inner.Passes.{once_if};
@@ -89,14 +89,20 @@ impl Call {
     }
 }
 
-/// The session of this call hears this, and one that is over is gone: whether it is there. Its items stand in `items`.
-pub(super) fn hear_call(call: &mut Call, event: &PointEvent<'_>, items: &mut Items) -> bool
-    ensures same { call.new ≡ record call.old { session = call.new.session } }
+/// The session of this call hears this at a tick, and one that is over is gone: whether it is there. Its items stand in
+/// `items`. One that is settled need not be passed up to the tick before, and stays as it is where it is settled then.
+pub(super) fn hear_call(
+    call: &mut Call,
+    tick: u64,
+    event: &PointEvent<'_>,
+    items: &mut Items,
+) -> bool
+    ensures same { call.new ≡ record call.old { session = call.new.session; passed = call.new.passed } }
     ensures variant { result ≡ is_some call.old.session }
-    ensures did { (floor : ℕ) (clock : ℕ) (k : model.Call) → CallLags floor clock call.old k →
-        call.old.passed ≡ clock → CallDid floor clock result items.new.items call.new k
+    ensures did { (floor : LeastPassed) (k : model.Call) → CallLags floor tick call.old k → floor.waking ≤ tick →
+        IsUpTo tick call.old → CallDid floor tick result items.new.items call.new k
         (λ s. point.point_row s (point.heard event.now)) }
-    ensures ended { (floor : ℕ) (clock : ℕ) (k : model.Call) → CallLags floor clock call.old k →
+    ensures ended { (floor : LeastPassed) (clock : ℕ) (k : model.Call) → CallLags floor clock call.old k →
         event.now ≡ PointEvent.Ended Why.Release → CallDid floor clock result items.new.items call.new k
         (λ s. point.point_row s (point.Ended Why.Release)) }
 {
@@ -107,6 +113,9 @@ pub(super) fn hear_call(call: &mut Call, event: &PointEvent<'_>, items: &mut Ite
                 call.session = Seat::free();
             } else {
                 call.session.quiet = quiet_ticks(session);
+                if !session.is_settled() {
+                    call.passed = tick;
+                }
             }
             true
         }
@@ -125,9 +134,9 @@ pub(crate) fn catch_up<L: Ledger>(
     moments: &mut Steps<L>,
 )
     ensures same { call.new ≡ record call.old { session = call.new.session; passed = tick } }
-    ensures caught { (floor : ℕ) (k : model.Call) → CallLags floor tick call.old k → CallLags floor tick call.new k }
-    ensures passes { (floor : ℕ) (k : model.Call) → CallLags floor tick call.old k → tick < floor + 2 ^ 32 →
-        moments.new ≤ moments.old + once_if k.session }
+    ensures caught { (floor : LeastPassed) (k : model.Call) → CallLags floor tick call.old k → CallLags floor tick call.new k }
+    ensures passes { (floor : LeastPassed) (k : model.Call) → CallLags floor tick call.old k →
+        tick < call.old.passed + 2 ^ 32 → moments.new ≤ moments.old + once_if k.session }
 {
     let lag = tick.saturating_sub(call.passed);
     if lag > 0 {
@@ -139,15 +148,43 @@ pub(crate) fn catch_up<L: Ledger>(
     call.passed = tick;
 }
 
-/// Passes a call's session, which does nothing however many ticks pass, up to a tick.
+/// The same, but a session that is settled stays as it is. `items` is room.
+pub(crate) fn catch_waking_up<L: Ledger>(
+    call: &mut Call,
+    tick: u64,
+    items: &mut Items,
+    moments: &mut Steps<L>,
+)
+    ensures same { call.new ≡ record call.old { session = call.new.session; passed = call.new.passed } }
+    ensures reached { IsUpTo tick call.new }
+    ensures caught { (floor : LeastPassed) (k : model.Call) → CallLags floor tick call.old k → CallLags floor tick call.new k }
+    ensures passes { (floor : LeastPassed) (k : model.Call) → CallLags floor tick call.old k → tick < floor.waking + 2 ^ 32 →
+        moments.new ≤ moments.old + once_if k.session }
+{
+    if !sleeps(call) {
+        catch_up(call, tick, items, moments);
+    }
+}
+
+/// Whether the session of this call, if it is there, is settled.
+pub(super) fn sleeps(call: &Call) -> bool
+    ensures { IsTrue result ↔ Sleeps call.now }
+{
+    match call.session.session() {
+        Some(session) => session.is_settled(),
+        None => true,
+    }
+}
+
+/// Passes a call's session, which is settled, up to a tick.
 #[inline]
 pub(super) fn rest_up<L: Ledger>(call: &mut Call, tick: u64, moments: &mut Steps<L>)
     requires { Sleeps call.old }
     ensures same { call.new ≡ record call.old { session = call.new.session; passed = tick } }
     ensures asleep { Sleeps call.new }
-    ensures caught { (floor : ℕ) (k : model.Call) → CallLags floor tick call.old k → CallLags floor tick call.new k }
-    ensures passes { (floor : ℕ) (k : model.Call) → CallLags floor tick call.old k → tick < floor + 2 ^ 32 →
-        moments.new ≤ moments.old + once_if k.session }
+    ensures caught { (floor : LeastPassed) (k : model.Call) → CallLags floor tick call.old k → CallLags floor tick call.new k }
+    ensures passes { (floor : LeastPassed) (k : model.Call) → CallLags floor tick call.old k →
+        tick < call.old.passed + 2 ^ 32 → moments.new ≤ moments.old + once_if k.session }
 {
     if let Some(session) = &mut call.session.session {
         rest_by(session, tick.saturating_sub(call.passed), moments);
@@ -163,11 +200,11 @@ pub(crate) fn act_at<L: Ledger>(
     items: &mut Items,
     moments: &mut Steps<L>,
 ) -> bool
-    ensures did { (floor before : ℕ) (k : model.Call) → CallLags floor before call.old k → before + 1 ≡ tick →
+    ensures did { (floor : LeastPassed) (before : ℕ) (k : model.Call) → CallLags floor before call.old k → before + 1 ≡ tick →
         CallDid floor tick result items.new.items call.new k point.unit_row }
     ensures none { result ≡ false → items.new.items ≡ [] }
     ensures same { call.new ≡ record call.old { session = call.new.session; passed = call.new.passed } }
-    ensures passes { (floor before : ℕ) (k : model.Call) → CallLags floor before call.old k →
+    ensures passes { (floor : LeastPassed) (before : ℕ) (k : model.Call) → CallLags floor before call.old k →
         moments.new ≤ moments.old + length items.new.items }
 {
     let lag = tick.saturating_sub(call.passed);

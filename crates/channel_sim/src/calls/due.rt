@@ -6,7 +6,7 @@ ghost use Rattle.std.specs.Option.{option_map};
 ghost use Rattle.channel_sim.specs.World as model;
 ghost use Rattle.channel_sim.specs.inner.Acts.{due_by};
 ghost use Rattle.channel_sim.specs.Handing.{due_of, sent_way, full};
-ghost use Rattle.channel_sim.specs.Lag.{CallLags, CallsLag};
+ghost use Rattle.channel_sim.specs.Lag.{LeastPassed, CallLags, CallsLag};
 ghost use Rattle.channel_sim.specs.Tidy.{AreFrom, ticks_of, CallInTime};
 ghost use Rattle.channel_sim.specs.inner.Sends.{IsFirstFrom};
 
@@ -89,7 +89,7 @@ fn add_all_due(
     tick: u64,
     near: &mut usize,
 ) -> Result<(), AllocError>
-    ensures { (d floor now : ℕ) (clock : ℕ → ℕ) (ks : List model.Call) → CallsLag floor clock calls.now ks →
+    ensures { (d : ℕ) (floor : LeastPassed) (now : ℕ) (clock : ℕ → ℕ) (ks : List model.Call) → CallsLag floor clock calls.now ks →
         AllByRecursion (CallInTime now) ks → OnOk result
         (map due_of due.new.items ≡ map due_of due.old.items ++ model.due_in (sent_way up) (suc d) (tick + suc d) ks) }
 {
@@ -108,7 +108,7 @@ pub(crate) fn call_due(
     now: u64,
     near: &mut usize,
 ) -> Result<(), AllocError>
-    ensures { (floor clock : ℕ) (k : model.Call) → CallLags floor clock call.now k → CallInTime now k → OnOk result
+    ensures { (floor : LeastPassed) (clock : ℕ) (k : model.Call) → CallLags floor clock call.now k → CallInTime now k → OnOk result
         (map due_of due.new.items ≡ map due_of due.old.items ++ model.due_in (sent_way up) flow now (k ∷ [])) }
 {
     let delay = u64::from(flow);
@@ -128,7 +128,7 @@ pub(crate) fn all_due(
     due: &mut Vec<Due>,
     near: &mut usize,
 ) -> Result<(), AllocError>
-    ensures { (floor : ℕ) (clock : ℕ → ℕ) (ks : List model.Call) → CallsLag floor clock calls.now ks →
+    ensures { (floor : LeastPassed) (clock : ℕ → ℕ) (ks : List model.Call) → CallsLag floor clock calls.now ks →
         AllByRecursion (CallInTime now) ks →
         OnOk result (map due_of due.new.items ≡ model.due_in (sent_way up) flow now ks) }
 {

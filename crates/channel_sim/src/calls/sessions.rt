@@ -8,11 +8,11 @@ ghost use Rattle.psap_machine.specs.PointRows as point;
 ghost use Rattle.psap_machine.specs.SessionStands.{SessionStandsFor};
 ghost use Rattle.channel_sim.specs.World as model;
 ghost use Rattle.channel_sim.specs.inner.Acts.{SessionDid, IsCaught};
-ghost use Rattle.channel_sim.specs.Lag.{AreSameBut, CallsLag};
+ghost use Rattle.channel_sim.specs.Lag.{LeastPassed, AreSameBut, CallsLag, level};
 ghost use Rattle.channel_sim.specs.Tidy.{AreAbove, numbers_of};
 ghost use Rattle.channel_sim.specs.inner.Passes.{once_if};
 
-use super::call::{act_at, catch_up, hear_call};
+use super::call::{act_at, catch_waking_up, hear_call};
 use super::seat::Seat;
 use super::{Call, Calls, find};
 use link_frames::{Items, Steps, Why, no_items};
@@ -21,7 +21,7 @@ use std::sync::ledger::Ledger;
 
 /// Whether a call's session is there.
 pub(crate) fn has_session(calls: &[Call], number: u32) -> bool
-    ensures { (floor : ℕ) (clock : ℕ → ℕ) (ks : List model.Call) → CallsLag floor clock calls.now ks →
+    ensures { (floor : LeastPassed) (clock : ℕ → ℕ) (ks : List model.Call) → CallsLag floor clock calls.now ks →
         AreAbove 0 (numbers_of ks) →
         result ≡ is_some (model.session_of number ks) }
 {
@@ -31,33 +31,37 @@ pub(crate) fn has_session(calls: &[Call], number: u32) -> bool
     }
 }
 
-/// A session comes up in the call of a number.
-pub(crate) fn admit(calls: &mut Calls, number: u32, session: Session)
-    ensures { (tick : ℕ) (s : Point) (ks : List model.Call) → CallsLag tick (λ c. tick) calls.old ks →
+/// A session comes up in the call of a number, at a tick.
+pub(crate) fn admit(calls: &mut Calls, number: u32, tick: u64, session: Session)
+    ensures { (settled : ℕ) (s : Point) (ks : List model.Call) → CallsLag (level settled tick) (λ c. tick) calls.old ks →
         AreAbove 0 (numbers_of ks) → SessionStandsFor session s → left_by s ≡ Some s →
-        CallsLag tick (λ c. tick) calls.new (model.seated number (Some s) ks) }
+        CallsLag (level settled tick) (λ c. tick) calls.new (model.seated number (Some s) ks) }
 {
     if let Some(i) = find(&calls.list, number) {
         calls.counts.wake(i);
-        calls.list[i].session = Seat::of(session);
+        let call = &mut calls.list[i];
+        call.session = Seat::of(session);
+        call.passed = tick;
     }
 }
 
-/// The session of a call hears this, and one that is over is gone: whether it is there. Its items stand in `items`.
+/// The session of a call hears this at a tick, and one that is over is gone: whether it is there. Its items stand in
+/// `items`.
 pub(crate) fn hear_session(
     calls: &mut Calls,
     number: u32,
+    tick: u64,
     event: &PointEvent<'_>,
     items: &mut Items,
 ) -> bool
-    ensures variant { (floor : ℕ) (clock : ℕ → ℕ) (ks : List model.Call) →
+    ensures variant { (floor : LeastPassed) (clock : ℕ → ℕ) (ks : List model.Call) →
         CallsLag floor clock calls.old ks → AreAbove 0 (numbers_of ks) →
         result ≡ is_some (model.session_of number ks) }
-    ensures did { (floor : ℕ) (clock : ℕ → ℕ) (ks : List model.Call) → CallsLag floor clock calls.old ks →
-        AreAbove 0 (numbers_of ks) → IsCaught clock number calls.old →
+    ensures did { (floor : LeastPassed) (clock : ℕ → ℕ) (ks : List model.Call) → CallsLag floor clock calls.old ks →
+        AreAbove 0 (numbers_of ks) → floor.waking ≤ tick → clock number ≡ tick → IsCaught clock number calls.old →
         SessionDid floor clock result items.new.items calls.new number
         (λ s. point.point_row s (point.heard event.now)) ks }
-    ensures ended { (floor : ℕ) (clock : ℕ → ℕ) (ks : List model.Call) → CallsLag floor clock calls.old ks →
+    ensures ended { (floor : LeastPassed) (clock : ℕ → ℕ) (ks : List model.Call) → CallsLag floor clock calls.old ks →
         AreAbove 0 (numbers_of ks) → event.now ≡ PointEvent.Ended Why.Release →
         SessionDid floor clock result items.new.items calls.new number
         (λ s. point.point_row s (point.Ended Why.Release)) ks }
@@ -65,7 +69,7 @@ pub(crate) fn hear_session(
     match find(&calls.list, number) {
         Some(i) => {
             calls.counts.wake(i);
-            hear_call(&mut calls.list[i], event, items)
+            hear_call(&mut calls.list[i], tick, event, items)
         }
         None => {
             no_items(items);
@@ -84,12 +88,12 @@ pub(crate) fn act_session<L: Ledger>(
     items: &mut Items,
     moments: &mut Steps<L>,
 ) -> bool
-    ensures did { (floor : ℕ) (before after : ℕ → ℕ) (ks : List model.Call) →
+    ensures did { (floor : LeastPassed) (before after : ℕ → ℕ) (ks : List model.Call) →
         CallsLag floor before calls.old ks → AreAbove 0 (numbers_of ks) → before number + 1 ≡ tick →
         after number ≡ tick → AreSameBut number before after →
         SessionDid floor after result items.new.items calls.new number point.unit_row ks }
     ensures none { result ≡ false → items.new.items ≡ [] }
-    ensures passes { (floor : ℕ) (before : ℕ → ℕ) (ks : List model.Call) →
+    ensures passes { (floor : LeastPassed) (before : ℕ → ℕ) (ks : List model.Call) →
         CallsLag floor before calls.old ks → AreAbove 0 (numbers_of ks) →
         moments.new ≤ moments.old + length items.new.items }
 {
@@ -105,7 +109,8 @@ pub(crate) fn act_session<L: Ledger>(
     }
 }
 
-/// Passes the session of a call up to this tick, up to which it does nothing. `items` is room.
+/// Passes the session of a call up to this tick, up to which it does nothing; one that is settled stays as it is.
+/// `items` is room.
 pub(crate) fn catch_session_up<L: Ledger>(
     calls: &mut Calls,
     number: u32,
@@ -113,16 +118,16 @@ pub(crate) fn catch_session_up<L: Ledger>(
     items: &mut Items,
     moments: &mut Steps<L>,
 )
-    ensures lags { (floor : ℕ) (ks : List model.Call) → CallsLag floor (λ c. tick) calls.old ks →
+    ensures lags { (floor : LeastPassed) (ks : List model.Call) → CallsLag floor (λ c. tick) calls.old ks →
         AreAbove 0 (numbers_of ks) → CallsLag floor (λ c. tick) calls.new ks }
-    ensures caught { (floor : ℕ) (ks : List model.Call) → CallsLag floor (λ c. tick) calls.old ks →
+    ensures caught { (floor : LeastPassed) (ks : List model.Call) → CallsLag floor (λ c. tick) calls.old ks →
         AreAbove 0 (numbers_of ks) → IsCaught (λ c. tick) number calls.new }
-    ensures passes { (floor : ℕ) (ks : List model.Call) → CallsLag floor (λ c. tick) calls.old ks →
-        AreAbove 0 (numbers_of ks) → tick < floor + 2 ^ 32 → moments.new ≤ moments.old + once_if
+    ensures passes { (floor : LeastPassed) (ks : List model.Call) → CallsLag floor (λ c. tick) calls.old ks →
+        AreAbove 0 (numbers_of ks) → tick < floor.waking + 2 ^ 32 → moments.new ≤ moments.old + once_if
         (model.session_of number ks) }
 {
     if let Some(i) = find(&calls.list, number) {
         calls.counts.wake(i);
-        catch_up(&mut calls.list[i], tick, items, moments);
+        catch_waking_up(&mut calls.list[i], tick, items, moments);
     }
 }

@@ -23,14 +23,14 @@ impl Channel {
     ghost use Rattle.channel_sim.specs.World as model;
     ghost use Rattle.channel_sim.specs.SimFault.{CountsFaults};
     ghost use Rattle.channel_sim.specs.inner.Acts.{IsCaught, IsReady, OtherHasLeg};
-    ghost use Rattle.channel_sim.specs.Lag.{CameAt, CallsLag, StandsAt, VehicleLags};
+    ghost use Rattle.channel_sim.specs.Lag.{LeastPassed, CameAt, CallsLag, StandsAt, VehicleLags};
     ghost use Rattle.channel_sim.specs.Tidy.{AreAbove, numbers_of};
     ghost use Rattle.channel_sim.specs.Passes.{passes_of};
 
     /// A call is gone once both its legs are down.
     fn drop_call(&mut self, number: u32)
         ensures same { self.new ≡ record self.old { calls = self.new.calls } }
-        ensures calls { (n : ℕ) (floor : ℕ) (clock : ℕ → ℕ) (v : Vehicle) (ks : List model.Call) →
+        ensures calls { (n : ℕ) (floor : LeastPassed) (clock : ℕ → ℕ) (v : Vehicle) (ks : List model.Call) →
             VehicleLags n self.old.vehicle v →
             CallsLag floor clock self.old.calls ks → AreAbove 0 (numbers_of ks) →
             AllByRecursion (OtherHasLeg (vehicle_call v) (Some number)) ks →
@@ -44,7 +44,7 @@ impl Channel {
     /// The call that is concerned, if any, is gone once both its legs are down.
     fn drop_concerned(&mut self, call: Option<u32>)
         ensures same { self.new ≡ record self.old { calls = self.new.calls } }
-        ensures calls { (n : ℕ) (floor : ℕ) (clock : ℕ → ℕ) (v : Vehicle) (ks : List model.Call) →
+        ensures calls { (n : ℕ) (floor : LeastPassed) (clock : ℕ → ℕ) (v : Vehicle) (ks : List model.Call) →
             VehicleLags n self.old.vehicle v →
             CallsLag floor clock self.old.calls ks → AreAbove 0 (numbers_of ks) →
             AllByRecursion (OtherHasLeg (vehicle_call v) call) ks →
@@ -63,7 +63,7 @@ impl Channel {
         call: Option<u32>,
         to: &mut H,
     ) -> Result<(), SimFault>
-        ensures step { (ahead : ℕ) (floor : ℕ) (clock : ℕ → ℕ) (w : model.World) (v : Vehicle) (ks : List model.Call) →
+        ensures step { (ahead : ℕ) (floor : LeastPassed) (clock : ℕ → ℕ) (w : model.World) (v : Vehicle) (ks : List model.Call) →
             IsReady ahead floor clock self.old w v ks call →
             CameAt (H.grew to.old to.new) (H.partly to.old to.new) result ahead floor clock self.new
             (model.did w items.now v ks) }
@@ -88,15 +88,15 @@ impl Channel {
         to: &mut H,
         moments: &mut Steps<L>,
     ) -> Result<(), SimFault>
-        ensures step { (ahead : ℕ) (floor : ℕ) (clock : ℕ → ℕ) (w : model.World) (v : Vehicle) (ks : List model.Call) →
+        ensures step { (ahead : ℕ) (floor : LeastPassed) (clock : ℕ → ℕ) (w : model.World) (v : Vehicle) (ks : List model.Call) →
             IsReady ahead floor clock self.old w v ks call → ahead ≡ self.old.tick →
             CameAt (H.grew to.old to.new) (H.partly to.old to.new) result ahead floor clock self.new
             (model.settled (model.did w items.now v ks)) }
         ensures tick { self.new.tick ≡ self.old.tick }
         ensures faults { CountsFaults result (H.faults to.old) (H.faults to.new) }
-        ensures passes { (ahead : ℕ) (floor : ℕ) (clock : ℕ → ℕ) (w : model.World) (v : Vehicle)
+        ensures passes { (ahead : ℕ) (floor : LeastPassed) (clock : ℕ → ℕ) (w : model.World) (v : Vehicle)
             (ks : List model.Call) →
-            IsReady ahead floor clock self.old w v ks call → ahead ≡ self.old.tick → self.old.tick < floor + 2 ^ 32 →
+            IsReady ahead floor clock self.old w v ks call → ahead ≡ self.old.tick → self.old.tick < floor.waking + 2 ^ 32 →
             moments.new + length items.now ≤ moments.old + passes_of (model.settled (model.did w items.now v ks)) }
         ensures still { self.old.passed ≡ self.old.tick → (self.new.passed ≡ self.new.tick)
             × (moments.new ≡ moments.old) }
@@ -113,7 +113,7 @@ impl Channel {
         items: &mut Items,
         to: &mut H,
     ) -> Result<(), SimFault>
-        ensures step { (ahead : ℕ) (floor : ℕ) (clock : ℕ → ℕ) (w : model.World) →
+        ensures step { (ahead : ℕ) (floor : LeastPassed) (clock : ℕ → ℕ) (w : model.World) →
             StandsAt ahead floor clock self.old w →
             ahead ≡ self.old.passed →
             CameAt (H.grew to.old to.new) (H.partly to.old to.new) result ahead floor clock self.new
@@ -136,7 +136,7 @@ impl Channel {
         to: &mut H,
         moments: &mut Steps<L>,
     ) -> Result<(), SimFault>
-        ensures step { (ahead : ℕ) (floor : ℕ) (clock : ℕ → ℕ) (w : model.World) →
+        ensures step { (ahead : ℕ) (floor : LeastPassed) (clock : ℕ → ℕ) (w : model.World) →
             StandsAt ahead floor clock self.old w →
             ahead ≡ self.old.passed → ahead ≡ self.old.tick →
             CameAt (H.grew to.old to.new) (H.partly to.old to.new) result ahead floor clock self.new
@@ -160,7 +160,7 @@ impl Channel {
         items: &mut Items,
         to: &mut H,
     ) -> Result<(), SimFault>
-        ensures step { (ahead : ℕ) (floor : ℕ) (clock : ℕ → ℕ) (w : model.World) →
+        ensures step { (ahead : ℕ) (floor : LeastPassed) (clock : ℕ → ℕ) (w : model.World) →
             StandsAt ahead floor clock self.old w →
             CameAt (H.grew to.old to.new) (H.partly to.old to.new) result ahead floor clock self.new
             (model.does (model.Session number (point.Ended Why.Release)) w) }
@@ -169,7 +169,7 @@ impl Channel {
         ensures passed { self.new.passed ≡ self.old.passed }
     {
         let event = PointEvent::Ended(Why::Release);
-        if hear_session(&mut self.calls, number, &event, items) {
+        if hear_session(&mut self.calls, number, self.tick, &event, items) {
             self.did(alloc, items.as_slice(), Some(number), to)
         } else {
             Ok(())
@@ -186,21 +186,21 @@ impl Channel {
         to: &mut H,
         moments: &mut Steps<L>,
     ) -> Result<(), SimFault>
-        ensures step { (ahead : ℕ) (floor : ℕ) (clock : ℕ → ℕ) (w : model.World) →
+        ensures step { (ahead : ℕ) (floor : LeastPassed) (clock : ℕ → ℕ) (w : model.World) →
             StandsAt ahead floor clock self.old w →
-            ahead ≡ self.old.tick → IsCaught clock number self.old.calls →
+            ahead ≡ self.old.tick → clock number ≡ ahead → IsCaught clock number self.old.calls →
             CameAt (H.grew to.old to.new) (H.partly to.old to.new) result ahead floor clock self.new
             (model.performs (model.Session number (point.heard event.now)) w) }
         ensures tick { self.new.tick ≡ self.old.tick }
         ensures faults { CountsFaults result (H.faults to.old) (H.faults to.new) }
-        ensures passes { (ahead : ℕ) (floor : ℕ) (clock : ℕ → ℕ) (w : model.World) →
+        ensures passes { (ahead : ℕ) (floor : LeastPassed) (clock : ℕ → ℕ) (w : model.World) →
             StandsAt ahead floor clock self.old w →
-            ahead ≡ self.old.tick → IsCaught clock number self.old.calls → self.old.tick < floor + 2 ^ 32 →
+            ahead ≡ self.old.tick → clock number ≡ ahead → IsCaught clock number self.old.calls → self.old.tick < floor.waking + 2 ^ 32 →
             moments.new ≤ moments.old + passes_of (model.performs (model.Session number (point.heard event.now)) w) }
         ensures still { self.old.passed ≡ self.old.tick → (self.new.passed ≡ self.new.tick)
             × (moments.new ≡ moments.old) }
     {
-        if hear_session(&mut self.calls, number, event, &mut given.own) {
+        if hear_session(&mut self.calls, number, self.tick, event, &mut given.own) {
             let items = given.own.as_slice();
             self.settles(alloc, items, &mut given.other, Some(number), to, moments)
         } else {
@@ -217,16 +217,16 @@ impl Channel {
         to: &mut H,
         moments: &mut Steps<L>,
     ) -> Result<(), SimFault>
-        ensures step { (ahead : ℕ) (floor : ℕ) (clock : ℕ → ℕ) (w : model.World) →
+        ensures step { (ahead : ℕ) (floor : LeastPassed) (clock : ℕ → ℕ) (w : model.World) →
             StandsAt ahead floor clock self.old w →
             ahead ≡ self.old.tick →
             CameAt (H.grew to.old to.new) (H.partly to.old to.new) result ahead floor clock self.new
             (model.does_each (model.consequence note.now) w) }
         ensures tick { self.new.tick ≡ self.old.tick }
         ensures faults { CountsFaults result (H.faults to.old) (H.faults to.new) }
-        ensures passes { (ahead : ℕ) (floor : ℕ) (clock : ℕ → ℕ) (w : model.World) →
+        ensures passes { (ahead : ℕ) (floor : LeastPassed) (clock : ℕ → ℕ) (w : model.World) →
             StandsAt ahead floor clock self.old w →
-            ahead ≡ self.old.tick → self.old.tick < floor + 2 ^ 32 →
+            ahead ≡ self.old.tick → self.old.tick < floor.waking + 2 ^ 32 →
             moments.new ≤ moments.old + passes_of (model.does_each (model.consequence note.now) w) }
         ensures still { self.old.passed ≡ self.old.tick → (self.new.passed ≡ self.new.tick)
             × (moments.new ≡ moments.old) }
@@ -253,16 +253,16 @@ impl Channel {
         to: &mut H,
         moments: &mut Steps<L>,
     ) -> Result<(), SimFault>
-        ensures step { (ahead : ℕ) (floor : ℕ) (clock : ℕ → ℕ) (w : model.World) →
+        ensures step { (ahead : ℕ) (floor : LeastPassed) (clock : ℕ → ℕ) (w : model.World) →
             StandsAt ahead floor clock self.old w →
             ahead ≡ self.old.tick →
             CameAt (H.grew to.old to.new) (H.partly to.old to.new) result ahead floor clock self.new
             (model.does_each (model.consequences (told w.tick items.now)) w) }
         ensures tick { self.new.tick ≡ self.old.tick }
         ensures faults { CountsFaults result (H.faults to.old) (H.faults to.new) }
-        ensures passes { (ahead : ℕ) (floor : ℕ) (clock : ℕ → ℕ) (w : model.World) →
+        ensures passes { (ahead : ℕ) (floor : LeastPassed) (clock : ℕ → ℕ) (w : model.World) →
             StandsAt ahead floor clock self.old w →
-            ahead ≡ self.old.tick → self.old.tick < floor + 2 ^ 32 →
+            ahead ≡ self.old.tick → self.old.tick < floor.waking + 2 ^ 32 →
             moments.new ≤ moments.old + passes_of (model.does_each (model.consequences (told w.tick items.now)) w) }
         ensures still { self.old.passed ≡ self.old.tick → (self.new.passed ≡ self.new.tick)
             × (moments.new ≡ moments.old) }

@@ -49,13 +49,13 @@ impl Channel {
         to: &mut H,
         moments: &mut Steps<L>,
     ) -> Result<(), SimFault>
-        ensures step { (w : model.World) → StandsNow self.old w →
-            CameNow (H.grew to.old to.new) (H.partly to.old to.new) result self.new
+        ensures step { (settled : ℕ) (w : model.World) → StandsNow settled self.old w →
+            CameNow (H.grew to.old to.new) (H.partly to.old to.new) result settled self.new
             (lines.or_nothing (lines.at_point number (point.heard event.now) w) w) }
         ensures faults { CountsFaults result (H.faults to.old) (H.faults to.new) }
         ensures still { self.old.passed ≡ self.old.tick → moments.new ≡ moments.old }
     {
-        if hear_session(&mut self.calls, number, event, &mut given.own) {
+        if hear_session(&mut self.calls, number, self.tick, event, &mut given.own) {
             let items = given.own.as_slice();
             self.settles(alloc, items, &mut given.other, Some(number), to, moments)
         } else {
@@ -71,8 +71,8 @@ impl Channel {
         to: &mut H,
         moments: &mut Steps<L>,
     ) -> Result<(), SimFault>
-        ensures step { (w : model.World) → StandsNow self.old w →
-            CameNow (H.grew to.old to.new) (H.partly to.old to.new) result self.new
+        ensures step { (settled : ℕ) (w : model.World) → StandsNow settled self.old w →
+            CameNow (H.grew to.old to.new) (H.partly to.old to.new) result settled self.new
             (lines.or_nothing (lines.in_its_call (vehicle_call w.vehicle) vehicle.Lost) w) }
         ensures faults { CountsFaults result (H.faults to.old) (H.faults to.new) }
         ensures still { self.old.passed ≡ self.old.tick → moments.new ≡ moments.old }
@@ -93,8 +93,8 @@ impl Channel {
         to: &mut H,
         moments: &mut Steps<L>,
     ) -> Result<(), SimFault>
-        ensures step { (w : model.World) → StandsNow self.old w →
-            CameNow (H.grew to.old to.new) (H.partly to.old to.new) result self.new
+        ensures step { (settled : ℕ) (w : model.World) → StandsNow settled self.old w →
+            CameNow (H.grew to.old to.new) (H.partly to.old to.new) result settled self.new
             (lines.or_nothing (lines.when (model.vehicle_is_in number w) (lines.Does (model.InCall number vehicle.Lost))
             ++ lines.at_point number (point.Ended Why.Lost) w) w) }
         ensures faults { CountsFaults result (H.faults to.old) (H.faults to.new) }
@@ -125,8 +125,8 @@ impl Channel {
         to: &mut H,
         moments: &mut Steps<L>,
     ) -> Result<(), SimFault>
-        ensures step { (w : model.World) → StandsNow self.old w → model.vehicle_is_in number w ≡ true →
-            CameNow (H.grew to.old to.new) (H.partly to.old to.new) result self.new
+        ensures step { (settled : ℕ) (w : model.World) → StandsNow settled self.old w → model.vehicle_is_in number w ≡ true →
+            CameNow (H.grew to.old to.new) (H.partly to.old to.new) result settled self.new
             (model.each lines.deed (lines.Does (model.InCall number vehicle.Lost) ∷
             lines.when at_point (lines.Does (model.Session number (point.Ended Why.Lost)))) w) }
         ensures faults { CountsFaults result (H.faults to.old) (H.faults to.new) }
@@ -156,8 +156,8 @@ impl Channel {
         to: &mut H,
         moments: &mut Steps<L>,
     ) -> Result<(), SimFault>
-        ensures step { (w : model.World) → StandsNow self.old w →
-            CameNow (H.grew to.old to.new) (H.partly to.old to.new) result self.new
+        ensures step { (settled : ℕ) (w : model.World) → StandsNow settled self.old w →
+            CameNow (H.grew to.old to.new) (H.partly to.old to.new) result settled self.new
             (model.each lines.session_resets numbers.now w) }
         ensures faults { CountsFaults result (H.faults to.old) (H.faults to.new) }
         ensures still { self.old.passed ≡ self.old.tick → moments.new ≡ moments.old }
@@ -176,8 +176,8 @@ impl Channel {
         to: &mut H,
         moments: &mut Steps<L>,
     ) -> Result<(), SimFault>
-        ensures step { (w : model.World) → StandsNow self.old w →
-            CameNow (H.grew to.old to.new) (H.partly to.old to.new) result self.new (lines.point_resets w) }
+        ensures step { (settled : ℕ) (w : model.World) → StandsNow settled self.old w →
+            CameNow (H.grew to.old to.new) (H.partly to.old to.new) result settled self.new (lines.point_resets w) }
         ensures faults { CountsFaults result (H.faults to.old) (H.faults to.new) }
         ensures still { self.old.passed ≡ self.old.tick → moments.new ≡ moments.old }
     {
@@ -196,18 +196,19 @@ impl Channel {
         to: &mut H,
     ) -> Result<(), SimFault>
         requires { self.old.drawn < 4294967295 }
-        ensures step { (w : model.World) (e : ℕ → vehicle.Heard) (arrival : ℕ → Row Point) → StandsNow self.old w →
+        ensures step { (settled : ℕ) (w : model.World) (e : ℕ → vehicle.Heard) (arrival : ℕ → Row Point) →
+            StandsNow settled self.old w →
             vehicle_call w.vehicle ≡ None → vehicle.heard event.now ≡ e (w.drawn + 1) →
             IsArrival session given.old.other.items (arrival (w.drawn + 1)) →
-            CameNow (H.grew to.old to.new) (H.partly to.old to.new) result self.new (lines.comes_up e arrival w) }
+            CameNow (H.grew to.old to.new) (H.partly to.old to.new) result settled self.new (lines.comes_up e arrival w) }
         ensures faults { CountsFaults result (H.faults to.old) (H.faults to.new) }
     {
         self.drawn += 1;
-        let number = self.drawn;
-        add_call(&mut self.calls, alloc, number, self.tick)?;
+        let (number, tick) = (self.drawn, self.tick);
+        add_call(&mut self.calls, alloc, number, tick)?;
         self.vehicle.hear_into(event, &mut given.own);
         self.did(alloc, given.own.as_slice(), Some(number), to)?;
-        admit(&mut self.calls, number, session);
+        admit(&mut self.calls, number, tick, session);
         self.did(alloc, given.other.as_slice(), Some(number), to)
     }
 
@@ -219,8 +220,8 @@ impl Channel {
         to: &mut H,
     ) -> Result<(), SimFault>
         requires { self.old.drawn < 4294967295 }
-        ensures step { (w : model.World) → StandsNow self.old w →
-            CameNow (H.grew to.old to.new) (H.partly to.old to.new) result self.new
+        ensures step { (settled : ℕ) (w : model.World) → StandsNow settled self.old w →
+            CameNow (H.grew to.old to.new) (H.partly to.old to.new) result settled self.new
             (lines.or_nothing (lines.when (is_dialling w.vehicle) lines.Answers) w) }
         ensures faults { CountsFaults result (H.faults to.old) (H.faults to.new) }
     {
@@ -240,8 +241,8 @@ impl Channel {
         to: &mut H,
     ) -> Result<(), SimFault>
         requires { self.old.drawn < 4294967295 }
-        ensures step { (w : model.World) → StandsNow self.old w →
-            CameNow (H.grew to.old to.new) (H.partly to.old to.new) result self.new
+        ensures step { (settled : ℕ) (w : model.World) → StandsNow settled self.old w →
+            CameNow (H.grew to.old to.new) (H.partly to.old to.new) result settled self.new
             (lines.or_nothing (lines.when (is_reachable w.vehicle) lines.CallsBack) w) }
         ensures faults { CountsFaults result (H.faults to.old) (H.faults to.new) }
     {
@@ -255,7 +256,7 @@ impl Channel {
 
     /// The frame sent up in a call at this place, from 0, if the session is there to hear it.
     fn frame_up(&self, number: u32, place: usize) -> Option<&KeptFrame>
-        ensures { (w : model.World) → StandsNow self.now w → option_map (λ f. full f.now) result ≡
+        ensures { (settled : ℕ) (w : model.World) → StandsNow settled self.now w → option_map (λ f. full f.now) result ≡
             option_map (λ s. s.frame) (if model.point_is_in number w
             then slice_get (lines.sent_up (model.call_of number w.calls)) place else None) }
     {
@@ -267,7 +268,7 @@ impl Channel {
 
     /// The frame sent down in a call at this place, from 0, if the vehicle is in it.
     fn frame_down(&self, number: u32, place: usize) -> Option<&KeptFrame>
-        ensures { (w : model.World) → StandsNow self.now w → option_map (λ f. full f.now) result ≡
+        ensures { (settled : ℕ) (w : model.World) → StandsNow settled self.now w → option_map (λ f. full f.now) result ≡
             option_map (λ s. s.frame) (if model.vehicle_is_in number w
             then slice_get (lines.sent_down (model.call_of number w.calls)) place else None) }
     {
@@ -287,8 +288,8 @@ impl Channel {
         to: &mut H,
         moments: &mut Steps<L>,
     ) -> Result<(), SimFault>
-        ensures step { (w : model.World) → StandsNow self.old w →
-            CameNow (H.grew to.old to.new) (H.partly to.old to.new) result self.new
+        ensures step { (settled : ℕ) (w : model.World) → StandsNow settled self.old w →
+            CameNow (H.grew to.old to.new) (H.partly to.old to.new) result settled self.new
             (lines.or_nothing (if model.point_is_in number w then
             lines.hands_one lines.HandsUp number (slice_get (lines.sent_up (model.call_of number w.calls)) place)
             else []) w) }
@@ -315,8 +316,8 @@ impl Channel {
         to: &mut H,
         moments: &mut Steps<L>,
     ) -> Result<(), SimFault>
-        ensures step { (w : model.World) → StandsNow self.old w →
-            CameNow (H.grew to.old to.new) (H.partly to.old to.new) result self.new
+        ensures step { (settled : ℕ) (w : model.World) → StandsNow settled self.old w →
+            CameNow (H.grew to.old to.new) (H.partly to.old to.new) result settled self.new
             (lines.or_nothing (if model.vehicle_is_in number w then
             lines.hands_one lines.HandsDown number (slice_get (lines.sent_down (model.call_of number w.calls)) place)
             else []) w) }

@@ -18,7 +18,7 @@ impl Channel {
     ghost use Rattle.channel_sim.specs.SimFault.{CountsFaults};
     ghost use Rattle.channel_sim.specs.inner.Acts.{flows_by};
     ghost use Rattle.channel_sim.specs.Handing.{due_in_call, due_of, flow_way, full, hands_way, sent_way};
-    ghost use Rattle.channel_sim.specs.Lag.{CameAt, StandsAt};
+    ghost use Rattle.channel_sim.specs.Lag.{LeastPassed, CameAt, StandsAt};
     ghost use Rattle.channel_sim.specs.Passes.{passes_of};
 
     /// After how many ticks the flow up, or down, hands a frame over; 0 is off.
@@ -31,7 +31,7 @@ impl Channel {
     /// The frames that the flow up, or down, hands over at this tick, in place of what stood there.
     #[inline(always)]
     fn list_due(&self, up: bool, due: &mut Vec<Due>, near: &mut usize) -> Result<(), AllocError>
-        ensures { (ahead floor : ℕ) (w : model.World) → StandsAt ahead floor (λ c. ahead) self.now w → OnOk result
+        ensures { (ahead : ℕ) (floor : LeastPassed) (w : model.World) → StandsAt ahead floor (λ c. ahead) self.now w → OnOk result
             (map due_of due.new.items ≡ model.due_in (sent_way up) (flow_way up w) w.tick w.calls) }
     {
         all_due(&self.calls, up, self.flow(up), self.tick, due, near)
@@ -45,7 +45,7 @@ impl Channel {
         due: &mut Vec<Due>,
         near: &mut usize,
     ) -> Result<(), AllocError>
-        ensures { (ahead floor : ℕ) (clock : ℕ → ℕ) (w : model.World) → StandsAt ahead floor clock self.now w →
+        ensures { (ahead : ℕ) (floor : LeastPassed) (clock : ℕ → ℕ) (w : model.World) → StandsAt ahead floor clock self.now w →
             OnOk result (map due_of due.new.items ≡ map due_of due.old.items ++ due_in_call up number w) }
     {
         let calls = self.calls.all();
@@ -65,15 +65,15 @@ impl Channel {
         to: &mut H,
         moments: &mut Steps<L>,
     ) -> Result<(), SimFault>
-        ensures step { (ahead floor : ℕ) (w : model.World) → StandsAt ahead floor (λ c. ahead) self.old w →
+        ensures step { (ahead : ℕ) (floor : LeastPassed) (w : model.World) → StandsAt ahead floor (λ c. ahead) self.old w →
             ahead ≡ self.old.tick →
             CameAt (H.grew to.old to.new) (H.partly to.old to.new) result ahead floor (λ c. ahead) self.new
             (model.hands_up (record { call = number; frame = full frame.now }) w) }
         ensures tick { self.new.tick ≡ self.old.tick }
         ensures faults { CountsFaults result (H.faults to.old) (H.faults to.new) }
-        ensures passes { (ahead floor : ℕ) (w : model.World) → StandsAt ahead floor (λ c. ahead) self.old w →
+        ensures passes { (ahead : ℕ) (floor : LeastPassed) (w : model.World) → StandsAt ahead floor (λ c. ahead) self.old w →
             ahead ≡ self.old.tick →
-            self.old.tick < floor + 2 ^ 32 → moments.new ≤ moments.old +
+            self.old.tick < floor.waking + 2 ^ 32 → moments.new ≤ moments.old +
             passes_of (model.hands_up (record { call = number; frame = full frame.now }) w) }
     {
         catch_session_up(&mut self.calls, number, self.tick, &mut given.own, moments);
@@ -91,15 +91,15 @@ impl Channel {
         to: &mut H,
         moments: &mut Steps<L>,
     ) -> Result<(), SimFault>
-        ensures step { (ahead floor : ℕ) (w : model.World) → StandsAt ahead floor (λ c. ahead) self.old w →
+        ensures step { (ahead : ℕ) (floor : LeastPassed) (w : model.World) → StandsAt ahead floor (λ c. ahead) self.old w →
             ahead ≡ self.old.tick →
             CameAt (H.grew to.old to.new) (H.partly to.old to.new) result ahead floor (λ c. ahead) self.new
             (model.hands_down (record { call = number; frame = full frame.now }) w) }
         ensures tick { self.new.tick ≡ self.old.tick }
         ensures faults { CountsFaults result (H.faults to.old) (H.faults to.new) }
-        ensures passes { (ahead floor : ℕ) (w : model.World) → StandsAt ahead floor (λ c. ahead) self.old w →
+        ensures passes { (ahead : ℕ) (floor : LeastPassed) (w : model.World) → StandsAt ahead floor (λ c. ahead) self.old w →
             ahead ≡ self.old.tick →
-            self.old.tick < floor + 2 ^ 32 → moments.new ≤ moments.old +
+            self.old.tick < floor.waking + 2 ^ 32 → moments.new ≤ moments.old +
             passes_of (model.hands_down (record { call = number; frame = full frame.now }) w) }
     {
         if self.vehicle.call() != Some(number) {
@@ -120,15 +120,15 @@ impl Channel {
         to: &mut H,
         moments: &mut Steps<L>,
     ) -> Result<(), SimFault>
-        ensures step { (ahead floor : ℕ) (w : model.World) → StandsAt ahead floor (λ c. ahead) self.old w →
+        ensures step { (ahead : ℕ) (floor : LeastPassed) (w : model.World) → StandsAt ahead floor (λ c. ahead) self.old w →
             ahead ≡ self.old.tick →
             CameAt (H.grew to.old to.new) (H.partly to.old to.new) result ahead floor (λ c. ahead) self.new
             (hands_way up (due_of due.now) w) }
         ensures tick { self.new.tick ≡ self.old.tick }
         ensures faults { CountsFaults result (H.faults to.old) (H.faults to.new) }
-        ensures passes { (ahead floor : ℕ) (w : model.World) → StandsAt ahead floor (λ c. ahead) self.old w →
+        ensures passes { (ahead : ℕ) (floor : LeastPassed) (w : model.World) → StandsAt ahead floor (λ c. ahead) self.old w →
             ahead ≡ self.old.tick →
-            self.old.tick < floor + 2 ^ 32 → moments.new ≤ moments.old +
+            self.old.tick < floor.waking + 2 ^ 32 → moments.new ≤ moments.old +
             passes_of (hands_way up (due_of due.now) w) }
     {
         if up {
@@ -148,15 +148,15 @@ impl Channel {
         to: &mut H,
         moments: &mut Steps<L>,
     ) -> Result<(), SimFault>
-        ensures step { (ahead floor : ℕ) (w : model.World) → StandsAt ahead floor (λ c. ahead) self.old w →
+        ensures step { (ahead : ℕ) (floor : LeastPassed) (w : model.World) → StandsAt ahead floor (λ c. ahead) self.old w →
             ahead ≡ self.old.tick →
             CameAt (H.grew to.old to.new) (H.partly to.old to.new) result ahead floor (λ c. ahead) self.new
             (model.each (hands_way up) (map due_of due.now) w) }
         ensures tick { self.new.tick ≡ self.old.tick }
         ensures faults { CountsFaults result (H.faults to.old) (H.faults to.new) }
-        ensures passes { (ahead floor : ℕ) (w : model.World) → StandsAt ahead floor (λ c. ahead) self.old w →
+        ensures passes { (ahead : ℕ) (floor : LeastPassed) (w : model.World) → StandsAt ahead floor (λ c. ahead) self.old w →
             ahead ≡ self.old.tick →
-            self.old.tick < floor + 2 ^ 32 → moments.new ≤ moments.old + passes_of
+            self.old.tick < floor.waking + 2 ^ 32 → moments.new ≤ moments.old + passes_of
             (model.each (hands_way up) (map due_of due.now) w) }
     {
         for one in due {
@@ -175,14 +175,14 @@ impl Channel {
         to: &mut H,
         moments: &mut Steps<L>,
     ) -> Result<(), SimFault>
-        ensures step { (ahead floor : ℕ) (w : model.World) → StandsAt ahead floor (λ c. ahead) self.old w →
+        ensures step { (ahead : ℕ) (floor : LeastPassed) (w : model.World) → StandsAt ahead floor (λ c. ahead) self.old w →
             ahead ≡ self.old.tick →
             CameAt (H.grew to.old to.new) (H.partly to.old to.new) result ahead floor (λ c. ahead) self.new
             (flows_by up w) }
         ensures tick { self.new.tick ≡ self.old.tick }
         ensures faults { CountsFaults result (H.faults to.old) (H.faults to.new) }
-        ensures passes { (ahead floor : ℕ) (w : model.World) → StandsAt ahead floor (λ c. ahead) self.old w →
-            ahead ≡ self.old.tick → self.old.tick < floor + 2 ^ 32 →
+        ensures passes { (ahead : ℕ) (floor : LeastPassed) (w : model.World) → StandsAt ahead floor (λ c. ahead) self.old w →
+            ahead ≡ self.old.tick → self.old.tick < floor.waking + 2 ^ 32 →
             moments.new ≤ moments.old + passes_of (flows_by up w) }
     {
         let mut near = room.near.at(up);

@@ -2,11 +2,11 @@
 ghost use Rattle.std.specs.Prelude.{◌≡◌, ◌≤◌, ◌+◌, ◌-◌, ◌^◌, ◌<◌, ℕ, Some, None, IfSome};
 ghost use Rattle.channel_sim.specs.Quiet.{FramesRest, CallRests};
 ghost use Rattle.channel_sim.specs.Tidy.{AreFrom, ticks_of};
-ghost use Rattle.channel_sim.specs.Lag.{CallLags};
+ghost use Rattle.channel_sim.specs.Lag.{LeastPassed, CallLags};
 ghost use Rattle.channel_sim.specs.World as model;
 
-use super::Channel;
-use crate::calls::{Call, act_session, catch_each_up, list_numbers};
+use super::{Channel, Passing};
+use crate::calls::{Call, act_session, catch_each_up, catch_waking_each, list_numbers};
 use crate::fault::SimFault;
 use crate::quiet::{pass_vehicle_quietly, vehicle_due_at};
 use crate::room::{Given, Near, Room};
@@ -30,7 +30,7 @@ fn acts_at(passed: u64, due: Option<u32>, end: u64) -> u64
 /// The tick at which the session of a call acts, if it is there; at most `end`.
 fn session_acts_at(call: &Call, end: u64) -> u64
     ensures most { result ≤ end }
-    ensures rests { (floor tick n : ℕ) (k : model.Call) → CallLags floor tick call.now k →
+    ensures rests { (floor : LeastPassed) (tick n : ℕ) (k : model.Call) → CallLags floor tick call.now k →
         tick + n < result → CallRests n k }
 {
     call.passed.saturating_add(call.session.quiet()).min(end)
@@ -78,11 +78,12 @@ impl Channel {
     ghost use Rattle.ivs_machine.specs.IvsStands.{IvsStandsFor};
     ghost use Rattle.ivs_machine.specs.Vehicle.{Vehicle};
     ghost use Rattle.ivs_machine.specs.VehicleRows as vehicle;
-    ghost use Rattle.channel_sim.specs.Lag.{VehicleLags, AreSameBut, CameAt, CameNow, StandsAt, StandsNow, clock_of};
+    ghost use Rattle.channel_sim.specs.Lag.{LeastPassed, VehicleLags, AreSameBut, CameAt, CameNow, StandsAt, StandsNow, clock_of};
     ghost use Rattle.std.specs.Prelude.{true, false, IfSome, ◌≡◌, ◌+◌, ◌-◌, ◌^◌, ◌<◌, ◌≤◌, ℕ, List, [], ◌∷◌, Some, None, map, OnOk, OnErr, IfOk, IfErr, length};
     ghost use Rattle.channel_sim.specs.World as model;
     ghost use Rattle.channel_sim.specs.SimFault.{CountsFaults};
     ghost use Rattle.channel_sim.specs.inner.Acts.{flows_by};
+    ghost use Rattle.channel_sim.specs.inner.Happenings.{IfAll, settled_by};
     ghost use Rattle.channel_sim.specs.inner.Asleep.{IsStirringPart};
     ghost use Rattle.channel_sim.specs.Quiet.{QuietFor, EndsRest, UpRests, DownRests};
     ghost use Rattle.channel_sim.specs.Tidy.{AreAbove};
@@ -91,11 +92,11 @@ impl Channel {
     /// Passes the vehicle up to this tick, up to which it does nothing. `items` is room.
     pub(super) fn catch_vehicle_up<L: Ledger>(&mut self, items: &mut Items, moments: &mut Steps<L>)
         ensures same { self.new ≡ record self.old { vehicle = self.new.vehicle; passed = self.old.tick } }
-        ensures caught { (ahead : ℕ) (floor : ℕ) (clock : ℕ → ℕ) (w : model.World) →
+        ensures caught { (ahead : ℕ) (floor : LeastPassed) (clock : ℕ → ℕ) (w : model.World) →
             StandsAt ahead floor clock self.old w →
             ahead ≡ self.old.tick → StandsAt ahead floor clock self.new w }
-        ensures passes { (ahead floor : ℕ) (clock : ℕ → ℕ) (w : model.World) → StandsAt ahead floor clock self.old w →
-            ahead ≡ self.old.tick → self.old.tick < floor + 2 ^ 32 → moments.new ≤ moments.old + 1 }
+        ensures passes { (ahead : ℕ) (floor : LeastPassed) (clock : ℕ → ℕ) (w : model.World) → StandsAt ahead floor clock self.old w →
+            ahead ≡ self.old.tick → self.old.tick < floor.waking + 2 ^ 32 → moments.new ≤ moments.old + 1 }
         ensures still { self.old.passed ≡ self.old.tick → moments.new ≡ moments.old }
     {
         pass_vehicle_quietly(
@@ -132,11 +133,11 @@ impl Channel {
     #[inline(always)]
     fn next_moment(&self, near: &Near, end: u64) -> Next
         ensures most { result.acts ≤ end }
-        ensures acts { (floor n : ℕ) (w : model.World) → StandsAt self.now.tick floor (λ c. self.now.tick) self.now w →
+        ensures acts { (floor : LeastPassed) (n : ℕ) (w : model.World) → StandsAt self.now.tick floor (λ c. self.now.tick) self.now w →
             self.now.tick + n < result.acts → EndsRest n w }
-        ensures up { (floor n : ℕ) (w : model.World) → StandsAt self.now.tick floor (λ c. self.now.tick) self.now w →
+        ensures up { (floor : LeastPassed) (n : ℕ) (w : model.World) → StandsAt self.now.tick floor (λ c. self.now.tick) self.now w →
             self.now.tick + n < result.up → UpRests n w }
-        ensures down { (floor n : ℕ) (w : model.World) → StandsAt self.now.tick floor (λ c. self.now.tick) self.now w →
+        ensures down { (floor : LeastPassed) (n : ℕ) (w : model.World) → StandsAt self.now.tick floor (λ c. self.now.tick) self.now w →
             self.now.tick + n < result.down → DownRests n w }
     {
         let mut acts = acts_at(self.passed, self.vehicle.due(), end);
@@ -154,7 +155,7 @@ impl Channel {
     /// The next tick at which something happens; at most `end`.
     pub(crate) fn next_tick(&self, near: &Near, end: u64) -> u64
         ensures most { result ≤ end }
-        ensures quiet { (floor n : ℕ) (w : model.World) → StandsAt self.now.tick floor (λ c. self.now.tick) self.now w →
+        ensures quiet { (floor : LeastPassed) (n : ℕ) (w : model.World) → StandsAt self.now.tick floor (λ c. self.now.tick) self.now w →
             self.now.tick + n < result → QuietFor n w }
     {
         first_of(&self.next_moment(near, end))
@@ -194,14 +195,14 @@ impl Channel {
         to: &mut H,
         moments: &mut Steps<L>,
     ) -> Result<(), SimFault>
-        ensures step { (floor before : ℕ) (w : model.World) → StandsAt before floor (λ c. before) self.old w →
+        ensures step { (floor : LeastPassed) (before : ℕ) (w : model.World) → StandsAt before floor (λ c. before) self.old w →
             before + 1 ≡ self.old.tick →
             CameAt (H.grew to.old to.new) (H.partly to.old to.new) result self.old.tick floor (λ c. before) self.new
             (model.vehicle_passes w) }
         ensures tick { self.new.tick ≡ self.old.tick }
         ensures faults { CountsFaults result (H.faults to.old) (H.faults to.new) }
-        ensures passes { (floor before : ℕ) (w : model.World) → StandsAt before floor (λ c. before) self.old w →
-            before + 1 ≡ self.old.tick → self.old.tick < floor + 2 ^ 32 →
+        ensures passes { (floor : LeastPassed) (before : ℕ) (w : model.World) → StandsAt before floor (λ c. before) self.old w →
+            before + 1 ≡ self.old.tick → self.old.tick < floor.waking + 2 ^ 32 →
             moments.new ≤ moments.old + passes_of (model.vehicle_passes w) }
     {
         let call = self.vehicle.call();
@@ -222,17 +223,17 @@ impl Channel {
         to: &mut H,
         moments: &mut Steps<L>,
     ) -> Result<(), SimFault>
-        ensures step { (ahead floor : ℕ) (before after : ℕ → ℕ) (w : model.World) →
+        ensures step { (ahead : ℕ) (floor : LeastPassed) (before after : ℕ → ℕ) (w : model.World) →
             StandsAt ahead floor before self.old w →
             ahead ≡ self.old.tick → before number + 1 ≡ ahead → after number ≡ ahead → AreSameBut number before after →
             CameAt (H.grew to.old to.new) (H.partly to.old to.new) result ahead floor after self.new
             (model.session_passes number w) }
         ensures tick { self.new.tick ≡ self.old.tick }
         ensures faults { CountsFaults result (H.faults to.old) (H.faults to.new) }
-        ensures passes { (ahead floor : ℕ) (before after : ℕ → ℕ) (w : model.World) →
+        ensures passes { (ahead : ℕ) (floor : LeastPassed) (before after : ℕ → ℕ) (w : model.World) →
             StandsAt ahead floor before self.old w →
             ahead ≡ self.old.tick → before number + 1 ≡ ahead → after number ≡ ahead → AreSameBut number before after →
-            self.old.tick < floor + 2 ^ 32 → moments.new ≤ moments.old + passes_of
+            self.old.tick < floor.waking + 2 ^ 32 → moments.new ≤ moments.old + passes_of
             (model.session_passes number w) }
     {
         if act_session(&mut self.calls, number, self.tick, &mut given.own, moments) {
@@ -252,17 +253,17 @@ impl Channel {
         to: &mut H,
         moments: &mut Steps<L>,
     ) -> Result<(), SimFault>
-        ensures step { (ahead floor before : ℕ) (w : model.World) →
+        ensures step { (ahead : ℕ) (floor : LeastPassed) (before : ℕ) (w : model.World) →
             StandsAt ahead floor (clock_of before numbers.now) self.old w →
             ahead ≡ self.old.tick → before + 1 ≡ ahead → AreAbove 0 numbers.now →
             CameAt (H.grew to.old to.new) (H.partly to.old to.new) result ahead floor (λ c. ahead) self.new
             (model.each model.session_passes numbers.now w) }
         ensures tick { self.new.tick ≡ self.old.tick }
         ensures faults { CountsFaults result (H.faults to.old) (H.faults to.new) }
-        ensures passes { (ahead floor before : ℕ) (w : model.World) →
+        ensures passes { (ahead : ℕ) (floor : LeastPassed) (before : ℕ) (w : model.World) →
             StandsAt ahead floor (clock_of before numbers.now) self.old w →
             ahead ≡ self.old.tick → before + 1 ≡ ahead → AreAbove 0 numbers.now →
-            self.old.tick < floor + 2 ^ 32 →
+            self.old.tick < floor.waking + 2 ^ 32 →
             moments.new ≤ moments.old + passes_of (model.each model.session_passes numbers.now w) }
     {
         for number in numbers {
@@ -279,14 +280,14 @@ impl Channel {
         to: &mut H,
         moments: &mut Steps<L>,
     ) -> Result<(), SimFault>
-        ensures step { (ahead floor before : ℕ) (w : model.World) → StandsAt ahead floor (λ c. before) self.old w →
+        ensures step { (ahead : ℕ) (floor : LeastPassed) (before : ℕ) (w : model.World) → StandsAt ahead floor (λ c. before) self.old w →
             ahead ≡ self.old.tick → before + 1 ≡ ahead →
             CameAt (H.grew to.old to.new) (H.partly to.old to.new) result ahead floor (λ c. ahead) self.new
             (model.sessions_pass w) }
         ensures tick { self.new.tick ≡ self.old.tick }
         ensures faults { CountsFaults result (H.faults to.old) (H.faults to.new) }
-        ensures passes { (ahead floor before : ℕ) (w : model.World) → StandsAt ahead floor (λ c. before) self.old w →
-            ahead ≡ self.old.tick → before + 1 ≡ ahead → self.old.tick < floor + 2 ^ 32 →
+        ensures passes { (ahead : ℕ) (floor : LeastPassed) (before : ℕ) (w : model.World) → StandsAt ahead floor (λ c. before) self.old w →
+            ahead ≡ self.old.tick → before + 1 ≡ ahead → self.old.tick < floor.waking + 2 ^ 32 →
             moments.new ≤ moments.old + passes_of (model.sessions_pass w) }
     {
         list_numbers(self.calls.acting(self.tick), &mut room.numbers)?;
@@ -302,14 +303,14 @@ impl Channel {
         to: &mut H,
         moments: &mut Steps<L>,
     ) -> Result<(), SimFault>
-        ensures step { (floor before : ℕ) (w : model.World) → StandsAt before floor (λ c. before) self.old w →
+        ensures step { (floor : LeastPassed) (before : ℕ) (w : model.World) → StandsAt before floor (λ c. before) self.old w →
             before + 1 ≡ self.old.tick → (self.old.tick < next → EndsRest 1 w) →
             CameAt (H.grew to.old to.new) (H.partly to.old to.new) result self.old.tick floor (λ c. self.old.tick)
             self.new (model.and_then (model.vehicle_passes w) model.sessions_pass) }
         ensures tick { self.new.tick ≡ self.old.tick }
         ensures faults { CountsFaults result (H.faults to.old) (H.faults to.new) }
-        ensures passes { (floor before : ℕ) (w : model.World) → StandsAt before floor (λ c. before) self.old w →
-            before + 1 ≡ self.old.tick → self.old.tick < floor + 2 ^ 32 →
+        ensures passes { (floor : LeastPassed) (before : ℕ) (w : model.World) → StandsAt before floor (λ c. before) self.old w →
+            before + 1 ≡ self.old.tick → self.old.tick < floor.waking + 2 ^ 32 →
             moments.new ≤ moments.old + passes_of (model.and_then (model.vehicle_passes w) model.sessions_pass) }
     {
         if next > self.tick {
@@ -330,14 +331,14 @@ impl Channel {
         to: &mut H,
         moments: &mut Steps<L>,
     ) -> Result<(), SimFault>
-        ensures step { (ahead floor : ℕ) (w : model.World) → StandsAt ahead floor (λ c. ahead) self.old w →
+        ensures step { (ahead : ℕ) (floor : LeastPassed) (w : model.World) → StandsAt ahead floor (λ c. ahead) self.old w →
             ahead ≡ self.old.tick → (self.old.tick < next → flows_by up w ≡ model.quiet_step w) →
             CameAt (H.grew to.old to.new) (H.partly to.old to.new) result ahead floor (λ c. ahead) self.new
             (flows_by up w) }
         ensures tick { self.new.tick ≡ self.old.tick }
         ensures faults { CountsFaults result (H.faults to.old) (H.faults to.new) }
-        ensures passes { (ahead floor : ℕ) (w : model.World) → StandsAt ahead floor (λ c. ahead) self.old w →
-            ahead ≡ self.old.tick → self.old.tick < floor + 2 ^ 32 →
+        ensures passes { (ahead : ℕ) (floor : LeastPassed) (w : model.World) → StandsAt ahead floor (λ c. ahead) self.old w →
+            ahead ≡ self.old.tick → self.old.tick < floor.waking + 2 ^ 32 →
             moments.new ≤ moments.old + passes_of (flows_by up w) }
     {
         if self.tick < next {
@@ -356,7 +357,7 @@ impl Channel {
         to: &mut H,
         moments: &mut Steps<L>,
     ) -> Result<(), SimFault>
-        ensures step { (floor n : ℕ) (w : model.World) → StandsAt self.old.tick floor (λ c. self.old.tick) self.old w →
+        ensures step { (floor : LeastPassed) (n : ℕ) (w : model.World) → StandsAt self.old.tick floor (λ c. self.old.tick) self.old w →
             self.old.tick + n + 1 ≡ tick → QuietFor n w →
             (tick < next.now.acts → EndsRest (n + 1) w) → (tick < next.now.up → UpRests (n + 1) w) →
             (tick < next.now.down → DownRests (n + 1) w) →
@@ -364,12 +365,12 @@ impl Channel {
             (model.units (n + 1) w) }
         ensures tick { self.new.tick ≡ tick }
         ensures faults { CountsFaults result (H.faults to.old) (H.faults to.new) }
-        ensures passes { (floor n : ℕ) (w : model.World) → StandsAt self.old.tick floor
+        ensures passes { (floor : LeastPassed) (n : ℕ) (w : model.World) → StandsAt self.old.tick floor
             (λ c. self.old.tick) self.old w →
             self.old.tick + n + 1 ≡ tick → QuietFor n w →
             (tick < next.now.acts → EndsRest (n + 1) w) → (tick < next.now.up → UpRests (n + 1) w) →
             (tick < next.now.down → DownRests (n + 1) w) →
-            tick < floor + 2 ^ 32 → moments.new ≤ moments.old + passes_of (model.units (n + 1) w) }
+            tick < floor.waking + 2 ^ 32 → moments.new ≤ moments.old + passes_of (model.units (n + 1) w) }
     {
         self.tick = tick;
         self.ends_from(alloc, next.acts, room, to, moments)?;
@@ -387,7 +388,7 @@ impl Channel {
         to: &mut H,
         moments: &mut Steps<L>,
     ) -> Result<(), SimFault>
-        ensures step { (floor n : ℕ) (w : model.World) → StandsAt self.old.tick floor (λ c. self.old.tick) self.old w →
+        ensures step { (floor : LeastPassed) (n : ℕ) (w : model.World) → StandsAt self.old.tick floor (λ c. self.old.tick) self.old w →
             self.old.tick + n + 1 ≡ tick → QuietFor n w →
             (tick < next.now.acts → EndsRest (n + 1) w) → (tick < next.now.up → UpRests (n + 1) w) →
             (tick < next.now.down → DownRests (n + 1) w) →
@@ -395,28 +396,56 @@ impl Channel {
             (model.units (n + 1) w) }
         ensures tick { self.new.tick ≡ tick }
         ensures faults { CountsFaults result (H.faults to.old) (H.faults to.new) }
-        ensures passes { (floor n : ℕ) (w : model.World) → StandsAt self.old.tick floor
+        ensures passes { (floor : LeastPassed) (n : ℕ) (w : model.World) → StandsAt self.old.tick floor
             (λ c. self.old.tick) self.old w →
             self.old.tick + n + 1 ≡ tick → QuietFor n w →
             (tick < next.now.acts → EndsRest (n + 1) w) → (tick < next.now.up → UpRests (n + 1) w) →
             (tick < next.now.down → DownRests (n + 1) w) →
-            tick < floor + 2 ^ 32 → moments.new ≤ moments.old + passes_of (model.units (n + 1) w) }
+            tick < floor.waking + 2 ^ 32 → moments.new ≤ moments.old + passes_of (model.units (n + 1) w) }
     {
         self.settle_calls();
         self.moment(alloc, tick, next, room, to, moments)
     }
 
     /// Passes each end that lags up to this tick. `items` is room.
-    #[inline(always)]
     pub(crate) fn catch_all_up<L: Ledger>(&mut self, items: &mut Items, moments: &mut Steps<L>)
         ensures tick { self.new.tick ≡ self.old.tick }
-        ensures caught { (floor : ℕ) (w : model.World) → StandsAt self.old.tick floor (λ c. self.old.tick) self.old w →
-            StandsNow self.new w }
-        ensures passes { (floor : ℕ) (w : model.World) → StandsAt self.old.tick floor (λ c. self.old.tick) self.old w →
-            self.old.tick < floor + 2 ^ 32 → moments.new ≤ moments.old + model.ends w }
+        ensures caught { (floor : LeastPassed) (w : model.World) → StandsAt self.old.tick floor (λ c. self.old.tick) self.old w →
+            StandsNow self.old.tick self.new w }
+        ensures passes { (floor : LeastPassed) (w : model.World) → StandsAt self.old.tick floor (λ c. self.old.tick) self.old w →
+            self.old.tick < floor.waking + 2 ^ 32 → self.old.tick < floor.settled + 2 ^ 32 →
+            moments.new ≤ moments.old + model.ends w }
     {
         self.catch_vehicle_up(items, moments);
         catch_each_up(&mut self.calls, self.tick, items, moments);
+    }
+
+    /// Passes each end that lags up to this tick, but sessions that are settled stay as they are. `items` is room.
+    #[inline(always)]
+    fn catch_waking_up<L: Ledger>(&mut self, items: &mut Items, moments: &mut Steps<L>)
+        ensures tick { self.new.tick ≡ self.old.tick }
+        ensures caught { (floor : LeastPassed) (w : model.World) → StandsAt self.old.tick floor (λ c. self.old.tick) self.old w →
+            floor.settled ≤ floor.waking → StandsNow floor.settled self.new w }
+        ensures passes { (floor : LeastPassed) (w : model.World) → StandsAt self.old.tick floor (λ c. self.old.tick) self.old w →
+            self.old.tick < floor.waking + 2 ^ 32 → moments.new ≤ moments.old + model.ends w }
+    {
+        self.catch_vehicle_up(items, moments);
+        catch_waking_each(&mut self.calls, self.tick, items, moments);
+    }
+
+    /// Passes the ends that lag up to this tick: all, or those that are not settled. `items` is room.
+    fn catch_up<L: Ledger>(&mut self, passing: Passing, items: &mut Items, moments: &mut Steps<L>)
+        ensures tick { self.new.tick ≡ self.old.tick }
+        ensures caught { (floor : LeastPassed) (w : model.World) → StandsAt self.old.tick floor (λ c. self.old.tick) self.old w →
+            floor.settled ≤ floor.waking → StandsNow (settled_by passing floor.settled self.old.tick) self.new w }
+        ensures passes { (floor : LeastPassed) (w : model.World) → StandsAt self.old.tick floor (λ c. self.old.tick) self.old w →
+            self.old.tick < floor.waking + 2 ^ 32 → IfAll passing (self.old.tick < floor.settled + 2 ^ 32) →
+            moments.new ≤ moments.old + model.ends w }
+    {
+        match passing {
+            Passing::All => self.catch_all_up(items, moments),
+            Passing::Waking => self.catch_waking_up(items, moments),
+        }
     }
 
     /// So many ticks elapse.
@@ -424,15 +453,18 @@ impl Channel {
         &mut self,
         alloc: Global,
         n: u32,
+        passing: Passing,
         room: &mut Room,
         to: &mut H,
         moments: &mut Steps<L>,
     ) -> Result<(), SimFault>
         requires { self.old.tick + n < 2 ^ 64 }
-        ensures step { (w : model.World) → StandsNow self.old w →
-            CameNow (H.grew to.old to.new) (H.partly to.old to.new) result self.new (model.units n w) }
+        ensures step { (settled : ℕ) (w : model.World) → StandsNow settled self.old w → settled ≤ self.old.tick →
+            CameNow (H.grew to.old to.new) (H.partly to.old to.new) result
+            (settled_by passing settled self.new.tick) self.new (model.units n w) }
         ensures faults { CountsFaults result (H.faults to.old) (H.faults to.new) }
-        ensures passes { (w : model.World) → StandsNow self.old w →
+        ensures passes { (settled : ℕ) (w : model.World) → StandsNow settled self.old w → settled ≤ self.old.tick →
+            IfAll passing (self.old.tick ≤ settled) →
             moments.new ≤ moments.old + (passes_of (model.units n w) + model.ends w) }
     {
         let end = self.tick + u64::from(n);
@@ -445,7 +477,7 @@ impl Channel {
                 self.plays_moment(alloc, tick, &next, room, to, moments)?;
             }
         }
-        self.catch_all_up(&mut room.given.own, moments);
+        self.catch_up(passing, &mut room.given.own, moments);
         Ok(())
     }
 }

@@ -53,7 +53,7 @@ impl Session {
     }
 
     /// Whether the voice was open for so long that the desk may ask again or let the vehicle go.
-    fn is_long_open(&self) -> bool
+    pub(super) fn is_long_open(&self) -> bool
         ensures long { IsTrue result ↔ (20 ≤ open_ticks self.now.voice.stretch) }
         ensures open { IsTrue result → IsTrue (is_open self.now.voice.stretch) }
     {

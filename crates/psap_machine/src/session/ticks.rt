@@ -16,7 +16,7 @@ impl Session {
     ghost use Rattle.link_frames.specs.declared.note.Note.TheVariants as note;
     ghost use Rattle.psap_machine.specs.Point.{Point, Over};
     ghost use Rattle.psap_machine.specs.PointRows.{acts, due_of, units};
-    ghost use Rattle.psap_machine.specs.SessionStands.{SessionIs, SessionStandsFor, WaitsForNothing};
+    ghost use Rattle.psap_machine.specs.SessionStands.{SessionIs, SessionStandsFor, IsSettled};
     ghost use Rattle.psap_machine.specs.inner.Ageing.{aged_in, SessionIsDue};
 
     /// The least ticks that a timer or a repeat of the phase has left.
@@ -44,12 +44,17 @@ impl Session {
         }
     }
 
-    /// Whether it waits for nothing: it only talks, or is over, and does nothing however many ticks pass.
-    pub fn waits_for_nothing(&self) -> bool
-        ensures state { IsTrue result ↔ WaitsForNothing self.now }
-        ensures due { (s : Point) → SessionStandsFor self.now s → IsTrue result ↔ (due_of s ≡ None) }
+    /// Whether it is settled: it only talks, and has for 2 seconds, or it is over. It does nothing however many ticks
+    /// pass, and at an event it does the same however many passed.
+    pub fn is_settled(&self) -> bool
+        ensures state { IsTrue result ↔ IsSettled self.now }
+        ensures due { (s : Point) → SessionStandsFor self.now s → IsTrue result → due_of s ≡ None }
     {
-        matches!(self.phase, Phase::Talking | Phase::Over)
+        match self.phase {
+            Phase::Talking => self.is_long_open(),
+            Phase::Over => true,
+            _ => false,
+        }
     }
 
     /// Lets `n` ticks of 100 ms pass in which the session does nothing: at least one, and fewer than `due`.
@@ -58,7 +63,7 @@ impl Session {
         requires least { 1 ≤ n }
         requires due { (s : Point) → SessionStandsFor self.old s → IfSome (due_of s) (λ due. n < due) }
         ensures ticks { Does SessionStandsFor SessionStandsFor self.old self.new [] (units n) }
-        ensures waits { WaitsForNothing self.old → WaitsForNothing self.new }
+        ensures settled { IsSettled self.old → IsSettled self.new }
         ensures moments { moments.new ≡ moments.old + 1 }
     {
         moments.tick();

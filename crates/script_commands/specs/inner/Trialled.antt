@@ -9,10 +9,10 @@ use Rattle.trace_model.specs.Tallies.{tally_of}
 use Rattle.trace_model.specs.declared.event.Event.{Event}
 use Rattle.trace_model.specs.declared.event.Event.TheVariants as event
 use Rattle.trace_model.specs.declared.tally.Tally.{Tally}
-use Rattle.channel_sim.specs.declared.world.World.{World}
+use Rattle.channel_sim.specs.declared.play.Play.{Play}
 use Rattle.channel_sim.specs.Lines.{bound, trace, world_after}
 use Rattle.channel_sim.specs.World.{first_world}
-use Rattle.channel_sim.specs.WorldStands.{WorldStandsFor, calls_drawn, ticks_reached}
+use Rattle.channel_sim.specs.PlayStands.{PlayStandsFor, calls_drawn, ticks_reached}
 use Rattle.script_commands.specs.declared.make.CallTimes.{CallTimes}
 use Rattle.script_commands.specs.Make.{call_times, x_behind}
 
@@ -61,9 +61,9 @@ most_events = 20000
 
 -- The world and the counts behind these events, and how often ends were passed since a count stood at the start. Few
 -- calls were drawn, and few ticks reached.
-pub record Counted (start : ℕ) (known : Facts) (events : List Event) (world : World) (tally : Tally) (passes : ℕ)
+pub record Counted (start : ℕ) (known : Facts) (events : List Event) (world : Play) (tally : Tally) (passes : ℕ)
     : Type 0 where
-  pub stands : WorldStandsFor world (world_after (first_world known) events)
+  pub stands : PlayStandsFor world (world_after (first_world known) events)
   pub told : tally ≡ tally_of (trace known events)
   pub calls : calls_drawn world ≤ length events
   pub ticks : ticks_reached world ≤ length events * 4294967295

@@ -3,7 +3,7 @@ use Rattle.msd_fit.specs.declared.facts.Facts.TheVariants as facts
 use Rattle.msd_fit.specs.declared.facts.OwnFacts.{OwnFacts}
 use Rattle.trace_model.specs.declared.event.Event.{Event}
 use Rattle.channel_sim.specs.World.{first_world}
-use Rattle.channel_sim.specs.WorldStands.{WorldStandsFor}
+use Rattle.channel_sim.specs.PlayStands.{PlayStandsFor}
 use Rattle.script_commands.specs.inner.Trialled.{Counted, events_of_calls, made_own}
 use Rattle.script_commands.proofs.MadeText.{x_behind-more, x_behind-none}
 use Rattle.script_commands.proofs.Trialled.{counted_call, counted_none, counted_passes, counted_tally, events_of_calls-none, halted_calls, length-events_of_calls}
@@ -11,8 +11,8 @@ use Rattle.script_commands.proofs.trial.count_calls.Goals as goal
 
 pub loop-made-init : goal.loop-made-init
 loop-made-init g c =
-    let stands : WorldStandsFor c.new-world.result (first_world (facts.Own made_own)) =
-    subst (λ (own : OwnFacts). WorldStandsFor c.new-world.result (first_world (facts.Own own))) c.own_facts.ensures
+    let stands : PlayStandsFor c.new-world.result (first_world (facts.Own made_own)) =
+    subst (λ (own : OwnFacts). PlayStandsFor c.new-world.result (first_world (facts.Own own))) c.own_facts.ensures
     c.new-world.ensures.stands in
     record {
       counts =

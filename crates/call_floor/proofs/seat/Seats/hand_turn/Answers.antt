@@ -1,6 +1,6 @@
 use Rattle.std.proofs.Common.{◌≡◌, ◌<◌, ◌⊎◌, false, length, refl, sym, ◌∙◌, subst, arith}
 use Rattle.std.proofs.lemmas.Result.{err_from_is_err_and}
-use Rattle.channel_sim.specs.Lag.{StandsAt}
+use Rattle.channel_sim.specs.Lag.{level, StandsAt}
 use Rattle.channel_sim.specs.Handing.{due_of, hands_way}
 use Rattle.call_floor.specs.Floor.{FloorStep, own}
 use Rattle.call_floor.specs.Tagged.{FloorGrew}
@@ -33,9 +33,9 @@ returns-clause-step g c =
     let low : i < length xs = c.is_awake.ensures.within c.if-not-is_awake.false in
     let it : ActsHere acts tick floor (λ a. tick) (λ a k. tick) w v x = acts_here acts tick floor (λ a. tick) (λ a k. tick) xs w v i x h is_v low at (c.is_awake.ensures.due c.if-not-is_awake.false) in
     let s = it.here.stand in
-    let awake : StandsAt tick floor (λ k. tick) x.world.channel (own w s) = it.here.stands.awake it.on in
+    let awake : StandsAt tick (level floor floor) (λ k. tick) x.world.channel (own w s) = it.here.stands.awake it.on in
     let now : tick ≡ x.world.channel.tick = sym now_is ∙ awake.tick in
-    let did = c.in_ok-hand.ensures.step tick floor (own w s) awake now in (
+    let did = c.in_ok-hand.ensures.step tick (level floor floor) (own w s) awake now in (
       acted_told acts tick floor (λ a. tick) (λ a k. tick) w v x it.here it.on (hands_way up d) g.H.FloorListener.grew c.args.to.now c.speak_for.new.self c.hand.new.to c.speak_for.ensures did.0,
       acted acts tick floor (λ a. tick) (λ a. tick) (λ a k. tick) (λ a k. tick) xs w v i x h low at it.here it.on (hands_way up d) (way_still any up d) (λ a other. refl) (λ a other. refl) c.hand.new.self did.1,
     )
@@ -54,9 +54,9 @@ returns-in_err-hand-clause-step g c =
     let low : i < length xs = c.is_awake.ensures.within c.if-not-is_awake.false in
     let it : ActsHere acts tick floor (λ a. tick) (λ a k. tick) w v x = acts_here acts tick floor (λ a. tick) (λ a k. tick) xs w v i x h is_v low at (c.is_awake.ensures.due c.if-not-is_awake.false) in
     let s = it.here.stand in
-    let awake : StandsAt tick floor (λ k. tick) x.world.channel (own w s) = it.here.stands.awake it.on in
+    let awake : StandsAt tick (level floor floor) (λ k. tick) x.world.channel (own w s) = it.here.stands.awake it.on in
     let now : tick ≡ x.world.channel.tick = sym now_is ∙ awake.tick in
-    let part = c.in_err-hand.ensures.step tick floor (own w s) awake now in
+    let part = c.in_err-hand.ensures.step tick (level floor floor) (own w s) awake now in
     rw failed.1 (acted_told acts tick floor (λ a. tick) (λ a k. tick) w v x it.here it.on (hands_way up d) g.H.FloorListener.partly c.args.to.now c.speak_for.new.self c.hand.new.to c.speak_for.ensures part)
 
 pub returns-then-not-is_awake-clause-passes : goal.returns-then-not-is_awake-clause-passes
@@ -73,10 +73,10 @@ returns-clause-passes g c =
     let low : i < length xs = c.is_awake.ensures.within c.if-not-is_awake.false in
     let it : ActsHere acts tick floor (λ a. tick) (λ a k. tick) w v x = acts_here acts tick floor (λ a. tick) (λ a k. tick) xs w v i x h is_v low at (c.is_awake.ensures.due c.if-not-is_awake.false) in
     let s = it.here.stand in
-    let awake : StandsAt tick floor (λ k. tick) x.world.channel (own w s) = it.here.stands.awake it.on in
+    let awake : StandsAt tick (level floor floor) (λ k. tick) x.world.channel (own w s) = it.here.stands.awake it.on in
     let now : tick ≡ x.world.channel.tick = sym now_is ∙ awake.tick in
     acted_passes acts tick floor (λ a. tick) (λ a k. tick) w v x it.here it.on (hands_way c.args.up (due_of c.args.due.now)) _ _
-    (c.hand.ensures.passes tick floor (own w s) awake now (omega (arith, small, now)))
+    (c.hand.ensures.passes tick (level floor floor) (own w s) awake now (omega (arith, small, now)))
 
 pub returns-in_err-hand-clause-passes : goal.returns-in_err-hand-clause-passes
 returns-in_err-hand-clause-passes g c =
@@ -89,7 +89,7 @@ returns-in_err-hand-clause-passes g c =
     let low : i < length xs = c.is_awake.ensures.within c.if-not-is_awake.false in
     let it : ActsHere acts tick floor (λ a. tick) (λ a k. tick) w v x = acts_here acts tick floor (λ a. tick) (λ a k. tick) xs w v i x h is_v low at (c.is_awake.ensures.due c.if-not-is_awake.false) in
     let s = it.here.stand in
-    let awake : StandsAt tick floor (λ k. tick) x.world.channel (own w s) = it.here.stands.awake it.on in
+    let awake : StandsAt tick (level floor floor) (λ k. tick) x.world.channel (own w s) = it.here.stands.awake it.on in
     let now : tick ≡ x.world.channel.tick = sym now_is ∙ awake.tick in
     acted_passes acts tick floor (λ a. tick) (λ a k. tick) w v x it.here it.on (hands_way c.args.up (due_of c.args.due.now)) _ _
-    (c.hand.ensures.passes tick floor (own w s) awake now (omega (arith, small, now)))
+    (c.hand.ensures.passes tick (level floor floor) (own w s) awake now (omega (arith, small, now)))

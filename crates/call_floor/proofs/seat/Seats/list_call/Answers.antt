@@ -1,5 +1,6 @@
 use Rattle.std.proofs.Common.{◌≡◌, ◌<◌, ◌⊎◌, ◌++◌, ◌-◌, ℕ, List, OnOk, replicate, Some, option_map, false, length, get_or, refl, ap, sym, ◌∙◌, subst, arith}
 use Rattle.std.proofs.lemmas.List.{append-nil}
+use Rattle.channel_sim.specs.Lag.{level}
 use Rattle.channel_sim.specs.Handing.{due_in_call}
 use Rattle.call_floor.specs.Floor.{own, own_of}
 use Rattle.call_floor.specs.inner.FloorAt.{listed_turns, numbers_of}
@@ -40,7 +41,7 @@ returns-clause-listed c =
     let it : ActsHere acts tick floor (λ a. tick) (λ a d. tick) w v x = acts_here acts tick floor (λ a. tick) (λ a d. tick) xs w v i x h is_v low at (c.is_awake.ensures.due c.if-not-is_awake.false) in
     let s = it.here.stand in
     let there : own_of v w ≡ Some (own w s) = ap (option_map (own w)) it.here.found in
-    let more = c.in_ok-list_due.ensures.due tick floor (λ d. tick) (own w s) (it.here.stands.awake it.on) in
+    let more = c.in_ok-list_due.ensures.due tick (level floor floor) (λ d. tick) (own w s) (it.here.stands.awake it.on) in
     let counted : c.len.result ≡ length c.list_due.new.due.items = omega (arith, c.len.ensures) in
     on_ok c.own_all.result (λ owns. listed_more acts c.args.up v c.args.one.call i w (own w s) c.args.room.now.owners.items c.own_all.new.owners.items c.args.room.now.due.items c.list_due.new.due.items it.on there is_v pairs more owns) (subst (λ n. OnOk c.own_all.result (c.own_all.new.owners.items ≡ c.args.room.now.owners.items ++ replicate (n - length c.args.room.now.owners.items) i)) counted c.own_all.ensures)
 
@@ -56,6 +57,6 @@ returns-clause-lengths c =
     let low : i < length xs = c.is_awake.ensures.within c.if-not-is_awake.false in
     let it : ActsHere acts tick floor (λ a. tick) (λ a d. tick) w v x = acts_here acts tick floor (λ a. tick) (λ a d. tick) xs w v i x h refl low at (c.is_awake.ensures.due c.if-not-is_awake.false) in
     let u = own w it.here.stand in
-    let more = c.in_ok-list_due.ensures.due tick floor (λ d. tick) u (it.here.stands.awake it.on) in
+    let more = c.in_ok-list_due.ensures.due tick (level floor floor) (λ d. tick) u (it.here.stands.awake it.on) in
     let counted : c.len.result ≡ length c.list_due.new.due.items = omega (arith, c.len.ensures) in
     on_ok c.own_all.result (λ owns. owned_more i c.args.room.now.owners.items c.own_all.new.owners.items c.args.room.now.due.items c.list_due.new.due.items (due_in_call c.args.up c.args.one.call u) pairs more owns) (subst (λ n. OnOk c.own_all.result (c.own_all.new.owners.items ≡ c.args.room.now.owners.items ++ replicate (n - length c.args.room.now.owners.items) i)) counted c.own_all.ensures)

@@ -1,6 +1,6 @@
 use Rattle.std.proofs.Common.{◌≡◌, ◌<◌, ◌⊎◌, false, length, refl, sym, ◌∙◌, subst, arith}
 use Rattle.std.proofs.lemmas.Result.{err_from_is_err_and}
-use Rattle.channel_sim.specs.Lag.{StandsAt}
+use Rattle.channel_sim.specs.Lag.{level, StandsAt}
 use Rattle.channel_sim.specs.World.{session_passes}
 use Rattle.call_floor.specs.Floor.{FloorStep, own}
 use Rattle.call_floor.specs.Tagged.{FloorGrew}
@@ -32,9 +32,9 @@ returns-clause-step g c =
     let low : i < length xs = c.is_awake.ensures.within c.if-not-is_awake.false in
     let it : ActsHere acts tick floor ahead before w v x = acts_here acts tick floor ahead before xs w v i x h is_v low at (c.is_awake.ensures.due c.if-not-is_awake.false) in
     let s = it.here.stand in
-    let awake : StandsAt (ahead v) floor (before v) x.world.channel (own w s) = it.here.stands.awake it.on in
+    let awake : StandsAt (ahead v) (level floor floor) (before v) x.world.channel (own w s) = it.here.stands.awake it.on in
     let now : tick ≡ x.world.channel.tick = sym now_is ∙ awake.tick in
-    let did = c.in_ok-session_turn.ensures.step (ahead v) floor (before v) (after v) (own w s) awake (ahead_is ∙ now) (next ∙ sym ahead_is) (after_is ∙ sym ahead_is) clocks in (
+    let did = c.in_ok-session_turn.ensures.step (ahead v) (level floor floor) (before v) (after v) (own w s) awake (ahead_is ∙ now) (next ∙ sym ahead_is) (after_is ∙ sym ahead_is) clocks in (
       acted_told acts tick floor ahead before w v x it.here it.on (session_passes n) g.H.FloorListener.grew c.args.to.now c.speak_for.new.self c.session_turn.new.to c.speak_for.ensures did.0,
       acted acts tick floor ahead ahead before after xs w v i x h low at it.here it.on (session_passes n) (session_passes_still any n) (λ a other. refl) below c.session_turn.new.self did.1,
     )
@@ -52,9 +52,9 @@ returns-in_err-session_turn-clause-step g c =
     let low : i < length xs = c.is_awake.ensures.within c.if-not-is_awake.false in
     let it : ActsHere acts tick floor ahead before w v x = acts_here acts tick floor ahead before xs w v i x h is_v low at (c.is_awake.ensures.due c.if-not-is_awake.false) in
     let s = it.here.stand in
-    let awake : StandsAt (ahead v) floor (before v) x.world.channel (own w s) = it.here.stands.awake it.on in
+    let awake : StandsAt (ahead v) (level floor floor) (before v) x.world.channel (own w s) = it.here.stands.awake it.on in
     let now : tick ≡ x.world.channel.tick = sym now_is ∙ awake.tick in
-    let part = c.in_err-session_turn.ensures.step (ahead v) floor (before v) (after v) (own w s) awake (ahead_is ∙ now) (next ∙ sym ahead_is) (after_is ∙ sym ahead_is) clocks in
+    let part = c.in_err-session_turn.ensures.step (ahead v) (level floor floor) (before v) (after v) (own w s) awake (ahead_is ∙ now) (next ∙ sym ahead_is) (after_is ∙ sym ahead_is) clocks in
     rw failed.1 (acted_told acts tick floor ahead before w v x it.here it.on (session_passes n) g.H.FloorListener.partly c.args.to.now c.speak_for.new.self c.session_turn.new.to c.speak_for.ensures part)
 
 pub returns-then-not-is_awake-clause-passes : goal.returns-then-not-is_awake-clause-passes
@@ -71,10 +71,10 @@ returns-clause-passes g c =
     let low : i < length xs = c.is_awake.ensures.within c.if-not-is_awake.false in
     let it : ActsHere acts tick floor ahead before w v x = acts_here acts tick floor ahead before xs w v i x h is_v low at (c.is_awake.ensures.due c.if-not-is_awake.false) in
     let s = it.here.stand in
-    let awake : StandsAt (ahead v) floor (before v) x.world.channel (own w s) = it.here.stands.awake it.on in
+    let awake : StandsAt (ahead v) (level floor floor) (before v) x.world.channel (own w s) = it.here.stands.awake it.on in
     let now : tick ≡ x.world.channel.tick = sym now_is ∙ awake.tick in
     acted_passes acts tick floor ahead before w v x it.here it.on (session_passes c.args.call) _ _
-    (c.session_turn.ensures.passes (ahead v) floor (before v) (after v) (own w s) awake (ahead_is ∙ now) (next ∙ sym ahead_is) (after_is ∙ sym ahead_is) clocks (omega (arith, small, now)))
+    (c.session_turn.ensures.passes (ahead v) (level floor floor) (before v) (after v) (own w s) awake (ahead_is ∙ now) (next ∙ sym ahead_is) (after_is ∙ sym ahead_is) clocks (omega (arith, small, now)))
 
 pub returns-in_err-session_turn-clause-passes : goal.returns-in_err-session_turn-clause-passes
 returns-in_err-session_turn-clause-passes g c =
@@ -87,7 +87,7 @@ returns-in_err-session_turn-clause-passes g c =
     let low : i < length xs = c.is_awake.ensures.within c.if-not-is_awake.false in
     let it : ActsHere acts tick floor ahead before w v x = acts_here acts tick floor ahead before xs w v i x h is_v low at (c.is_awake.ensures.due c.if-not-is_awake.false) in
     let s = it.here.stand in
-    let awake : StandsAt (ahead v) floor (before v) x.world.channel (own w s) = it.here.stands.awake it.on in
+    let awake : StandsAt (ahead v) (level floor floor) (before v) x.world.channel (own w s) = it.here.stands.awake it.on in
     let now : tick ≡ x.world.channel.tick = sym now_is ∙ awake.tick in
     acted_passes acts tick floor ahead before w v x it.here it.on (session_passes c.args.call) _ _
-    (c.session_turn.ensures.passes (ahead v) floor (before v) (after v) (own w s) awake (ahead_is ∙ now) (next ∙ sym ahead_is) (after_is ∙ sym ahead_is) clocks (omega (arith, small, now)))
+    (c.session_turn.ensures.passes (ahead v) (level floor floor) (before v) (after v) (own w s) awake (ahead_is ∙ now) (next ∙ sym ahead_is) (after_is ∙ sym ahead_is) clocks (omega (arith, small, now)))

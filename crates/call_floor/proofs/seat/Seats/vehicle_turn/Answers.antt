@@ -1,6 +1,6 @@
 use Rattle.std.proofs.Common.{◌≡◌, ◌<◌, ◌⊎◌, false, length, refl, sym, ◌∙◌, subst, arith}
 use Rattle.std.proofs.lemmas.Result.{err_from_is_err_and}
-use Rattle.channel_sim.specs.Lag.{StandsAt}
+use Rattle.channel_sim.specs.Lag.{level, StandsAt}
 use Rattle.channel_sim.specs.World.{vehicle_passes}
 use Rattle.call_floor.specs.Floor.{FloorStep, own}
 use Rattle.call_floor.specs.Tagged.{FloorGrew}
@@ -31,16 +31,16 @@ returns-clause-step g c =
     let low : i < length xs = c.is_awake.ensures.within c.if-not-is_awake.false in
     let it : ActsHere acts tick floor ahead clock w v x = acts_here acts tick floor ahead clock xs w v i x h is_v low at (c.is_awake.ensures.due c.if-not-is_awake.false) in
     let s = it.here.stand in
-    let awake : StandsAt (ahead v) floor (clock v) x.world.channel (own w s) = it.here.stands.awake it.on in
+    let awake : StandsAt (ahead v) (level floor floor) (clock v) x.world.channel (own w s) = it.here.stands.awake it.on in
     let now : tick ≡ x.world.channel.tick = sym now_is ∙ awake.tick in
-    let stands : StandsAt before floor (λ d. before) x.world.channel (own w s) =
-    subst (λ a. StandsAt a floor (λ d. before) x.world.channel (own w s)) ahead_is
-    (subst (λ k. StandsAt (ahead v) floor k x.world.channel (own w s)) clock_is awake) in
-    let did = c.in_ok-vehicle_turn.ensures.step floor before (own w s) stands (next ∙ now) in
+    let stands : StandsAt before (level floor floor) (λ d. before) x.world.channel (own w s) =
+    subst (λ a. StandsAt a (level floor floor) (λ d. before) x.world.channel (own w s)) ahead_is
+    (subst (λ k. StandsAt (ahead v) (level floor floor) k x.world.channel (own w s)) clock_is awake) in
+    let did = c.in_ok-vehicle_turn.ensures.step (level floor floor) before (own w s) stands (next ∙ now) in
     let new = c.vehicle_turn.new.self in
-    let later : StandsAt (after v) floor (clock v) new.channel (vehicle_passes (own w s)).world =
-    subst (λ a. StandsAt a floor (clock v) new.channel (vehicle_passes (own w s)).world) (sym now ∙ sym after_is)
-    (subst (λ k. StandsAt x.world.channel.tick floor k new.channel (vehicle_passes (own w s)).world) (sym clock_is) did.1) in (
+    let later : StandsAt (after v) (level floor floor) (clock v) new.channel (vehicle_passes (own w s)).world =
+    subst (λ a. StandsAt a (level floor floor) (clock v) new.channel (vehicle_passes (own w s)).world) (sym now ∙ sym after_is)
+    (subst (λ k. StandsAt x.world.channel.tick (level floor floor) k new.channel (vehicle_passes (own w s)).world) (sym clock_is) did.1) in (
       acted_told acts tick floor ahead clock w v x it.here it.on vehicle_passes g.H.FloorListener.grew c.args.to.now c.speak_for.new.self c.vehicle_turn.new.to c.speak_for.ensures did.0,
       acted acts tick floor ahead after clock clock xs w v i x h low at it.here it.on vehicle_passes (vehicle_passes_still any) aheads (λ a other. refl) new later,
     )
@@ -57,12 +57,12 @@ returns-in_err-vehicle_turn-clause-step g c =
     let low : i < length xs = c.is_awake.ensures.within c.if-not-is_awake.false in
     let it : ActsHere acts tick floor ahead clock w v x = acts_here acts tick floor ahead clock xs w v i x h is_v low at (c.is_awake.ensures.due c.if-not-is_awake.false) in
     let s = it.here.stand in
-    let awake : StandsAt (ahead v) floor (clock v) x.world.channel (own w s) = it.here.stands.awake it.on in
+    let awake : StandsAt (ahead v) (level floor floor) (clock v) x.world.channel (own w s) = it.here.stands.awake it.on in
     let now : tick ≡ x.world.channel.tick = sym now_is ∙ awake.tick in
-    let stands : StandsAt before floor (λ d. before) x.world.channel (own w s) =
-    subst (λ a. StandsAt a floor (λ d. before) x.world.channel (own w s)) ahead_is
-    (subst (λ k. StandsAt (ahead v) floor k x.world.channel (own w s)) clock_is awake) in
-    let part = c.in_err-vehicle_turn.ensures.step floor before (own w s) stands (next ∙ now) in
+    let stands : StandsAt before (level floor floor) (λ d. before) x.world.channel (own w s) =
+    subst (λ a. StandsAt a (level floor floor) (λ d. before) x.world.channel (own w s)) ahead_is
+    (subst (λ k. StandsAt (ahead v) (level floor floor) k x.world.channel (own w s)) clock_is awake) in
+    let part = c.in_err-vehicle_turn.ensures.step (level floor floor) before (own w s) stands (next ∙ now) in
     rw failed.1 (acted_told acts tick floor ahead clock w v x it.here it.on vehicle_passes g.H.FloorListener.partly c.args.to.now c.speak_for.new.self c.vehicle_turn.new.to c.speak_for.ensures part)
 
 pub returns-then-not-is_awake-clause-passes : goal.returns-then-not-is_awake-clause-passes
@@ -79,12 +79,12 @@ returns-clause-passes g c =
     let low : i < length xs = c.is_awake.ensures.within c.if-not-is_awake.false in
     let it : ActsHere acts tick floor ahead clock w v x = acts_here acts tick floor ahead clock xs w v i x h is_v low at (c.is_awake.ensures.due c.if-not-is_awake.false) in
     let s = it.here.stand in
-    let awake : StandsAt (ahead v) floor (clock v) x.world.channel (own w s) = it.here.stands.awake it.on in
+    let awake : StandsAt (ahead v) (level floor floor) (clock v) x.world.channel (own w s) = it.here.stands.awake it.on in
     let now : tick ≡ x.world.channel.tick = sym now_is ∙ awake.tick in
-    let stands : StandsAt before floor (λ d. before) x.world.channel (own w s) =
-    subst (λ a. StandsAt a floor (λ d. before) x.world.channel (own w s)) ahead_is
-    (subst (λ k. StandsAt (ahead v) floor k x.world.channel (own w s)) clock_is awake) in
-    acted_passes acts tick floor ahead clock w v x it.here it.on vehicle_passes _ _ (c.vehicle_turn.ensures.passes floor before (own w s) stands (next ∙ now) (omega (arith, small, now)))
+    let stands : StandsAt before (level floor floor) (λ d. before) x.world.channel (own w s) =
+    subst (λ a. StandsAt a (level floor floor) (λ d. before) x.world.channel (own w s)) ahead_is
+    (subst (λ k. StandsAt (ahead v) (level floor floor) k x.world.channel (own w s)) clock_is awake) in
+    acted_passes acts tick floor ahead clock w v x it.here it.on vehicle_passes _ _ (c.vehicle_turn.ensures.passes (level floor floor) before (own w s) stands (next ∙ now) (omega (arith, small, now)))
 
 pub returns-in_err-vehicle_turn-clause-passes : goal.returns-in_err-vehicle_turn-clause-passes
 returns-in_err-vehicle_turn-clause-passes g c =
@@ -97,9 +97,9 @@ returns-in_err-vehicle_turn-clause-passes g c =
     let low : i < length xs = c.is_awake.ensures.within c.if-not-is_awake.false in
     let it : ActsHere acts tick floor ahead clock w v x = acts_here acts tick floor ahead clock xs w v i x h is_v low at (c.is_awake.ensures.due c.if-not-is_awake.false) in
     let s = it.here.stand in
-    let awake : StandsAt (ahead v) floor (clock v) x.world.channel (own w s) = it.here.stands.awake it.on in
+    let awake : StandsAt (ahead v) (level floor floor) (clock v) x.world.channel (own w s) = it.here.stands.awake it.on in
     let now : tick ≡ x.world.channel.tick = sym now_is ∙ awake.tick in
-    let stands : StandsAt before floor (λ d. before) x.world.channel (own w s) =
-    subst (λ a. StandsAt a floor (λ d. before) x.world.channel (own w s)) ahead_is
-    (subst (λ k. StandsAt (ahead v) floor k x.world.channel (own w s)) clock_is awake) in
-    acted_passes acts tick floor ahead clock w v x it.here it.on vehicle_passes _ _ (c.vehicle_turn.ensures.passes floor before (own w s) stands (next ∙ now) (omega (arith, small, now)))
+    let stands : StandsAt before (level floor floor) (λ d. before) x.world.channel (own w s) =
+    subst (λ a. StandsAt a (level floor floor) (λ d. before) x.world.channel (own w s)) ahead_is
+    (subst (λ k. StandsAt (ahead v) (level floor floor) k x.world.channel (own w s)) clock_is awake) in
+    acted_passes acts tick floor ahead clock w v x it.here it.on vehicle_passes _ _ (c.vehicle_turn.ensures.passes (level floor floor) before (own w s) stands (next ∙ now) (omega (arith, small, now)))

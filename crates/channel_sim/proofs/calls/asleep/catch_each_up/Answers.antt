@@ -1,5 +1,5 @@
 use Rattle.std.proofs.Common.{length, take, ap, sym, ◌∙◌, subst}
-use Rattle.channel_sim.specs.Lag.{CallsLag}
+use Rattle.channel_sim.specs.Lag.{CallsLag, level}
 use Rattle.std.specs.List.{AllByRecursion}
 use Rattle.channel_sim.specs.inner.Asleep.{CountsStand}
 use Rattle.channel_sim.specs.inner.Past.{IsPast}
@@ -9,19 +9,19 @@ use Rattle.channel_sim.proofs.calls.asleep.catch_each_up.Goals as goal
 
 pub returns-clause-lags : goal.returns-clause-lags
 returns-clause-lags g c =
-    λ floor ks h low.
+    λ floor ks h.
     let tick = c.args.tick in
     let kept = c.calls.inside.list in
     let new = c.catch_parts_up-calls-inside.new.calls in
     let value = c.deref_mut.ensures.value in
     let given = subst (λ xs. CallsLag floor (λ d. tick) xs ks) (sym (value ∙ c.calls.view_is)) h in
     let same = written_back kept.len new kept.items (c.catch_parts_up-calls-inside.auto.calls ∙ ap length value) (sym c.deref_mut.ensures.len ∙ ap length value) in
-    subst (λ xs. CallsLag tick (λ d. tick) xs ks) (sym same) (c.catch_parts_up-calls-inside.ensures.lags floor ks given low)
+    subst (λ xs. CallsLag (level tick tick) (λ d. tick) xs ks) (sym same) (c.catch_parts_up-calls-inside.ensures.lags floor ks given)
 
 pub returns-clause-passes : goal.returns-clause-passes
 returns-clause-passes g c =
-    λ floor ks h low small.
-    c.catch_parts_up-calls-inside.ensures.passes floor ks (subst (λ xs. CallsLag floor (λ d. c.args.tick) xs ks) (sym (c.deref_mut.ensures.value ∙ c.calls.view_is)) h) low small
+    λ floor ks h small late.
+    c.catch_parts_up-calls-inside.ensures.passes floor ks (subst (λ xs. CallsLag floor (λ d. c.args.tick) xs ks) (sym (c.deref_mut.ensures.value ∙ c.calls.view_is)) h) small late
 
 pub invariant_of-calls : goal.invariant_of-calls
 invariant_of-calls g c =

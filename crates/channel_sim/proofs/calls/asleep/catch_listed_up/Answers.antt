@@ -1,7 +1,7 @@
 use Rattle.channel_sim.proofs.BoundLemmas.{count_more_passed, count_taken}
 use Rattle.std.proofs.Common.{◌<◌, ◌≤◌, ◌+◌, length, take, ap, sym, ◌∙◌, subst, arith, slice_set}
-use Rattle.channel_sim.specs.Lag.{CallLags}
-use Rattle.channel_sim.proofs.CatchLemmas.{rest_more, caught_more, all_caught, same_item, same_length}
+use Rattle.channel_sim.specs.Lag.{CallLags, level}
+use Rattle.channel_sim.proofs.CatchLemmas.{from_now, soon, rest_more, caught_more, all_caught, same_item, same_length}
 use Rattle.std.specs.List.{AllByRecursion}
 use Rattle.channel_sim.specs.inner.Asleep.{Sleeps}
 use Rattle.channel_sim.proofs.AsleepLemmas.{one_more_sleeps, set_sleep}
@@ -26,24 +26,24 @@ loop-call-preserved g c =
                 (one_more_sleeps i xs y inside (subst (λ n. AllByRecursion Sleeps (take n xs)) same c.loop-call.invariant.sleep) (c.sleeps_too-all.ensures.this w.if-all.true))
             | else-all w ↦ subst (λ n. AllByRecursion Sleeps (take n (slice_set xs i y))) (sym w.asleep-is) (set_sleep c.loop-call.asleep i xs y low c.loop-call.invariant.sleep)
           ];
-      done = λ floor ks h low.
-          caught_more floor c.args.tick c.args.calls.now c.loop-call.call-items ks c.loop-call.call-index _ c.catch_up.new.call inside h low
-          (c.loop-call.invariant.done floor ks h low) c.loop-call.invariant.rest (λ k lags. c.catch_up.ensures.caught floor k lags) (ap (λ x. x.passed) c.catch_up.ensures.same);
+      done = λ floor ks h.
+          caught_more floor (level c.args.tick c.args.tick) c.args.tick c.args.calls.now c.loop-call.call-items ks c.loop-call.call-index _ c.catch_up.new.call inside h
+          (c.loop-call.invariant.done floor ks h) c.loop-call.invariant.rest (λ k lags. c.catch_up.ensures.caught floor k lags) (from_now c.args.tick (level c.args.tick c.args.tick) c.catch_up.new.call (omega arith) (ap (λ x. x.passed) c.catch_up.ensures.same));
       passes =
-          λ floor ks h low small.
+          λ floor ks h small late.
           count_more_passed floor c.args.tick c.loop-call.moments c.catch_up.new.moments c.args.moments.now c.args.calls.now ks c.loop-call.call-index _ h
-          (same_length c.args.calls.now c.loop-call.call-items c.loop-call.call-index inside c.loop-call.invariant.rest) (c.loop-call.invariant.passes floor ks h low small)
-          (λ k lags. c.catch_up.ensures.passes floor k (subst (λ x. CallLags floor c.args.tick x k) (sym (same_item c.args.calls.now c.loop-call.call-items c.loop-call.call-index _ inside c.loop-call.invariant.rest)) lags) small);
+          (same_length c.args.calls.now c.loop-call.call-items c.loop-call.call-index inside c.loop-call.invariant.rest) (c.loop-call.invariant.passes floor ks h small late)
+          (λ k lags. let one = (subst (λ x. CallLags floor c.args.tick x k) (sym (same_item c.args.calls.now c.loop-call.call-items c.loop-call.call-index _ inside c.loop-call.invariant.rest)) lags) in c.catch_up.ensures.passes floor k one (soon floor c.args.tick _ k one small late));
       rest = rest_more c.args.calls.now c.loop-call.call-items c.loop-call.call-index c.catch_up.new.call inside c.loop-call.invariant.rest;
     }
 
 pub returns-clause-lags : goal.returns-clause-lags
 returns-clause-lags g c =
-    λ floor ks h low.
+    λ floor ks h.
     let i = c.loop-call.call-index in
-    all_caught floor c.args.tick i c.args.calls.now c.loop-call.call-items ks (omega arith) (omega arith) h (c.loop-call.invariant.done floor ks h low)
+    all_caught floor (level c.args.tick c.args.tick) c.args.tick i c.args.calls.now c.loop-call.call-items ks (omega arith) (omega arith) h (c.loop-call.invariant.done floor ks h)
 
 pub returns-clause-passes : goal.returns-clause-passes
 returns-clause-passes g c =
-    λ floor ks h low small.
-    omega (arith, count_taken c.loop-call.call-index ks, c.loop-call.invariant.passes floor ks h low small)
+    λ floor ks h small late.
+    omega (arith, count_taken c.loop-call.call-index ks, c.loop-call.invariant.passes floor ks h small late)

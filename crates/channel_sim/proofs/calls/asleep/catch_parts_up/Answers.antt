@@ -1,5 +1,5 @@
 use Rattle.std.proofs.Common.{◌≡◌, length, take, drop, sym, ◌∙◌, subst, arith}
-use Rattle.channel_sim.specs.Lag.{CallsLag}
+use Rattle.channel_sim.specs.Lag.{CallsLag, level}
 use Rattle.channel_sim.proofs.CatchLemmas.{lag_front, lag_back, lag_parts, count_parts}
 use Rattle.std.specs.List.{AllByRecursion}
 use Rattle.channel_sim.specs.inner.Past.{IsPast}
@@ -21,19 +21,19 @@ returns-clause-past g c =
 
 pub returns-clause-lags : goal.returns-clause-lags
 returns-clause-lags g c =
-    λ floor ks h low.
+    λ floor ks h.
     let n = c.args.asleep in
     let tick = c.args.tick in
     let front = subst (λ xs. CallsLag floor (λ d. tick) xs (take n ks)) (sym c.split_at_mut-sleeping.ensures.front) (lag_front floor (λ d. tick) n c.args.calls.now ks h) in
     let back = subst (λ xs. CallsLag floor (λ d. tick) xs (drop n ks)) (sym c.split_at_mut-sleeping.ensures.back) (lag_back floor (λ d. tick) n c.args.calls.now ks h) in
-    lag_parts tick (λ d. tick) n c.rest_each.new.calls c.catch_listed_up.new.calls ks
-    (c.rest_each.ensures.lags floor (take n ks) front low) (c.catch_listed_up.ensures.lags floor (drop n ks) back low)
+    lag_parts (level tick tick) (λ d. tick) n c.rest_each.new.calls c.catch_listed_up.new.calls ks
+    (c.rest_each.ensures.lags floor (take n ks) front) (c.catch_listed_up.ensures.lags floor (drop n ks) back)
 
 pub returns-clause-passes : goal.returns-clause-passes
 returns-clause-passes g c =
-    λ floor ks h low small.
+    λ floor ks h small late.
     let n = c.args.asleep in
     let tick = c.args.tick in
     let front = subst (λ xs. CallsLag floor (λ d. tick) xs (take n ks)) (sym c.split_at_mut-sleeping.ensures.front) (lag_front floor (λ d. tick) n c.args.calls.now ks h) in
     let back = subst (λ xs. CallsLag floor (λ d. tick) xs (drop n ks)) (sym c.split_at_mut-sleeping.ensures.back) (lag_back floor (λ d. tick) n c.args.calls.now ks h) in
-    omega (arith, count_parts n ks, c.rest_each.ensures.passes floor (take n ks) front low small, c.catch_listed_up.ensures.passes floor (drop n ks) back low small)
+    omega (arith, count_parts n ks, c.rest_each.ensures.passes floor (take n ks) front small late, c.catch_listed_up.ensures.passes floor (drop n ks) back small late)

@@ -11,6 +11,7 @@ use Rattle.channel_sim.specs.inner.Seats.{IsQuietFor}
 use Rattle.channel_sim.specs.Lag.{SessionLags, SeatLags}
 use Rattle.channel_sim.proofs.EndJump.{point_acts}
 use Rattle.channel_sim.proofs.LagLemmas.{acted_over, acted_on, due_now}
+use Rattle.channel_sim.proofs.RestLemmas.{acting_from}
 use Rattle.channel_sim.proofs.SeatLemmas.{is_over, not_over}
 use Rattle.channel_sim.proofs.WakeLemmas.{quiet_did, acted_as}
 use Rattle.channel_sim.proofs.calls.call.act_at.Goals as goal
@@ -33,7 +34,8 @@ returns-then-over-clause-did g c =
     let session = c.in-Some.session in
     let new = c.pass_into.new.self in
     let within : x.passed ≤ before = h.passed in
-    let low : floor ≤ x.passed = h.from in
+    let seat = ap (λ (y : Call). y.session) (sym c.call.view_is) ∙ c.in-Some.is in
+    let low = acting_from floor before c.args.tick due x k session h next seat (λ s stands. c.in-Some-due_at.ensures.due s stands) in
     let same = ap (λ (y : Call). y.passed) c.call.view_is in
     let least : due ≤ (before - x.passed) + 1 = omega (arith, same, c.in-Some-due_at.ensures.some.1, c.saturating_sub-lag.ensures) in
     let rows = λ (s : Point) (lags : SessionLags (before - x.passed) session s).
@@ -45,7 +47,7 @@ returns-then-over-clause-did g c =
     let stands = λ (s : Point) (lags : SessionLags (before - x.passed) session s).
     subst (λ (r : Row Point). SessionStandsFor new r.new) (rows s lags) (c.pass_into.ensures.ticks.stands lags.was lags.stands) in
     acted_as floor c.args.tick true c.pass_into.new.items.items x _ None _ k point.unit_row c.call.view_is c.free-call.ensures
-    (acted_over floor before c.args.tick x k point.unit_row session c.pass_into.new.items.items h (omega arith)
+    (acted_over floor before c.args.tick x k point.unit_row session c.pass_into.new.items.items h low
     (ap (λ (y : Call). y.session) (sym c.call.view_is) ∙ c.in-Some.is)
     (λ s lags. (gives s lags, is_over (point.unit_row s).new ((c.over.ensures (point.unit_row s).new (stands s lags)).0 c.if-over.true))))
 
@@ -57,7 +59,8 @@ returns-else-over-clause-did g c =
     let session = c.in-Some.session in
     let new = c.pass_into.new.self in
     let within : x.passed ≤ before = h.passed in
-    let low : floor ≤ x.passed = h.from in
+    let seat = ap (λ (y : Call). y.session) (sym c.call.view_is) ∙ c.in-Some.is in
+    let low = acting_from floor before c.args.tick due x k session h next seat (λ s stands. c.in-Some-due_at.ensures.due s stands) in
     let same = ap (λ (y : Call). y.passed) c.call.view_is in
     let least : due ≤ (before - x.passed) + 1 = omega (arith, same, c.in-Some-due_at.ensures.some.1, c.saturating_sub-lag.ensures) in
     let rows = λ (s : Point) (lags : SessionLags (before - x.passed) session s).
@@ -69,7 +72,7 @@ returns-else-over-clause-did g c =
     let stands = λ (s : Point) (lags : SessionLags (before - x.passed) session s).
     subst (λ (r : Row Point). SessionStandsFor new r.new) (rows s lags) (c.pass_into.ensures.ticks.stands lags.was lags.stands) in
     subst (λ (y : Call). CallDid floor c.args.tick true c.pass_into.new.items.items (record y { session = Some c.pass_into.new.self; passed = c.args.tick }) k point.unit_row) (sym c.call.view_is)
-    (acted_on floor before c.args.tick x k point.unit_row session new c.pass_into.new.items.items h (omega arith)
+    (acted_on floor before c.args.tick x k point.unit_row session new c.pass_into.new.items.items h low
     (ap (λ (y : Call). y.session) (sym c.call.view_is) ∙ c.in-Some.is)
     (λ s lags. (gives s lags, not_over (point.unit_row s).new (iff_false (c.over.ensures (point.unit_row s).new (stands s lags)) c.if-over.false), stands s lags)))
 

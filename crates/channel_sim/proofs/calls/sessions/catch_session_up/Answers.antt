@@ -13,8 +13,8 @@ pub returns-in-Some-clause-lags : goal.returns-in-Some-clause-lags
 returns-in-Some-clause-lags g c =
     rw (← c.calls.view_is) (
     λ floor ks h above.
-    set_at floor (λ e. c.args.tick) c.calls.inside.list.items ks c.in-Some.i c.index_mut.result.now c.catch_up.new.call h
-    (λ k lags. c.catch_up.ensures.caught floor k (subst (λ x. CallLags floor c.args.tick x k) (sym c.index_mut.ensures.value) lags))
+    set_at floor (λ e. c.args.tick) c.calls.inside.list.items ks c.in-Some.i c.index_mut.result.now c.catch_waking_up.new.call h
+    (λ k lags. c.catch_waking_up.ensures.caught floor k (subst (λ x. CallLags floor c.args.tick x k) (sym c.index_mut.ensures.value) lags))
     )
 
 pub returns-in-Some-clause-caught : goal.returns-in-Some-clause-caught
@@ -25,8 +25,8 @@ returns-in-Some-clause-caught g c =
     let clock = λ (e : ℕ). c.args.tick in
     let place = found_at floor clock c.args.number c.deref.result.now xs ks _ c.deref.ensures.value c.in-Some.ensures.place h above in
     let inside : c.in-Some.i < length xs = omega (arith, c.in-Some.ensures.within, ap length c.deref.ensures.value) in
-    caught_set clock 0 c.args.number xs c.in-Some.i c.index_mut.result.now c.catch_up.new.call (subst (AreAbove 0) (same_numbers floor clock xs ks h) above) inside
-    (number_found floor clock c.args.number xs ks c.in-Some.i c.index_mut.result.now h place inside) (ap (λ x. x.passed) c.catch_up.ensures.same)
+    caught_set clock 0 c.args.number xs c.in-Some.i c.index_mut.result.now c.catch_waking_up.new.call (subst (AreAbove 0) (same_numbers floor clock xs ks h) above) inside
+    (number_found floor clock c.args.number xs ks c.in-Some.i c.index_mut.result.now h place inside) c.catch_waking_up.ensures.reached
     )
 
 pub returns-in_default-clause-caught : goal.returns-in_default-clause-caught
@@ -46,9 +46,9 @@ returns-in-Some-clause-passes g c =
     let xs = c.calls.inside.list.items in
     let clock = λ (e : ℕ). c.args.tick in
     let place = found_at floor clock c.args.number c.deref.result.now xs ks _ c.deref.ensures.value c.in-Some.ensures.place h above in
-    call_at (λ o. c.catch_up.new.moments ≤ c.args.moments.now + once_if o) floor clock c.args.number xs ks c.in-Some.i c.index_mut.result.now h place
-    (λ k lags. c.catch_up.ensures.passes floor k (subst (λ x. CallLags floor c.args.tick x k) (sym c.index_mut.ensures.value) lags) small)
+    call_at (λ o. c.catch_waking_up.new.moments ≤ c.args.moments.now + once_if o) floor clock c.args.number xs ks c.in-Some.i c.index_mut.result.now h place
+    (λ k lags. c.catch_waking_up.ensures.passes floor k (subst (λ x. CallLags floor c.args.tick x k) (sym c.index_mut.ensures.value) lags) small)
     )
 
 pub invariant_of-calls : goal.invariant_of-calls
-invariant_of-calls g c = counts_set c.in-Some.i c.calls.inside.counts c.wake.new.self c.calls.inside.list.items c.catch_up.new.call c.wake.ensures c.calls.invariant
+invariant_of-calls g c = counts_set c.in-Some.i c.calls.inside.counts c.wake.new.self c.calls.inside.list.items c.catch_waking_up.new.call c.wake.ensures c.calls.invariant

@@ -3,7 +3,7 @@ use Rattle.std.specs.Option.{is_some}
 use Rattle.psap_machine.specs.Point.{Point}
 use Rattle.psap_machine.specs.PointRows as point
 use Rattle.link_frames.specs.declared.note.Why.TheVariants as why
-use Rattle.channel_sim.specs.inner.Acts.{SessionDid}
+use Rattle.channel_sim.specs.inner.Acts.{CallDid, SessionDid, IsUpTo}
 use Rattle.channel_sim.specs.Lag.{CallLags}
 use Rattle.channel_sim.proofs.CallsLemmas.{found_at, is_there, no_session, did_at, did_nowhere, caught_at, number_found}
 use Rattle.channel_sim.proofs.StillLemmas.{counts_set}
@@ -32,7 +32,7 @@ returns-in-Some-clause-variant c =
 pub returns-in-None-clause-did : goal.returns-in-None-clause-did
 returns-in-None-clause-did c =
     rw (← c.calls.view_is) (
-    λ floor clock ks h above caught.
+    λ floor clock ks h above low same caught.
     let row = λ (s : Point). point.point_row s (point.heard c.args.event.now) in
     let xs = c.calls.inside.list.items in
     let place = found_at floor clock c.args.number c.deref.result.now xs ks _ c.deref.ensures.value
@@ -44,7 +44,7 @@ returns-in-None-clause-did c =
 pub returns-in-Some-clause-did : goal.returns-in-Some-clause-did
 returns-in-Some-clause-did c =
     rw (← c.calls.view_is) (
-    λ floor clock ks h above caught.
+    λ floor clock ks h above low same caught.
     let row = λ (s : Point). point.point_row s (point.heard c.args.event.now) in
     let xs = c.calls.inside.list.items in
     let place = found_at floor clock c.args.number c.deref.result.now xs ks _ c.deref.ensures.value
@@ -54,9 +54,11 @@ returns-in-Some-clause-did c =
     let passed = caught_at floor clock c.args.number xs c.in-Some.i c.index_mut.result.now caught inside here in
     did_at floor clock clock 0 c.args.number row c.hear_call.result c.hear_call.new.items.items xs ks c.in-Some.i
     c.index_mut.result.now c.hear_call.new.call h above place (λ j other. refl)
-    (λ k number lags. c.hear_call.ensures.did floor (clock c.args.number) k
-    (subst (λ x. CallLags floor (clock c.args.number) x k) (sym c.index_mut.ensures.value) lags)
-    (ap (λ x. x.passed) c.index_mut.ensures.value ∙ passed))
+    (λ k number lags.
+    let at = subst (λ x. CallLags floor (clock c.args.number) x k) (sym c.index_mut.ensures.value) lags in
+    subst (λ n. CallDid floor n c.hear_call.result c.hear_call.new.items.items c.hear_call.new.call k row) (sym same)
+    (c.hear_call.ensures.did floor k (subst (λ n. CallLags floor n c.index_mut.result.now k) same at) low
+    (subst (λ n. IsUpTo n c.index_mut.result.now) same (subst (λ x. IsUpTo (clock c.args.number) x) (sym c.index_mut.ensures.value) passed))))
     )
 
 pub returns-in-None-clause-ended : goal.returns-in-None-clause-ended

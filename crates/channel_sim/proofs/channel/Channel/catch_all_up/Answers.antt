@@ -1,5 +1,5 @@
 use Rattle.std.proofs.Common.{◌≡◌, ◌≤◌, refl, ap, sym, ◌∙◌, subst, arith}
-use Rattle.channel_sim.specs.Lag.{StandsAt}
+use Rattle.channel_sim.specs.Lag.{CallsLag, StandsAt, level}
 use Rattle.channel_sim.proofs.HandLemmas.{caught_all}
 use Rattle.channel_sim.proofs.channel.Channel.catch_all_up.Goals as goal
 
@@ -11,18 +11,18 @@ returns-clause-caught g c =
     let tick : mid.tick ≡ kept.tick = ap (λ x. x.tick) c.catch_vehicle_up.ensures.same in
     let passed : mid.passed ≡ kept.tick = ap (λ x. x.passed) c.catch_vehicle_up.ensures.same in
     let s1 = c.catch_vehicle_up.ensures.caught kept.tick floor (λ d. kept.tick) w s refl in
-    let low : floor ≤ kept.tick = (let a : floor ≤ kept.passed = s.from in let b : kept.passed ≤ kept.tick = s.passed in omega arith) in
+    let low : floor.waking ≤ kept.tick = (let a : floor.waking ≤ kept.passed = s.from in let b : kept.passed ≤ kept.tick = s.passed in omega arith) in
     let s2 = subst (λ t. StandsAt t floor (λ d. t) mid w) (sym tick) s1 in
-    caught_all floor mid (record mid { calls = c.catch_each_up.new.calls }) w s2 refl (passed ∙ sym tick)
-    (c.catch_each_up.ensures.lags floor w.calls s2.calls (omega arith))
+    caught_all floor kept.tick mid (record mid { calls = c.catch_each_up.new.calls }) w s2 refl (passed ∙ sym tick)
+    (subst (λ t. CallsLag (level t mid.tick) (λ d. mid.tick) c.catch_each_up.new.calls w.calls) tick (c.catch_each_up.ensures.lags floor w.calls s2.calls))
 
 pub returns-clause-passes : goal.returns-clause-passes
 returns-clause-passes g c =
-    λ floor w s small.
+    λ floor w s small late.
     let kept = c.args.self.now in
     let mid = c.catch_vehicle_up.new.self in
     let tick : mid.tick ≡ kept.tick = ap (λ x. x.tick) c.catch_vehicle_up.ensures.same in
     let s1 = c.catch_vehicle_up.ensures.caught kept.tick floor (λ d. kept.tick) w s refl in
-    let low : floor ≤ kept.tick = (let a : floor ≤ kept.passed = s.from in let b : kept.passed ≤ kept.tick = s.passed in omega arith) in
+    let low : floor.waking ≤ kept.tick = (let a : floor.waking ≤ kept.passed = s.from in let b : kept.passed ≤ kept.tick = s.passed in omega arith) in
     let s2 = subst (λ t. StandsAt t floor (λ d. t) mid w) (sym tick) s1 in
     omega (arith, c.catch_vehicle_up.ensures.passes kept.tick floor (λ d. kept.tick) w s refl small, c.catch_each_up.ensures.passes floor w.calls s2.calls (omega arith) (omega arith))

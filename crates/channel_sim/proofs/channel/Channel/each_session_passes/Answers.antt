@@ -41,7 +41,7 @@ loop-number-preserved g c =
           let did = c.session_passes.ensures.passes ahead floor (clock_of before (x ∷ rest)) (clock_of before rest) front.world
           (subst (λ ms. StandsAt ahead floor (clock_of before ms) c.loop-number.self front.world) split so_far.1) (now ∙ sym c.loop-number.invariant.tick)
           (ap (λ t. t + 1) (clock_first before x rest) ∙ next) (clock_gone before x rest above ∙ next) (clock_same before x rest)
-          (subst (λ t. t < floor + 2 ^ 32) (sym c.loop-number.invariant.tick) small) in
+          (subst (λ t. t < floor.waking + 2 ^ 32) (sym c.loop-number.invariant.tick) small) in
           let more = each_more session_passes ns i x w inside (same_at ns i inside) in
           subst (λ (z : Step). c.session_passes.new.moments ≤ c.args.moments.now + passes_of z) (sym more)
           (passes_more front (session_passes x) c.args.moments.now c.loop-number.moments c.session_passes.new.moments (c.loop-number.invariant.passes ahead floor before w s now next listed small) did);
@@ -121,7 +121,7 @@ returns-in_err-session_passes-clause-passes g c =
     let did = c.session_passes.ensures.passes ahead floor (clock_of before (x ∷ rest)) (clock_of before rest) front.world
     (subst (λ ms. StandsAt ahead floor (clock_of before ms) c.loop-number.self front.world) split so_far.1) (now ∙ sym c.loop-number.invariant.tick)
     (ap (λ t. t + 1) (clock_first before x rest) ∙ next) (clock_gone before x rest above ∙ next) (clock_same before x rest)
-    (subst (λ t. t < floor + 2 ^ 32) (sym c.loop-number.invariant.tick) small) in
+    (subst (λ t. t < floor.waking + 2 ^ 32) (sym c.loop-number.invariant.tick) small) in
     let more = each_more session_passes ns i x w inside (same_at ns i inside) in
     let all = each_all session_passes ns (i + 1) w in
     let Few = λ (z : Step). c.session_passes.new.moments ≤ c.args.moments.now + passes_of z in

@@ -1,4 +1,4 @@
-use Rattle.std.proofs.Common.{◌≡◌, take}
+use Rattle.std.proofs.Common.{◌≡◌, ℕ, take}
 use Rattle.channel_sim.specs.World.{World, each}
 use Rattle.channel_sim.specs.Lines.{session_resets}
 use Rattle.channel_sim.specs.Lag.{StandsNow}
@@ -11,7 +11,7 @@ invariant-loop-number g l =
       stood : g.H.Listener.faults l.to ≡ g.H.Listener.faults l.initial.to;
       still : l.initial.self.passed ≡ l.initial.self.tick →
           (l.self.passed ≡ l.self.tick) × (l.moments ≡ l.initial.moments);
-      came : (w : World) → StandsNow l.initial.self w →
+      came : (settled : ℕ) (w : World) → StandsNow settled l.initial.self w →
           g.H.Listener.grew l.initial.to l.to (each session_resets (take l.number-index l.numbers) w).entries
-          × StandsNow l.self (each session_resets (take l.number-index l.numbers) w).world;
+          × StandsNow settled l.self (each session_resets (take l.number-index l.numbers) w).world;
     }

@@ -34,7 +34,7 @@ returns-clause-passes g c =
     let tick = c.vehicle_passes.ensures.tick in
     let d1 = c.in_ok-vehicle_passes.ensures.step floor before w s next in
     let p1 = c.vehicle_passes.ensures.passes floor before w s next small in
-    let p2 = c.sessions_pass.ensures.passes kept.tick floor before (model.vehicle_passes w).world d1.1 (sym tick) next (subst (λ t. t < floor + 2 ^ 32) (sym tick) small) in
+    let p2 = c.sessions_pass.ensures.passes kept.tick floor before (model.vehicle_passes w).world d1.1 (sym tick) next (subst (λ t. t < floor.waking + 2 ^ 32) (sym tick) small) in
     passes_more (model.vehicle_passes w) model.sessions_pass c.args.moments.now c.vehicle_passes.new.moments c.sessions_pass.new.moments p1 p2
 
 pub returns-in_err-vehicle_passes-clause-passes : goal.returns-in_err-vehicle_passes-clause-passes

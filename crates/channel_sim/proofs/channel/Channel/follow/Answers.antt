@@ -27,7 +27,7 @@ loop-note-preserved g c =
           λ ahead floor clock w s now small.
           let before = does_each (consequences (told w.tick (take c.loop-note.note-index c.args.items.now))) w in
           let so_far = c.loop-note.invariant.came ahead floor clock w s now in
-          let next = c.follow_one.ensures.passes ahead floor clock before.world so_far.1 (now ∙ sym c.loop-note.invariant.tick) (subst (λ t. t < floor + 2 ^ 32) (sym c.loop-note.invariant.tick) small) in
+          let next = c.follow_one.ensures.passes ahead floor clock before.world so_far.1 (now ∙ sym c.loop-note.invariant.tick) (subst (λ t. t < floor.waking + 2 ^ 32) (sym c.loop-note.invariant.tick) small) in
           let more = follow_more w.tick w c.args.items.now c.loop-note.note-index c.note-item.result c.loop-note-test.true c.note-item.is in
           subst (λ (z : Step). c.follow_one.new.moments ≤ c.args.moments.now + passes_of z) (sym more)
           (passes_more before (does_each (consequence c.note-item.result)) c.args.moments.now c.loop-note.moments c.follow_one.new.moments (c.loop-note.invariant.passes ahead floor clock w s now small) next);
@@ -78,7 +78,7 @@ returns-in_err-follow_one-clause-passes g c =
     λ ahead floor clock w s now small.
     let before = does_each (consequences (told w.tick (take c.loop-note.note-index c.args.items.now))) w in
     let so_far = c.loop-note.invariant.came ahead floor clock w s now in
-    let next = c.follow_one.ensures.passes ahead floor clock before.world so_far.1 (now ∙ sym c.loop-note.invariant.tick) (subst (λ t. t < floor + 2 ^ 32) (sym c.loop-note.invariant.tick) small) in
+    let next = c.follow_one.ensures.passes ahead floor clock before.world so_far.1 (now ∙ sym c.loop-note.invariant.tick) (subst (λ t. t < floor.waking + 2 ^ 32) (sym c.loop-note.invariant.tick) small) in
     let more = follow_more w.tick w c.args.items.now c.loop-note.note-index c.note-item.result c.loop-note-test.true c.note-item.is in
     let all = follow_all w.tick w c.args.items.now (c.loop-note.note-index + 1) in
     let Few = λ (z : Step). c.follow_one.new.moments ≤ c.args.moments.now + passes_of z in

@@ -29,7 +29,7 @@ loop-one-preserved g c =
           λ ahead floor w s now small.
           let so_far = c.loop-one.invariant.came ahead floor w s now in
           let front : Step = each (hands_way c.args.up) (take i ds) w in
-          let did = c.hand.ensures.passes ahead floor front.world so_far.1 (now ∙ sym c.loop-one.invariant.tick) (subst (λ t. t < floor + 2 ^ 32) (sym c.loop-one.invariant.tick) small) in
+          let did = c.hand.ensures.passes ahead floor front.world so_far.1 (now ∙ sym c.loop-one.invariant.tick) (subst (λ t. t < floor.waking + 2 ^ 32) (sym c.loop-one.invariant.tick) small) in
           let more = each_more (hands_way c.args.up) ds i d w inside (map_at due_of c.args.due.now i c.one-item.result c.loop-one-test.true c.one-item.is) in
           subst (λ (z : Step). c.hand.new.moments ≤ c.args.moments.now + passes_of z) (sym more)
           (passes_more front ((hands_way c.args.up) d) c.args.moments.now c.loop-one.moments c.hand.new.moments (c.loop-one.invariant.passes ahead floor w s now small) did);
@@ -88,7 +88,7 @@ returns-in_err-hand-clause-passes g c =
     let inside : i < length ds = subst (λ n. i < n) (sym (map_length due_of c.args.due.now)) c.loop-one-test.true in
     let so_far = c.loop-one.invariant.came ahead floor w s now in
     let front : Step = each (hands_way c.args.up) (take i ds) w in
-    let did = c.hand.ensures.passes ahead floor front.world so_far.1 (now ∙ sym c.loop-one.invariant.tick) (subst (λ t. t < floor + 2 ^ 32) (sym c.loop-one.invariant.tick) small) in
+    let did = c.hand.ensures.passes ahead floor front.world so_far.1 (now ∙ sym c.loop-one.invariant.tick) (subst (λ t. t < floor.waking + 2 ^ 32) (sym c.loop-one.invariant.tick) small) in
     let more = each_more (hands_way c.args.up) ds i d w inside (map_at due_of c.args.due.now i c.one-item.result c.loop-one-test.true c.one-item.is) in
     let all = each_all (hands_way c.args.up) ds (i + 1) w in
     let Few = λ (z : Step). c.hand.new.moments ≤ c.args.moments.now + passes_of z in

@@ -18,7 +18,7 @@ returns-clause-step g c =
     let s0 = subst (λ n. StandsAt n floor (λ d. n) kept w) now s in
     let moved = record kept { calls = c.catch_session_up.new.calls } in
     let s1 = with_calls t floor (λ d. t) kept moved w s0 refl (c.catch_session_up.ensures.lags floor w.calls s0.calls s0.tidy.numbers) in
-    let did = c.session_performs.ensures.step t floor (λ d. t) w s1 refl (c.catch_session_up.ensures.caught floor w.calls s0.calls s0.tidy.numbers) in
+    let did = c.session_performs.ensures.step t floor (λ d. t) w s1 refl refl (c.catch_session_up.ensures.caught floor w.calls s0.calls s0.tidy.numbers) in
     subst (λ n. CameAt Grew Partly c.session_performs.result n floor (λ e. n) c.session_performs.new.self (model.hands_up (record { call = c.args.number; frame = full c.args.frame.now }) w)) (sym now)
     (came_alike Grew Partly c.session_performs.result t floor (λ e. t) c.session_performs.new.self (model.hands_up (record { call = c.args.number; frame = full c.args.frame.now }) w)
     (model.performs (model.Session c.args.number (point.Arrives (full c.args.frame.now))) w) (up_alike (record { call = c.args.number; frame = full c.args.frame.now }) w)
@@ -32,7 +32,7 @@ returns-clause-passes g c =
     let s0 = subst (λ n. StandsAt n floor (λ d. n) kept w) now s in
     let moved = record kept { calls = c.catch_session_up.new.calls } in
     let s1 = with_calls t floor (λ d. t) kept moved w s0 refl (c.catch_session_up.ensures.lags floor w.calls s0.calls s0.tidy.numbers) in
-    let did = c.session_performs.ensures.passes t floor (λ d. t) w s1 refl (c.catch_session_up.ensures.caught floor w.calls s0.calls s0.tidy.numbers) small in
+    let did = c.session_performs.ensures.passes t floor (λ d. t) w s1 refl refl (c.catch_session_up.ensures.caught floor w.calls s0.calls s0.tidy.numbers) small in
     handed_up_more (record { call = c.args.number; frame = full c.args.frame.now }) w c.args.moments.now c.catch_session_up.new.moments c.session_performs.new.moments
     (c.catch_session_up.ensures.passes floor w.calls s0.calls s0.tidy.numbers small)
     (subst (λ f. c.session_performs.new.moments ≤ c.catch_session_up.new.moments + passes_of (model.performs (model.Session c.args.number (point.Arrives f)) w)) c.lend.ensures did)

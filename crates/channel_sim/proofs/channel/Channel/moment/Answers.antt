@@ -58,7 +58,7 @@ returns-clause-passes g c =
     λ floor n w s next quiet rests no_up no_down small.
     let kept = c.args.self.now in
     let m0 = c.args.moments.now in
-    let at = λ (t : ℕ) (e : t ≡ c.args.tick). subst (λ u. u < floor + 2 ^ 32) (sym e) small in
+    let at = λ (t : ℕ) (e : t ≡ c.args.tick). subst (λ u. u < floor.waking + 2 ^ 32) (sym e) small in
     let w1 : model.World = record (aged_world n w) { tick = (aged_world n w).tick + 1 } in
     let stands = jumped floor n c.args.tick kept w s quiet next in
     let d2 = c.in_ok-ends_from.ensures.step floor (kept.tick + n) w1 stands next (λ late. ends_next n w (rests late)) in
@@ -91,7 +91,7 @@ returns-in_err-flows_from-clause-passes g c =
     λ floor n w s next quiet rests no_up no_down small.
     let kept = c.args.self.now in
     let m0 = c.args.moments.now in
-    let at = λ (t : ℕ) (e : t ≡ c.args.tick). subst (λ u. u < floor + 2 ^ 32) (sym e) small in
+    let at = λ (t : ℕ) (e : t ≡ c.args.tick). subst (λ u. u < floor.waking + 2 ^ 32) (sym e) small in
     let w1 : model.World = record (aged_world n w) { tick = (aged_world n w).tick + 1 } in
     let stands = jumped floor n c.args.tick kept w s quiet next in
     let d2 = c.in_ok-ends_from.ensures.step floor (kept.tick + n) w1 stands next (λ late. ends_next n w (rests late)) in

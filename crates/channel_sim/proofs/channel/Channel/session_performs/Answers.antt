@@ -1,6 +1,6 @@
 use Rattle.channel_sim.proofs.BoundLemmas.{fewer}
 use Rattle.channel_sim.specs.Passes.{passes_of}
-use Rattle.std.proofs.Common.{◌≡◌, true, false, refl, ap, sym, ◌∙◌, subst, ◌+◌, ◌≤◌, length}
+use Rattle.std.proofs.Common.{◌≡◌, true, false, refl, ap, sym, ◌∙◌, subst, ◌+◌, ◌≤◌, length, arith}
 use Rattle.std.specs.Option.{is_some}
 use Rattle.psap_machine.specs.Point.{Point}
 use Rattle.psap_machine.specs.PointRows as point
@@ -12,10 +12,10 @@ use Rattle.channel_sim.proofs.channel.Channel.session_performs.Goals as goal
 
 pub returns-then-hear_session-clause-step : goal.returns-then-hear_session-clause-step
 returns-then-hear_session-clause-step g c =
-    λ ahead floor clock w s now caught.
+    λ ahead floor clock w s now here caught.
     let row = λ (p : Point). point.point_row p (point.heard c.args.event.now) in
     let kept = c.args.self.now in
-    let heard = c.hear_session.ensures.did floor clock w.calls s.calls s.tidy.numbers caught in
+    let heard = c.hear_session.ensures.did floor clock w.calls s.calls s.tidy.numbers (let a : floor.waking ≤ kept.passed = s.from in let b : kept.passed ≤ ahead = s.passed in omega arith) (here ∙ now) caught in
     let there : is_some (model.session_of c.args.number w.calls) ≡ true = sym (c.hear_session.ensures.variant floor clock w.calls s.calls s.tidy.numbers) ∙ c.if-hear_session.true in
     let after = model.seated c.args.number (seat_after row (model.session_of c.args.number w.calls)) w.calls in
     let Step = λ (z : model.Step). CameAt (g.H.Listener.grew c.args.to.now c.settles.new.to) (g.H.Listener.partly c.args.to.now c.settles.new.to) c.settles.result ahead floor clock c.settles.new.self (model.settled z) in
@@ -26,10 +26,10 @@ returns-then-hear_session-clause-step g c =
 
 pub returns-else-hear_session-clause-step : goal.returns-else-hear_session-clause-step
 returns-else-hear_session-clause-step g c =
-    λ ahead floor clock w s now caught.
+    λ ahead floor clock w s now here caught.
     let row = λ (p : Point). point.point_row p (point.heard c.args.event.now) in
     let kept = c.args.self.now in
-    let did = c.hear_session.ensures.did floor clock w.calls s.calls s.tidy.numbers caught in
+    let did = c.hear_session.ensures.did floor clock w.calls s.calls s.tidy.numbers (let a : floor.waking ≤ kept.passed = s.from in let b : kept.passed ≤ ahead = s.passed in omega arith) (here ∙ now) caught in
     let gone : is_some (model.session_of c.args.number w.calls) ≡ false = sym (c.hear_session.ensures.variant floor clock w.calls s.calls s.tidy.numbers) ∙ c.if-hear_session.false in
     let moved = record kept { calls = c.hear_session.new.calls } in
     subst (λ (z : model.Step). g.H.Listener.grew c.args.to.now c.args.to.now z.entries × StandsAt ahead floor clock moved z.world) (sym (ap model.settled (no_session_step c.args.number w row gone) ∙ settled_quiet w))
@@ -37,10 +37,10 @@ returns-else-hear_session-clause-step g c =
 
 pub returns-then-hear_session-clause-passes : goal.returns-then-hear_session-clause-passes
 returns-then-hear_session-clause-passes g c =
-    λ ahead floor clock w s now caught small.
+    λ ahead floor clock w s now here caught small.
     let row = λ (p : Point). point.point_row p (point.heard c.args.event.now) in
     let kept = c.args.self.now in
-    let heard = c.hear_session.ensures.did floor clock w.calls s.calls s.tidy.numbers caught in
+    let heard = c.hear_session.ensures.did floor clock w.calls s.calls s.tidy.numbers (let a : floor.waking ≤ kept.passed = s.from in let b : kept.passed ≤ ahead = s.passed in omega arith) (here ∙ now) caught in
     let there : is_some (model.session_of c.args.number w.calls) ≡ true = sym (c.hear_session.ensures.variant floor clock w.calls s.calls s.tidy.numbers) ∙ c.if-hear_session.true in
     let after = model.seated c.args.number (seat_after row (model.session_of c.args.number w.calls)) w.calls in
     let Step = λ (z : model.Step). c.settles.new.moments ≤ c.args.moments.now + passes_of (model.settled z) in

@@ -27,7 +27,7 @@ returns-clause-passes g c =
     let first = model.did w c.args.items.now v ks in
     let did = c.in_ok-did.ensures.step ahead floor clock w v ks ready in
     settled_more w c.args.items.now v ks c.args.moments.now c.follow.new.moments
-    (c.follow.ensures.passes ahead floor clock first.world did.1 (now ∙ sym c.did.ensures.tick) (subst (λ t. t < floor + 2 ^ 32) (sym c.did.ensures.tick) small))
+    (c.follow.ensures.passes ahead floor clock first.world did.1 (now ∙ sym c.did.ensures.tick) (subst (λ t. t < floor.waking + 2 ^ 32) (sym c.did.ensures.tick) small))
 
 pub returns-in_err-did-clause-passes : goal.returns-in_err-did-clause-passes
 returns-in_err-did-clause-passes g c = λ ahead floor clock w v ks ready now small. settled_none w c.args.items.now v ks c.args.moments.now

@@ -46,7 +46,7 @@ returns-then-vehicle_act-clause-passes g c =
     (subst (λ items. c.vehicle_act.new.moments ≤ c.args.moments.now + length items) (sym c.as_slice-items.ensures.value) (c.vehicle_act.ensures.passes (before - kept.passed) w.vehicle s.vehicle c.if-vehicle_act.true))
     (c.settles.ensures.passes kept.tick floor (λ d. before) w row.new w.calls
     (vehicle_passed_ready floor before (λ d. before) kept moved w row.new c.call-call.result s next c.vehicle_act.ensures.same (c.vehicle_act.ensures.some c.if-vehicle_act.true) acts.1 call)
-    tick (subst (λ t. t < floor + 2 ^ 32) tick small)))
+    tick (subst (λ t. t < floor.waking + 2 ^ 32) tick small)))
 
 pub returns-else-vehicle_act-clause-passes : goal.returns-else-vehicle_act-clause-passes
 returns-else-vehicle_act-clause-passes g c =
