@@ -10,6 +10,7 @@
     legs      COUNT calls whose point legs stay up, then long ticks
     apart     the same, with six seconds between the calls
     crowd     the same, with flows on: each call has its set shown and acknowledged before the vehicle's leg is lost
+    first     COUNT calls whose point legs stay up, and then the first of them is asked for a set 250 times
     callbacks COUNT calls placed by the point, hung up at once, with almost a whole standby between them
     desk      for `relay`: a set that is passed on COUNT times, of which nothing comes back: a hundred single ticks, then long ones
     shown     for `relay`: the same, but each arrives, twice, and is done"""
@@ -83,6 +84,15 @@ def apart(count):
     return legs(count, "tick 60\n")
 
 
+def first(count):
+    yield "trigger auto\n"
+    for _ in range(count):
+        yield "answer\ndrop vehicle\n"
+    yield "tick 4000000\n"
+    for _ in range(250):
+        yield "request 1\ntick 220\n"
+
+
 def crowd(count):
     yield "flow up 7\nflow down 7\n"
     for _ in range(count):
@@ -118,7 +128,7 @@ def shown(count):
     yield "tick 4000000\n"
 
 
-KINDS = {kind.__name__: kind for kind in (mixed, calls, flows, one, old, asks, legs, apart, crowd, callbacks, desk, shown)}
+KINDS = {kind.__name__: kind for kind in (mixed, calls, flows, one, old, asks, legs, apart, crowd, first, callbacks, desk, shown)}
 
 
 def main(kind, count):
