@@ -1,8 +1,8 @@
 -- A `World` in the midst of elapsed time. An end that is kept may lag: it stands for the state that the model's end had
 -- some ticks ago, and since then that end did nothing. How far the model's ends were passed is a clock for the vehicle
 -- and one for each call's session, and none was passed less far than up to a floor. A reader of `ecall` need not
--- believe it: `step` and `advance` cite `WorldStandsFor` in its place. Cited by the parts of elapsed time that a `World`
--- gives away to what plays several worlds side by side, by `Play`, and by private functions.
+-- believe it: `step` and `advance` cite `WorldStandsFor` in its place. Cited by the parts of elapsed time that a
+-- `World` gives away to what plays several worlds side by side, by `Play`, and by private functions.
 use Rattle.std.specs.Prelude.{◌≡◌, ℕ, ◌≤◌, ◌<◌, ◌+◌, ◌-◌, ◌==◌, ◌||◌, ◌⊎◌, Bool, false, if◌then◌else◌, List, [], ◌∷◌, Option, Some, None, IfSome, Result, MatchResult}
 use Rattle.trace_model.specs.declared.entry.Entry.{Entry}
 use Rattle.ivs_machine.specs.declared.vehicle.Ivs.{Ivs}
@@ -62,7 +62,9 @@ CallsLag floor clock [] (k ∷ ks) = ⊥
 CallsLag floor clock (x ∷ xs) [] = ⊥
 CallsLag floor clock (x ∷ xs) (k ∷ ks) = CallLags floor (clock k.number) x k × CallsLag floor clock xs ks
 
-pub record StandsAt (ahead : ℕ) (floor : LeastPassed) (clock : ℕ → ℕ) (kept : kept_channel.Channel) (w : World) : Type 0 where
+pub record StandsAt
+    (ahead : ℕ) (floor : LeastPassed) (clock : ℕ → ℕ) (kept : kept_channel.Channel) (w : World)
+    : Type 0 where
   pub tick : w.tick ≡ kept.tick
   pub drawn : w.drawn ≡ kept.drawn
   pub up_flow : w.up_flow ≡ kept.up_flow

@@ -1,5 +1,5 @@
--- Which worlds of the definitions a `Play` stands for: as a `World` does, but sessions that are settled may lag, from any
--- tick on. This project's profile. Cited by the contracts of `Play`, and by what stands on it.
+-- Which worlds of the definitions a `Play` stands for: as a `World` does, but sessions that are settled may lag, from
+-- any tick on. This project's profile. Cited by the contracts of `Play`, and by what stands on it.
 use Rattle.std.specs.Prelude.{ℕ, List, Result, MatchResult}
 use Rattle.trace_model.specs.declared.entry.Entry.{Entry}
 use Rattle.channel_sim.specs.declared.play.Play.{Play}

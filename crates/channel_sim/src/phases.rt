@@ -54,7 +54,8 @@ impl World {
         to: &mut H,
         moments: &mut Steps<L>,
     ) -> Result<(), SimFault>
-        ensures step { (floor : LeastPassed) (before : ℕ) (w : model.World) → StandsAt before floor (λ c. before) self.old.channel w →
+        ensures step { (floor : LeastPassed) (before : ℕ) (w : model.World) →
+            StandsAt before floor (λ c. before) self.old.channel w →
             before + 1 ≡ ticks_reached self.old →
             CameAt (H.grew to.old to.new) (H.partly to.old to.new) result (ticks_reached self.old) floor (λ c. before)
             self.new.channel (model.vehicle_passes w) }

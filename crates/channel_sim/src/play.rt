@@ -10,8 +10,8 @@ use std::alloc::Global;
 use std::sync::ledger::Ledger;
 use trace_model::{Event, Listener};
 
-/// A world as `World`, in which a session that only talks isn't passed, since it goes on as it is: a line of elapsed
-/// time takes as long as what happens in it, however many sessions are up. It lends none of its ends.
+/// A world as `World`, in which a session that only talks isn't passed over elapsed time, since it goes on as it is.
+/// It lends none of its ends.
 #[derive(Drop)]
 pub struct Play {
     channel: Channel,
@@ -46,8 +46,8 @@ impl Play {
         self.channel.tick
     }
 
-    /// What one event line does, as `World::advance`. After a failure the world is spent: its ticks and call numbers are
-    /// those in front of the line, and of its ends and calls nothing is known.
+    /// What one event line does, as `World::advance`. After a failure the world is spent: its ticks and call numbers
+    /// are those in front of the line, and of its ends and calls nothing is known.
     pub fn advance<H: Listener, L: Ledger>(
         &mut self,
         alloc: Global,

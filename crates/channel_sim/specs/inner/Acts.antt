@@ -42,7 +42,8 @@ seat_after row (Some s) = left_by (row s).new
 
 -- the session of this call, if it is there, did this
 pub record CallDid
-    (floor : LeastPassed) (clock : ℕ) (done : Bool) (given : List Note) (new : kept_call.Call) (k : Call) (row : Point → Row Point)
+    (floor : LeastPassed) (clock : ℕ) (done : Bool) (given : List Note) (new : kept_call.Call) (k : Call)
+    (row : Point → Row Point)
     : Type 0 where
   pub items : given ≡ seat_items row k.session
   pub acts : done ≡ true → is_some k.session ≡ true
@@ -74,8 +75,8 @@ OtherHasLeg in_call concerned k = is_number k.number concerned ≡ false → Has
 -- An end did something: what is kept stands for this world with this vehicle and these calls, before it is told and
 -- posted. Only the call that is concerned may have lost a leg.
 pub record IsReady
-    (ahead : ℕ) (floor : LeastPassed) (clock : ℕ → ℕ) (kept : kept_channel.Channel) (w : World) (v : Vehicle) (ks : List Call)
-    (concerned : Option ℕ)
+    (ahead : ℕ) (floor : LeastPassed) (clock : ℕ → ℕ) (kept : kept_channel.Channel) (w : World) (v : Vehicle)
+    (ks : List Call) (concerned : Option ℕ)
     : Type 0 where
   pub tick : w.tick ≡ kept.tick
   pub drawn : w.drawn ≡ kept.drawn

@@ -1,5 +1,5 @@
--- Calls that sleep: a session that is settled does nothing, however many ticks pass. Cited by the model of the calls that
--- are kept, and by the private functions on elapsed time.
+-- Calls that sleep: a session that is settled does nothing, however many ticks pass. Cited by the model of the calls
+-- that are kept, and by the private functions on elapsed time.
 use Rattle.std.specs.Prelude.{◌≡◌, ◌≤◌, ◌-◌, ℕ, List, length, take, drop}
 use Rattle.std.specs.List.{AllByRecursion}
 use Rattle.channel_sim.specs.declared.calls.call.Call.{Call}

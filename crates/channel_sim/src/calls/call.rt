@@ -134,7 +134,8 @@ pub(crate) fn catch_up<L: Ledger>(
     moments: &mut Steps<L>,
 )
     ensures same { call.new ≡ record call.old { session = call.new.session; passed = tick } }
-    ensures caught { (floor : LeastPassed) (k : model.Call) → CallLags floor tick call.old k → CallLags floor tick call.new k }
+    ensures caught { (floor : LeastPassed) (k : model.Call) → CallLags floor tick call.old k →
+        CallLags floor tick call.new k }
     ensures passes { (floor : LeastPassed) (k : model.Call) → CallLags floor tick call.old k →
         tick < call.old.passed + 2 ^ 32 → moments.new ≤ moments.old + once_if k.session }
 {
@@ -157,8 +158,10 @@ pub(crate) fn catch_waking_up<L: Ledger>(
 )
     ensures same { call.new ≡ record call.old { session = call.new.session; passed = call.new.passed } }
     ensures reached { IsUpTo tick call.new }
-    ensures caught { (floor : LeastPassed) (k : model.Call) → CallLags floor tick call.old k → CallLags floor tick call.new k }
-    ensures passes { (floor : LeastPassed) (k : model.Call) → CallLags floor tick call.old k → tick < floor.waking + 2 ^ 32 →
+    ensures caught { (floor : LeastPassed) (k : model.Call) → CallLags floor tick call.old k →
+        CallLags floor tick call.new k }
+    ensures passes { (floor : LeastPassed) (k : model.Call) → CallLags floor tick call.old k →
+        tick < floor.waking + 2 ^ 32 →
         moments.new ≤ moments.old + once_if k.session }
 {
     if !sleeps(call) {
@@ -182,7 +185,8 @@ pub(super) fn rest_up<L: Ledger>(call: &mut Call, tick: u64, moments: &mut Steps
     requires { Sleeps call.old }
     ensures same { call.new ≡ record call.old { session = call.new.session; passed = tick } }
     ensures asleep { Sleeps call.new }
-    ensures caught { (floor : LeastPassed) (k : model.Call) → CallLags floor tick call.old k → CallLags floor tick call.new k }
+    ensures caught { (floor : LeastPassed) (k : model.Call) → CallLags floor tick call.old k →
+        CallLags floor tick call.new k }
     ensures passes { (floor : LeastPassed) (k : model.Call) → CallLags floor tick call.old k →
         tick < call.old.passed + 2 ^ 32 → moments.new ≤ moments.old + once_if k.session }
 {
@@ -200,7 +204,8 @@ pub(crate) fn act_at<L: Ledger>(
     items: &mut Items,
     moments: &mut Steps<L>,
 ) -> bool
-    ensures did { (floor : LeastPassed) (before : ℕ) (k : model.Call) → CallLags floor before call.old k → before + 1 ≡ tick →
+    ensures did { (floor : LeastPassed) (before : ℕ) (k : model.Call) → CallLags floor before call.old k →
+        before + 1 ≡ tick →
         CallDid floor tick result items.new.items call.new k point.unit_row }
     ensures none { result ≡ false → items.new.items ≡ [] }
     ensures same { call.new ≡ record call.old { session = call.new.session; passed = call.new.passed } }

@@ -89,7 +89,8 @@ fn add_all_due(
     tick: u64,
     near: &mut usize,
 ) -> Result<(), AllocError>
-    ensures { (d : ℕ) (floor : LeastPassed) (now : ℕ) (clock : ℕ → ℕ) (ks : List model.Call) → CallsLag floor clock calls.now ks →
+    ensures { (d : ℕ) (floor : LeastPassed) (now : ℕ) (clock : ℕ → ℕ) (ks : List model.Call) →
+        CallsLag floor clock calls.now ks →
         AllByRecursion (CallInTime now) ks → OnOk result
         (map due_of due.new.items ≡ map due_of due.old.items ++ model.due_in (sent_way up) (suc d) (tick + suc d) ks) }
 {
@@ -108,7 +109,8 @@ pub(crate) fn call_due(
     now: u64,
     near: &mut usize,
 ) -> Result<(), AllocError>
-    ensures { (floor : LeastPassed) (clock : ℕ) (k : model.Call) → CallLags floor clock call.now k → CallInTime now k → OnOk result
+    ensures { (floor : LeastPassed) (clock : ℕ) (k : model.Call) → CallLags floor clock call.now k → CallInTime now k →
+        OnOk result
         (map due_of due.new.items ≡ map due_of due.old.items ++ model.due_in (sent_way up) flow now (k ∷ [])) }
 {
     let delay = u64::from(flow);

@@ -33,7 +33,8 @@ pub(crate) fn has_session(calls: &[Call], number: u32) -> bool
 
 /// A session comes up in the call of a number, at a tick.
 pub(crate) fn admit(calls: &mut Calls, number: u32, tick: u64, session: Session)
-    ensures { (settled : ℕ) (s : Point) (ks : List model.Call) → CallsLag (level settled tick) (λ c. tick) calls.old ks →
+    ensures { (settled : ℕ) (s : Point) (ks : List model.Call) →
+        CallsLag (level settled tick) (λ c. tick) calls.old ks →
         AreAbove 0 (numbers_of ks) → SessionStandsFor session s → left_by s ≡ Some s →
         CallsLag (level settled tick) (λ c. tick) calls.new (model.seated number (Some s) ks) }
 {

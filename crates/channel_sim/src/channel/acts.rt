@@ -63,7 +63,8 @@ impl Channel {
         call: Option<u32>,
         to: &mut H,
     ) -> Result<(), SimFault>
-        ensures step { (ahead : ℕ) (floor : LeastPassed) (clock : ℕ → ℕ) (w : model.World) (v : Vehicle) (ks : List model.Call) →
+        ensures step { (ahead : ℕ) (floor : LeastPassed) (clock : ℕ → ℕ) (w : model.World) (v : Vehicle)
+            (ks : List model.Call) →
             IsReady ahead floor clock self.old w v ks call →
             CameAt (H.grew to.old to.new) (H.partly to.old to.new) result ahead floor clock self.new
             (model.did w items.now v ks) }
@@ -88,7 +89,8 @@ impl Channel {
         to: &mut H,
         moments: &mut Steps<L>,
     ) -> Result<(), SimFault>
-        ensures step { (ahead : ℕ) (floor : LeastPassed) (clock : ℕ → ℕ) (w : model.World) (v : Vehicle) (ks : List model.Call) →
+        ensures step { (ahead : ℕ) (floor : LeastPassed) (clock : ℕ → ℕ) (w : model.World) (v : Vehicle)
+            (ks : List model.Call) →
             IsReady ahead floor clock self.old w v ks call → ahead ≡ self.old.tick →
             CameAt (H.grew to.old to.new) (H.partly to.old to.new) result ahead floor clock self.new
             (model.settled (model.did w items.now v ks)) }
@@ -96,7 +98,8 @@ impl Channel {
         ensures faults { CountsFaults result (H.faults to.old) (H.faults to.new) }
         ensures passes { (ahead : ℕ) (floor : LeastPassed) (clock : ℕ → ℕ) (w : model.World) (v : Vehicle)
             (ks : List model.Call) →
-            IsReady ahead floor clock self.old w v ks call → ahead ≡ self.old.tick → self.old.tick < floor.waking + 2 ^ 32 →
+            IsReady ahead floor clock self.old w v ks call → ahead ≡ self.old.tick →
+            self.old.tick < floor.waking + 2 ^ 32 →
             moments.new + length items.now ≤ moments.old + passes_of (model.settled (model.did w items.now v ks)) }
         ensures still { self.old.passed ≡ self.old.tick → (self.new.passed ≡ self.new.tick)
             × (moments.new ≡ moments.old) }
@@ -195,7 +198,8 @@ impl Channel {
         ensures faults { CountsFaults result (H.faults to.old) (H.faults to.new) }
         ensures passes { (ahead : ℕ) (floor : LeastPassed) (clock : ℕ → ℕ) (w : model.World) →
             StandsAt ahead floor clock self.old w →
-            ahead ≡ self.old.tick → clock number ≡ ahead → IsCaught clock number self.old.calls → self.old.tick < floor.waking + 2 ^ 32 →
+            ahead ≡ self.old.tick → clock number ≡ ahead → IsCaught clock number self.old.calls →
+            self.old.tick < floor.waking + 2 ^ 32 →
             moments.new ≤ moments.old + passes_of (model.performs (model.Session number (point.heard event.now)) w) }
         ensures still { self.old.passed ≡ self.old.tick → (self.new.passed ≡ self.new.tick)
             × (moments.new ≡ moments.old) }

@@ -125,7 +125,8 @@ impl Channel {
         to: &mut H,
         moments: &mut Steps<L>,
     ) -> Result<(), SimFault>
-        ensures step { (settled : ℕ) (w : model.World) → StandsNow settled self.old w → model.vehicle_is_in number w ≡ true →
+        ensures step { (settled : ℕ) (w : model.World) → StandsNow settled self.old w →
+            model.vehicle_is_in number w ≡ true →
             CameNow (H.grew to.old to.new) (H.partly to.old to.new) result settled self.new
             (model.each lines.deed (lines.Does (model.InCall number vehicle.Lost) ∷
             lines.when at_point (lines.Does (model.Session number (point.Ended Why.Lost)))) w) }
@@ -200,7 +201,8 @@ impl Channel {
             StandsNow settled self.old w →
             vehicle_call w.vehicle ≡ None → vehicle.heard event.now ≡ e (w.drawn + 1) →
             IsArrival session given.old.other.items (arrival (w.drawn + 1)) →
-            CameNow (H.grew to.old to.new) (H.partly to.old to.new) result settled self.new (lines.comes_up e arrival w) }
+            CameNow (H.grew to.old to.new) (H.partly to.old to.new) result settled self.new
+            (lines.comes_up e arrival w) }
         ensures faults { CountsFaults result (H.faults to.old) (H.faults to.new) }
     {
         self.drawn += 1;

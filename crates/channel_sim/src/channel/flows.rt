@@ -31,7 +31,8 @@ impl Channel {
     /// The frames that the flow up, or down, hands over at this tick, in place of what stood there.
     #[inline(always)]
     fn list_due(&self, up: bool, due: &mut Vec<Due>, near: &mut usize) -> Result<(), AllocError>
-        ensures { (ahead : ℕ) (floor : LeastPassed) (w : model.World) → StandsAt ahead floor (λ c. ahead) self.now w → OnOk result
+        ensures { (ahead : ℕ) (floor : LeastPassed) (w : model.World) → StandsAt ahead floor (λ c. ahead) self.now w →
+            OnOk result
             (map due_of due.new.items ≡ model.due_in (sent_way up) (flow_way up w) w.tick w.calls) }
     {
         all_due(&self.calls, up, self.flow(up), self.tick, due, near)
@@ -45,7 +46,8 @@ impl Channel {
         due: &mut Vec<Due>,
         near: &mut usize,
     ) -> Result<(), AllocError>
-        ensures { (ahead : ℕ) (floor : LeastPassed) (clock : ℕ → ℕ) (w : model.World) → StandsAt ahead floor clock self.now w →
+        ensures { (ahead : ℕ) (floor : LeastPassed) (clock : ℕ → ℕ) (w : model.World) →
+            StandsAt ahead floor clock self.now w →
             OnOk result (map due_of due.new.items ≡ map due_of due.old.items ++ due_in_call up number w) }
     {
         let calls = self.calls.all();
@@ -65,13 +67,15 @@ impl Channel {
         to: &mut H,
         moments: &mut Steps<L>,
     ) -> Result<(), SimFault>
-        ensures step { (ahead : ℕ) (floor : LeastPassed) (w : model.World) → StandsAt ahead floor (λ c. ahead) self.old w →
+        ensures step { (ahead : ℕ) (floor : LeastPassed) (w : model.World) →
+            StandsAt ahead floor (λ c. ahead) self.old w →
             ahead ≡ self.old.tick →
             CameAt (H.grew to.old to.new) (H.partly to.old to.new) result ahead floor (λ c. ahead) self.new
             (model.hands_up (record { call = number; frame = full frame.now }) w) }
         ensures tick { self.new.tick ≡ self.old.tick }
         ensures faults { CountsFaults result (H.faults to.old) (H.faults to.new) }
-        ensures passes { (ahead : ℕ) (floor : LeastPassed) (w : model.World) → StandsAt ahead floor (λ c. ahead) self.old w →
+        ensures passes { (ahead : ℕ) (floor : LeastPassed) (w : model.World) →
+            StandsAt ahead floor (λ c. ahead) self.old w →
             ahead ≡ self.old.tick →
             self.old.tick < floor.waking + 2 ^ 32 → moments.new ≤ moments.old +
             passes_of (model.hands_up (record { call = number; frame = full frame.now }) w) }
@@ -91,13 +95,15 @@ impl Channel {
         to: &mut H,
         moments: &mut Steps<L>,
     ) -> Result<(), SimFault>
-        ensures step { (ahead : ℕ) (floor : LeastPassed) (w : model.World) → StandsAt ahead floor (λ c. ahead) self.old w →
+        ensures step { (ahead : ℕ) (floor : LeastPassed) (w : model.World) →
+            StandsAt ahead floor (λ c. ahead) self.old w →
             ahead ≡ self.old.tick →
             CameAt (H.grew to.old to.new) (H.partly to.old to.new) result ahead floor (λ c. ahead) self.new
             (model.hands_down (record { call = number; frame = full frame.now }) w) }
         ensures tick { self.new.tick ≡ self.old.tick }
         ensures faults { CountsFaults result (H.faults to.old) (H.faults to.new) }
-        ensures passes { (ahead : ℕ) (floor : LeastPassed) (w : model.World) → StandsAt ahead floor (λ c. ahead) self.old w →
+        ensures passes { (ahead : ℕ) (floor : LeastPassed) (w : model.World) →
+            StandsAt ahead floor (λ c. ahead) self.old w →
             ahead ≡ self.old.tick →
             self.old.tick < floor.waking + 2 ^ 32 → moments.new ≤ moments.old +
             passes_of (model.hands_down (record { call = number; frame = full frame.now }) w) }
@@ -120,13 +126,15 @@ impl Channel {
         to: &mut H,
         moments: &mut Steps<L>,
     ) -> Result<(), SimFault>
-        ensures step { (ahead : ℕ) (floor : LeastPassed) (w : model.World) → StandsAt ahead floor (λ c. ahead) self.old w →
+        ensures step { (ahead : ℕ) (floor : LeastPassed) (w : model.World) →
+            StandsAt ahead floor (λ c. ahead) self.old w →
             ahead ≡ self.old.tick →
             CameAt (H.grew to.old to.new) (H.partly to.old to.new) result ahead floor (λ c. ahead) self.new
             (hands_way up (due_of due.now) w) }
         ensures tick { self.new.tick ≡ self.old.tick }
         ensures faults { CountsFaults result (H.faults to.old) (H.faults to.new) }
-        ensures passes { (ahead : ℕ) (floor : LeastPassed) (w : model.World) → StandsAt ahead floor (λ c. ahead) self.old w →
+        ensures passes { (ahead : ℕ) (floor : LeastPassed) (w : model.World) →
+            StandsAt ahead floor (λ c. ahead) self.old w →
             ahead ≡ self.old.tick →
             self.old.tick < floor.waking + 2 ^ 32 → moments.new ≤ moments.old +
             passes_of (hands_way up (due_of due.now) w) }
@@ -148,13 +156,15 @@ impl Channel {
         to: &mut H,
         moments: &mut Steps<L>,
     ) -> Result<(), SimFault>
-        ensures step { (ahead : ℕ) (floor : LeastPassed) (w : model.World) → StandsAt ahead floor (λ c. ahead) self.old w →
+        ensures step { (ahead : ℕ) (floor : LeastPassed) (w : model.World) →
+            StandsAt ahead floor (λ c. ahead) self.old w →
             ahead ≡ self.old.tick →
             CameAt (H.grew to.old to.new) (H.partly to.old to.new) result ahead floor (λ c. ahead) self.new
             (model.each (hands_way up) (map due_of due.now) w) }
         ensures tick { self.new.tick ≡ self.old.tick }
         ensures faults { CountsFaults result (H.faults to.old) (H.faults to.new) }
-        ensures passes { (ahead : ℕ) (floor : LeastPassed) (w : model.World) → StandsAt ahead floor (λ c. ahead) self.old w →
+        ensures passes { (ahead : ℕ) (floor : LeastPassed) (w : model.World) →
+            StandsAt ahead floor (λ c. ahead) self.old w →
             ahead ≡ self.old.tick →
             self.old.tick < floor.waking + 2 ^ 32 → moments.new ≤ moments.old + passes_of
             (model.each (hands_way up) (map due_of due.now) w) }
@@ -175,13 +185,15 @@ impl Channel {
         to: &mut H,
         moments: &mut Steps<L>,
     ) -> Result<(), SimFault>
-        ensures step { (ahead : ℕ) (floor : LeastPassed) (w : model.World) → StandsAt ahead floor (λ c. ahead) self.old w →
+        ensures step { (ahead : ℕ) (floor : LeastPassed) (w : model.World) →
+            StandsAt ahead floor (λ c. ahead) self.old w →
             ahead ≡ self.old.tick →
             CameAt (H.grew to.old to.new) (H.partly to.old to.new) result ahead floor (λ c. ahead) self.new
             (flows_by up w) }
         ensures tick { self.new.tick ≡ self.old.tick }
         ensures faults { CountsFaults result (H.faults to.old) (H.faults to.new) }
-        ensures passes { (ahead : ℕ) (floor : LeastPassed) (w : model.World) → StandsAt ahead floor (λ c. ahead) self.old w →
+        ensures passes { (ahead : ℕ) (floor : LeastPassed) (w : model.World) →
+            StandsAt ahead floor (λ c. ahead) self.old w →
             ahead ≡ self.old.tick → self.old.tick < floor.waking + 2 ^ 32 →
             moments.new ≤ moments.old + passes_of (flows_by up w) }
     {

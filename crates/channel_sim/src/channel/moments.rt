@@ -95,7 +95,8 @@ impl Channel {
         ensures caught { (ahead : ℕ) (floor : LeastPassed) (clock : ℕ → ℕ) (w : model.World) →
             StandsAt ahead floor clock self.old w →
             ahead ≡ self.old.tick → StandsAt ahead floor clock self.new w }
-        ensures passes { (ahead : ℕ) (floor : LeastPassed) (clock : ℕ → ℕ) (w : model.World) → StandsAt ahead floor clock self.old w →
+        ensures passes { (ahead : ℕ) (floor : LeastPassed) (clock : ℕ → ℕ) (w : model.World) →
+            StandsAt ahead floor clock self.old w →
             ahead ≡ self.old.tick → self.old.tick < floor.waking + 2 ^ 32 → moments.new ≤ moments.old + 1 }
         ensures still { self.old.passed ≡ self.old.tick → moments.new ≡ moments.old }
     {
@@ -133,11 +134,14 @@ impl Channel {
     #[inline(always)]
     fn next_moment(&self, near: &Near, end: u64) -> Next
         ensures most { result.acts ≤ end }
-        ensures acts { (floor : LeastPassed) (n : ℕ) (w : model.World) → StandsAt self.now.tick floor (λ c. self.now.tick) self.now w →
+        ensures acts { (floor : LeastPassed) (n : ℕ) (w : model.World) →
+            StandsAt self.now.tick floor (λ c. self.now.tick) self.now w →
             self.now.tick + n < result.acts → EndsRest n w }
-        ensures up { (floor : LeastPassed) (n : ℕ) (w : model.World) → StandsAt self.now.tick floor (λ c. self.now.tick) self.now w →
+        ensures up { (floor : LeastPassed) (n : ℕ) (w : model.World) →
+            StandsAt self.now.tick floor (λ c. self.now.tick) self.now w →
             self.now.tick + n < result.up → UpRests n w }
-        ensures down { (floor : LeastPassed) (n : ℕ) (w : model.World) → StandsAt self.now.tick floor (λ c. self.now.tick) self.now w →
+        ensures down { (floor : LeastPassed) (n : ℕ) (w : model.World) →
+            StandsAt self.now.tick floor (λ c. self.now.tick) self.now w →
             self.now.tick + n < result.down → DownRests n w }
     {
         let mut acts = acts_at(self.passed, self.vehicle.due(), end);
@@ -155,7 +159,8 @@ impl Channel {
     /// The next tick at which something happens; at most `end`.
     pub(crate) fn next_tick(&self, near: &Near, end: u64) -> u64
         ensures most { result ≤ end }
-        ensures quiet { (floor : LeastPassed) (n : ℕ) (w : model.World) → StandsAt self.now.tick floor (λ c. self.now.tick) self.now w →
+        ensures quiet { (floor : LeastPassed) (n : ℕ) (w : model.World) →
+            StandsAt self.now.tick floor (λ c. self.now.tick) self.now w →
             self.now.tick + n < result → QuietFor n w }
     {
         first_of(&self.next_moment(near, end))
@@ -195,13 +200,15 @@ impl Channel {
         to: &mut H,
         moments: &mut Steps<L>,
     ) -> Result<(), SimFault>
-        ensures step { (floor : LeastPassed) (before : ℕ) (w : model.World) → StandsAt before floor (λ c. before) self.old w →
+        ensures step { (floor : LeastPassed) (before : ℕ) (w : model.World) →
+            StandsAt before floor (λ c. before) self.old w →
             before + 1 ≡ self.old.tick →
             CameAt (H.grew to.old to.new) (H.partly to.old to.new) result self.old.tick floor (λ c. before) self.new
             (model.vehicle_passes w) }
         ensures tick { self.new.tick ≡ self.old.tick }
         ensures faults { CountsFaults result (H.faults to.old) (H.faults to.new) }
-        ensures passes { (floor : LeastPassed) (before : ℕ) (w : model.World) → StandsAt before floor (λ c. before) self.old w →
+        ensures passes { (floor : LeastPassed) (before : ℕ) (w : model.World) →
+            StandsAt before floor (λ c. before) self.old w →
             before + 1 ≡ self.old.tick → self.old.tick < floor.waking + 2 ^ 32 →
             moments.new ≤ moments.old + passes_of (model.vehicle_passes w) }
     {
@@ -280,13 +287,15 @@ impl Channel {
         to: &mut H,
         moments: &mut Steps<L>,
     ) -> Result<(), SimFault>
-        ensures step { (ahead : ℕ) (floor : LeastPassed) (before : ℕ) (w : model.World) → StandsAt ahead floor (λ c. before) self.old w →
+        ensures step { (ahead : ℕ) (floor : LeastPassed) (before : ℕ) (w : model.World) →
+            StandsAt ahead floor (λ c. before) self.old w →
             ahead ≡ self.old.tick → before + 1 ≡ ahead →
             CameAt (H.grew to.old to.new) (H.partly to.old to.new) result ahead floor (λ c. ahead) self.new
             (model.sessions_pass w) }
         ensures tick { self.new.tick ≡ self.old.tick }
         ensures faults { CountsFaults result (H.faults to.old) (H.faults to.new) }
-        ensures passes { (ahead : ℕ) (floor : LeastPassed) (before : ℕ) (w : model.World) → StandsAt ahead floor (λ c. before) self.old w →
+        ensures passes { (ahead : ℕ) (floor : LeastPassed) (before : ℕ) (w : model.World) →
+            StandsAt ahead floor (λ c. before) self.old w →
             ahead ≡ self.old.tick → before + 1 ≡ ahead → self.old.tick < floor.waking + 2 ^ 32 →
             moments.new ≤ moments.old + passes_of (model.sessions_pass w) }
     {
@@ -303,13 +312,15 @@ impl Channel {
         to: &mut H,
         moments: &mut Steps<L>,
     ) -> Result<(), SimFault>
-        ensures step { (floor : LeastPassed) (before : ℕ) (w : model.World) → StandsAt before floor (λ c. before) self.old w →
+        ensures step { (floor : LeastPassed) (before : ℕ) (w : model.World) →
+            StandsAt before floor (λ c. before) self.old w →
             before + 1 ≡ self.old.tick → (self.old.tick < next → EndsRest 1 w) →
             CameAt (H.grew to.old to.new) (H.partly to.old to.new) result self.old.tick floor (λ c. self.old.tick)
             self.new (model.and_then (model.vehicle_passes w) model.sessions_pass) }
         ensures tick { self.new.tick ≡ self.old.tick }
         ensures faults { CountsFaults result (H.faults to.old) (H.faults to.new) }
-        ensures passes { (floor : LeastPassed) (before : ℕ) (w : model.World) → StandsAt before floor (λ c. before) self.old w →
+        ensures passes { (floor : LeastPassed) (before : ℕ) (w : model.World) →
+            StandsAt before floor (λ c. before) self.old w →
             before + 1 ≡ self.old.tick → self.old.tick < floor.waking + 2 ^ 32 →
             moments.new ≤ moments.old + passes_of (model.and_then (model.vehicle_passes w) model.sessions_pass) }
     {
@@ -331,13 +342,15 @@ impl Channel {
         to: &mut H,
         moments: &mut Steps<L>,
     ) -> Result<(), SimFault>
-        ensures step { (ahead : ℕ) (floor : LeastPassed) (w : model.World) → StandsAt ahead floor (λ c. ahead) self.old w →
+        ensures step { (ahead : ℕ) (floor : LeastPassed) (w : model.World) →
+            StandsAt ahead floor (λ c. ahead) self.old w →
             ahead ≡ self.old.tick → (self.old.tick < next → flows_by up w ≡ model.quiet_step w) →
             CameAt (H.grew to.old to.new) (H.partly to.old to.new) result ahead floor (λ c. ahead) self.new
             (flows_by up w) }
         ensures tick { self.new.tick ≡ self.old.tick }
         ensures faults { CountsFaults result (H.faults to.old) (H.faults to.new) }
-        ensures passes { (ahead : ℕ) (floor : LeastPassed) (w : model.World) → StandsAt ahead floor (λ c. ahead) self.old w →
+        ensures passes { (ahead : ℕ) (floor : LeastPassed) (w : model.World) →
+            StandsAt ahead floor (λ c. ahead) self.old w →
             ahead ≡ self.old.tick → self.old.tick < floor.waking + 2 ^ 32 →
             moments.new ≤ moments.old + passes_of (flows_by up w) }
     {
@@ -357,7 +370,8 @@ impl Channel {
         to: &mut H,
         moments: &mut Steps<L>,
     ) -> Result<(), SimFault>
-        ensures step { (floor : LeastPassed) (n : ℕ) (w : model.World) → StandsAt self.old.tick floor (λ c. self.old.tick) self.old w →
+        ensures step { (floor : LeastPassed) (n : ℕ) (w : model.World) →
+            StandsAt self.old.tick floor (λ c. self.old.tick) self.old w →
             self.old.tick + n + 1 ≡ tick → QuietFor n w →
             (tick < next.now.acts → EndsRest (n + 1) w) → (tick < next.now.up → UpRests (n + 1) w) →
             (tick < next.now.down → DownRests (n + 1) w) →
@@ -388,7 +402,8 @@ impl Channel {
         to: &mut H,
         moments: &mut Steps<L>,
     ) -> Result<(), SimFault>
-        ensures step { (floor : LeastPassed) (n : ℕ) (w : model.World) → StandsAt self.old.tick floor (λ c. self.old.tick) self.old w →
+        ensures step { (floor : LeastPassed) (n : ℕ) (w : model.World) →
+            StandsAt self.old.tick floor (λ c. self.old.tick) self.old w →
             self.old.tick + n + 1 ≡ tick → QuietFor n w →
             (tick < next.now.acts → EndsRest (n + 1) w) → (tick < next.now.up → UpRests (n + 1) w) →
             (tick < next.now.down → DownRests (n + 1) w) →
@@ -410,9 +425,11 @@ impl Channel {
     /// Passes each end that lags up to this tick. `items` is room.
     pub(crate) fn catch_all_up<L: Ledger>(&mut self, items: &mut Items, moments: &mut Steps<L>)
         ensures tick { self.new.tick ≡ self.old.tick }
-        ensures caught { (floor : LeastPassed) (w : model.World) → StandsAt self.old.tick floor (λ c. self.old.tick) self.old w →
+        ensures caught { (floor : LeastPassed) (w : model.World) →
+            StandsAt self.old.tick floor (λ c. self.old.tick) self.old w →
             StandsNow self.old.tick self.new w }
-        ensures passes { (floor : LeastPassed) (w : model.World) → StandsAt self.old.tick floor (λ c. self.old.tick) self.old w →
+        ensures passes { (floor : LeastPassed) (w : model.World) →
+            StandsAt self.old.tick floor (λ c. self.old.tick) self.old w →
             self.old.tick < floor.waking + 2 ^ 32 → self.old.tick < floor.settled + 2 ^ 32 →
             moments.new ≤ moments.old + model.ends w }
     {
@@ -424,9 +441,11 @@ impl Channel {
     #[inline(always)]
     fn catch_waking_up<L: Ledger>(&mut self, items: &mut Items, moments: &mut Steps<L>)
         ensures tick { self.new.tick ≡ self.old.tick }
-        ensures caught { (floor : LeastPassed) (w : model.World) → StandsAt self.old.tick floor (λ c. self.old.tick) self.old w →
+        ensures caught { (floor : LeastPassed) (w : model.World) →
+            StandsAt self.old.tick floor (λ c. self.old.tick) self.old w →
             floor.settled ≤ floor.waking → StandsNow floor.settled self.new w }
-        ensures passes { (floor : LeastPassed) (w : model.World) → StandsAt self.old.tick floor (λ c. self.old.tick) self.old w →
+        ensures passes { (floor : LeastPassed) (w : model.World) →
+            StandsAt self.old.tick floor (λ c. self.old.tick) self.old w →
             self.old.tick < floor.waking + 2 ^ 32 → moments.new ≤ moments.old + model.ends w }
     {
         self.catch_vehicle_up(items, moments);
@@ -436,9 +455,11 @@ impl Channel {
     /// Passes the ends that lag up to this tick: all, or those that are not settled. `items` is room.
     fn catch_up<L: Ledger>(&mut self, passing: Passing, items: &mut Items, moments: &mut Steps<L>)
         ensures tick { self.new.tick ≡ self.old.tick }
-        ensures caught { (floor : LeastPassed) (w : model.World) → StandsAt self.old.tick floor (λ c. self.old.tick) self.old w →
+        ensures caught { (floor : LeastPassed) (w : model.World) →
+            StandsAt self.old.tick floor (λ c. self.old.tick) self.old w →
             floor.settled ≤ floor.waking → StandsNow (settled_by passing floor.settled self.old.tick) self.new w }
-        ensures passes { (floor : LeastPassed) (w : model.World) → StandsAt self.old.tick floor (λ c. self.old.tick) self.old w →
+        ensures passes { (floor : LeastPassed) (w : model.World) →
+            StandsAt self.old.tick floor (λ c. self.old.tick) self.old w →
             self.old.tick < floor.waking + 2 ^ 32 → IfAll passing (self.old.tick < floor.settled + 2 ^ 32) →
             moments.new ≤ moments.old + model.ends w }
     {
