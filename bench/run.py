@@ -33,7 +33,7 @@ FRAME_OCTETS = 143
 ENCODINGS = 50_000
 WRITES = 50_000
 # the kinds of scripts.py, each with how many it is measured with, and then with twice as many
-SCRIPTS = {"mixed": 2_000, "calls": 20_000, "flows": 1_000, "one": 200_000, "old": 100_000, "asks": 5_000, "legs": 5_000, "apart": 1_000, "crowd": 1_000, "first": 1_000, "callbacks": 150_000}
+SCRIPTS = {"mixed": 2_000, "calls": 20_000, "flows": 1_000, "one": 200_000, "old": 100_000, "asks": 5_000, "legs": 5_000, "apart": 1_000, "crowd": 1_000, "first": 1_000, "fall": 2_000, "callbacks": 150_000}
 # the kinds of those with a relay desk, each with how many it is measured with, and then with twice as many
 DESKS = {"desk": (50_000, 100_000), "shown": (100_000,)}
 # the other commands, each with what makes its input (none: the trace of a script, or nothing), a kind of it, and how much of it is

@@ -11,6 +11,7 @@
     apart     the same, with six seconds between the calls
     crowd     the same, with flows on: each call has its set shown and acknowledged before the vehicle's leg is lost
     first     COUNT calls whose point legs stay up, and then the first of them is asked for a set 250 times
+    fall      COUNT calls whose point legs stay up, and then each of them is lost, from the first on
     callbacks COUNT calls placed by the point, hung up at once, with almost a whole standby between them
     desk      for `relay`: a set that is passed on COUNT times, of which nothing comes back: a hundred single ticks, then long ones
     shown     for `relay`: the same, but each arrives, twice, and is done"""
@@ -93,6 +94,14 @@ def first(count):
         yield "request 1\ntick 220\n"
 
 
+def fall(count):
+    yield "trigger auto\n"
+    for _ in range(count):
+        yield "answer\ndrop vehicle\n"
+    for k in range(1, count + 1):
+        yield f"drop point {k}\n"
+
+
 def crowd(count):
     yield "flow up 7\nflow down 7\n"
     for _ in range(count):
@@ -128,7 +137,7 @@ def shown(count):
     yield "tick 4000000\n"
 
 
-KINDS = {kind.__name__: kind for kind in (mixed, calls, flows, one, old, asks, legs, apart, crowd, first, callbacks, desk, shown)}
+KINDS = {kind.__name__: kind for kind in (mixed, calls, flows, one, old, asks, legs, apart, crowd, first, fall, callbacks, desk, shown)}
 
 
 def main(kind, count):

@@ -1,5 +1,5 @@
 -- A call that comes up.
-use Rattle.std.proofs.Common.{◌≡◌, ℕ, ◌+◌, ◌-◌, ◌<◌, ◌≤◌, true, false, inl, Option, Some, None, List, [], ◌∷◌, ◌++◌, refl, ap, sym, ◌∙◌, subst, arith}
+use Rattle.std.proofs.Common.{◌≡◌, ℕ, ◌+◌, ◌-◌, ◌<◌, ◌≤◌, true, false, inl, Option, Some, None, List, [], ◌∷◌, ◌++◌, map, refl, ap, sym, ◌∙◌, subst, arith}
 use Rattle.std.specs.List.{AllByRecursion}
 use Rattle.std.proofs.lemmas.Bool.{eq-eqb}
 use Rattle.std.proofs.lemmas.List.{map-append}
@@ -12,6 +12,7 @@ use Rattle.channel_sim.specs.Lines.{with_call}
 use Rattle.channel_sim.specs.inner.Acts.{OtherHasLeg, IsReady}
 use Rattle.channel_sim.specs.Lag.{LeastPassed, level, CallLags, CallsLag, StandsNow}
 use Rattle.channel_sim.specs.Tidy.{AreAbove, CallInTime, numbers_of}
+use Rattle.channel_sim.proofs.CallsLemmas.{same_numbers}
 use Rattle.channel_sim.proofs.VehicleLemmas.{vehicle_stands_now, legs_others}
 
 all_append : {A : Type 0} (P : A → Type 0) (xs : List A) (x : A) → AllByRecursion P xs → P x → AllByRecursion P (xs ++ x ∷ [])
@@ -35,6 +36,13 @@ more m (x ∷ ns) h = (omega (arith, h.0), more m ns h.1)
 spared : (now : Option ℕ) (c : ℕ) (ks : List Call) → AllByRecursion (OtherHasLeg now None) ks → AllByRecursion (OtherHasLeg now (Some c)) ks
 spared now c [] h = tt
 spared now c (k ∷ ks) h = ((λ other. h.0 refl), spared now c ks h.1)
+
+-- the next number is above those of all calls that are kept
+pub next_above : (settled : ℕ) (kept : kept_channel.Channel) (w : World) → StandsNow settled kept w → AreAbove 0 (map (λ k. k.number) kept.calls ++ (kept.drawn + 1) ∷ [])
+next_above settled kept w s =
+    subst (λ ns. AreAbove 0 (ns ++ (kept.drawn + 1) ∷ [])) (same_numbers (level settled kept.tick) (λ d. kept.tick) kept.calls w.calls s.calls)
+    (subst (λ n. AreAbove 0 (numbers_of w.calls ++ (n + 1) ∷ [])) s.drawn
+    (above_append 0 w.drawn (w.drawn + 1) (numbers_of w.calls) s.tidy.numbers s.tidy.below (omega arith) (omega arith)))
 
 -- the vehicle heard in a call of the next number, in which nothing was sent yet
 pub arrival_ready : (settled : ℕ) (kept moved : kept_channel.Channel) (w : World) (v : Vehicle)

@@ -9,13 +9,18 @@ use Rattle.channel_sim.specs.declared.happening.Happening.TheVariants as happeni
 use Rattle.channel_sim.specs.World.{World}
 use Rattle.channel_sim.specs.Lines.{step}
 use Rattle.channel_sim.specs.WorldStands.{TicksIn}
-use Rattle.channel_sim.specs.inner.Happenings.{IfAll, settled_behind}
+use Rattle.channel_sim.specs.inner.Happenings.{IfAll, IfWaking, settled_behind}
 use Rattle.channel_sim.proofs.Reached.{step_reaches, ticks_in}
 
 -- where all ends are passed, those that are settled lag by less than a line's most ticks
 pub late_by : (p : Passing) (start settled now : ℕ) → IfAll p (start ≤ settled) → now < start + 2 ^ 32 → IfAll p (now < settled + 2 ^ 32)
 late_by passing.All start settled now exact small = omega arith
 late_by passing.Waking start settled now exact small = tt
+
+-- what holds holds where those that are settled aren't passed
+pub waking_too : (p : Passing) {Holds : Type 0} → Holds → IfWaking p Holds
+waking_too passing.All h = tt
+waking_too passing.Waking h = h
 
 -- no line but one of elapsed time has ticks pass
 stays : (w : World) (e : Event) (h : Happening) (old new : ℕ) → ((n : ℕ) → e ≡ event.Tick n → h ≡ happening.Elapse n) → ((n : ℕ) → h ≡ happening.Elapse n → ⊥) → w.tick ≡ old → (step w e).world.tick ≡ new → new ≤ old

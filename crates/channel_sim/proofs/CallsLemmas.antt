@@ -1,5 +1,5 @@
 -- Calls that stand for calls, one for one: found by their number, changed at a place, and what they carry.
-use Rattle.std.proofs.Common.{◌≡◌, ℕ, zero, suc, ◌-◌, ◌<◌, ◌≤◌, ◌==◌, if◌then◌else◌, Bool, true, false, Option, Some, None, List, [], ◌∷◌, ◌++◌, length, get_or, map, refl, ap, sym, ◌∙◌, subst, arith, append-nil, append_assoc, Result, Ok, Err, OnOk}
+use Rattle.std.proofs.Common.{◌≡◌, ℕ, zero, suc, ◌-◌, ◌<◌, ◌≤◌, ◌==◌, if◌then◌else◌, Bool, true, false, Option, Some, None, List, [], ◌∷◌, ◌++◌, length, get_or, map, refl, ap, sym, ◌∙◌, subst, arith, append-nil, append_assoc, Result, Ok, Err, OnOk, OnErr}
 use Rattle.std.proofs.Math.ListN.{set}
 use Rattle.std.specs.Option.{is_some}
 use Rattle.std.proofs.lemmas.Bool.{eqb-true, eqb-false}
@@ -20,7 +20,8 @@ use Rattle.channel_sim.specs.inner.Acts.{IsUpTo, pushed, seat_items, seat_after,
 use Rattle.channel_sim.specs.Lag.{LeastPassed, SeatLags, CallLags, CallsLag}
 use Rattle.channel_sim.specs.inner.Places.{place_of}
 use Rattle.channel_sim.specs.Tidy.{AreAbove, numbers_of}
-use Rattle.channel_sim.proofs.PlaceLemmas.{numbers, next_place-some, next_place-none, place_first, place_behind, above_nowhere}
+use Rattle.channel_sim.specs.inner.Beside.{numbers}
+use Rattle.channel_sim.proofs.PlaceLemmas.{next_place-some, next_place-none, place_first, place_behind, above_nowhere}
 
 pub same_numbers : (floor : LeastPassed) (clock : ℕ → ℕ) (xs : List kept_call.Call) (ks : List Call) → CallsLag floor clock xs ks → numbers_of ks ≡ numbers xs
 same_numbers floor clock [] [] h = refl
@@ -176,10 +177,10 @@ seat_there n None (Some s) h = absurd h
 seat_there n (Some k) None h = absurd h
 seat_there n (Some k) (Some s) h = refl
 
-session_behind : (c : ℕ) (k : Call) (ks : List Call) → (k.number == c) ≡ false → session_of c (k ∷ ks) ≡ session_of c ks
+pub session_behind : (c : ℕ) (k : Call) (ks : List Call) → (k.number == c) ≡ false → session_of c (k ∷ ks) ≡ session_of c ks
 session_behind c k ks other = ap (λ b. session_in (if b then Some k else call_of c ks)) other
 
-session_first : (c : ℕ) (k : Call) (ks : List Call) → (k.number == c) ≡ true → session_of c (k ∷ ks) ≡ k.session
+pub session_first : (c : ℕ) (k : Call) (ks : List Call) → (k.number == c) ≡ true → session_of c (k ∷ ks) ≡ k.session
 session_first c k ks same = ap (λ b. session_in (if b then Some k else call_of c ks)) same
 
 pub no_session : (c : ℕ) (ks : List Call) → place_of c (numbers_of ks) ≡ None → session_of c ks ≡ None
@@ -306,7 +307,7 @@ place_within c (n ∷ ns) i e = at (place_within c ns) (n == c) refl
         let below : next.0 < length ns = rest.0 in
         subst (λ j. (j < length (n ∷ ns)) × (get_or (n ∷ ns) j 0 ≡ c)) (sym next.2) (omega arith, rest.1)
 
-number_at : (xs : List kept_call.Call) (i : ℕ) (d : kept_call.Call) → i < length xs → get_or (numbers xs) i 0 ≡ (get_or xs i d).number
+pub number_at : (xs : List kept_call.Call) (i : ℕ) (d : kept_call.Call) → i < length xs → get_or (numbers xs) i 0 ≡ (get_or xs i d).number
 number_at [] i d h = absurd (omega arith)
 number_at (x ∷ xs) zero d h = refl
 number_at (x ∷ xs) (suc i) d h = number_at xs i d (omega arith)
@@ -320,8 +321,12 @@ pub on_ok : {A E P Q : Type 0} (r : Result A E) → (P → Q) → OnOk r P → O
 on_ok (Ok a) f h = f h
 on_ok (Err e) f h = h
 
+pub on_err : {A E P Q : Type 0} (r : Result A E) → (P → Q) → OnErr r P → OnErr r Q
+on_err (Ok a) f h = h
+on_err (Err e) f h = f h
+
 -- where no call has this number, the clocks of all stood
-all_stood : (floor : LeastPassed) (old new : ℕ → ℕ) (c : ℕ) (xs : List kept_call.Call) (ks : List Call) → CallsLag floor old xs ks → place_of c (numbers_of ks) ≡ None → ((j : ℕ) → (j ≡ c → ⊥) → old j ≡ new j) → CallsLag floor new xs ks
+pub all_stood : (floor : LeastPassed) (old new : ℕ → ℕ) (c : ℕ) (xs : List kept_call.Call) (ks : List Call) → CallsLag floor old xs ks → place_of c (numbers_of ks) ≡ None → ((j : ℕ) → (j ≡ c → ⊥) → old j ≡ new j) → CallsLag floor new xs ks
 all_stood floor old new c [] [] h none others = tt
 all_stood floor old new c [] (k ∷ ks) h none others = absurd h
 all_stood floor old new c (x ∷ xs) [] h none others = absurd h

@@ -1,14 +1,12 @@
--- Each call caught up, one behind the other, and calls in two parts.
-use Rattle.std.proofs.Common.{◌≡◌, ℕ, zero, suc, ◌+◌, ◌<◌, ◌≤◌, ◌^◌, Bool, true, false, if◌then◌else◌, inl, inr, List, [], ◌∷◌, ◌++◌, length, get_or, take, drop, refl, ap, sym, ◌∙◌, subst, arith, add-one, drop-cons, length-drop, append-nil}
-use Rattle.std.specs.Option.{is_some}
+-- Each call caught up, one behind the other.
+use Rattle.std.proofs.Common.{◌≡◌, ℕ, ◌+◌, ◌<◌, ◌≤◌, ◌^◌, inl, inr, List, [], ◌∷◌, ◌++◌, length, get_or, take, drop, ap, sym, ◌∙◌, subst, arith, add-one, drop-cons, length-drop}
 use Rattle.std.proofs.Math.ListN.{set}
-use Rattle.std.proofs.lemmas.List.{take_more_set, drop-set-lt, drop_all, take-append-drop}
+use Rattle.std.proofs.lemmas.List.{take_more_set, drop-set-lt}
 use Rattle.channel_sim.specs.declared.calls.call.Call as kept
-use Rattle.channel_sim.specs.World.{Call, session_count}
-use Rattle.std.specs.List.{AllByRecursion}
+use Rattle.channel_sim.specs.World.{Call}
 use Rattle.channel_sim.specs.Lag.{LeastPassed, CallLags, CallsLag, IsFrom, level}
 use Rattle.channel_sim.specs.inner.Acts.{IsUpTo}
-use Rattle.channel_sim.specs.inner.Asleep.{Sleeps}
+use Rattle.channel_sim.specs.inner.Turns.{Sleeps}
 use Rattle.channel_sim.proofs.ArrivalLemmas.{lag_append}
 use Rattle.channel_sim.proofs.ChangeLemmas.{lag_at, same_lengths}
 use Rattle.channel_sim.proofs.StepLemmas.{take_all}
@@ -73,58 +71,3 @@ pub all_caught : (floor to : LeastPassed) (tick n : ℕ) (before now : List kept
 all_caught floor to tick n before now ks old new h done =
     let all : length ks ≤ n = subst (λ m. m ≤ n) (same_lengths floor (λ c. tick) before ks h) old in
     subst (λ xs. CallsLag to (λ c. tick) xs ks) (take_all n now new) (subst (CallsLag to (λ c. tick) (take n now)) (take_all n ks all) done)
-
--- the first ones, so many, sleep, and stay as they are
-pub lag_asleep : (floor : LeastPassed) (tick : ℕ) (xs : List kept.Call) (ks : List Call) → floor.settled ≤ floor.waking → AllByRecursion Sleeps xs → CallsLag floor (λ c. tick) xs ks → CallsLag (level floor.settled tick) (λ c. tick) xs ks
-lag_asleep floor tick [] [] low sleep h = tt
-lag_asleep floor tick [] (k ∷ ks) low sleep h = absurd h
-lag_asleep floor tick (x ∷ xs) [] low sleep h = absurd h
-lag_asleep floor tick (x ∷ xs) (k ∷ ks) low sleep h = (
-  record { number = h.0.number; up = h.0.up; down = h.0.down; passed = h.0.passed; from = from_reached floor tick x low (inr sleep.0) h.0.from; session = h.0.session },
-  lag_asleep floor tick xs ks low sleep.1 h.1,
-)
-
--- a slice written back over all of a list
-pub written_back : (len : ℕ) (ys os : List kept.Call) → length ys ≡ length os → len ≡ length os → take len (ys ++ drop (length ys) os) ≡ ys
-written_back len ys os same whole =
-    ap (λ z. take len (ys ++ z)) (drop_all (length ys) os (omega arith)) ∙ ap (take len) (append-nil ys) ∙ take_all len ys (omega arith)
-
--- Calls in two parts: the first ones, so many, and the others.
-
-pub lag_front : (floor : LeastPassed) (clock : ℕ → ℕ) (n : ℕ) (xs : List kept.Call) (ks : List Call) → CallsLag floor clock xs ks → CallsLag floor clock (take n xs) (take n ks)
-lag_front floor clock zero [] [] h = tt
-lag_front floor clock (suc n) [] [] h = tt
-lag_front floor clock n [] (k ∷ ks) h = absurd h
-lag_front floor clock n (x ∷ xs) [] h = absurd h
-lag_front floor clock zero (x ∷ xs) (k ∷ ks) h = tt
-lag_front floor clock (suc n) (x ∷ xs) (k ∷ ks) h = (h.0, lag_front floor clock n xs ks h.1)
-
-pub lag_back : (floor : LeastPassed) (clock : ℕ → ℕ) (n : ℕ) (xs : List kept.Call) (ks : List Call) → CallsLag floor clock xs ks → CallsLag floor clock (drop n xs) (drop n ks)
-lag_back floor clock zero [] [] h = tt
-lag_back floor clock (suc n) [] [] h = tt
-lag_back floor clock n [] (k ∷ ks) h = absurd h
-lag_back floor clock n (x ∷ xs) [] h = absurd h
-lag_back floor clock zero (x ∷ xs) (k ∷ ks) h = h
-lag_back floor clock (suc n) (x ∷ xs) (k ∷ ks) h = lag_back floor clock n xs ks h.1
-
-lag_joined : (floor : LeastPassed) (clock : ℕ → ℕ) (xs ys : List kept.Call) (ks js : List Call) → CallsLag floor clock xs ks → CallsLag floor clock ys js → CallsLag floor clock (xs ++ ys) (ks ++ js)
-lag_joined floor clock [] ys [] js h rest = rest
-lag_joined floor clock [] ys (k ∷ ks) js h rest = absurd h
-lag_joined floor clock (x ∷ xs) ys [] js h rest = absurd h
-lag_joined floor clock (x ∷ xs) ys (k ∷ ks) js h rest = (h.0, lag_joined floor clock xs ys ks js h.1 rest)
-
-pub lag_parts : (floor : LeastPassed) (clock : ℕ → ℕ) (n : ℕ) (xs ys : List kept.Call) (ks : List Call) → CallsLag floor clock xs (take n ks) → CallsLag floor clock ys (drop n ks) → CallsLag floor clock (xs ++ ys) ks
-lag_parts floor clock n xs ys ks h rest = subst (CallsLag floor clock (xs ++ ys)) (take-append-drop n ks) (lag_joined floor clock xs ys (take n ks) (drop n ks) h rest)
-
-nothing_before : (n : ℕ) → 0 + n ≡ n
-nothing_before n = omega arith
-
-pub count_parts : (n : ℕ) (ks : List Call) → session_count (take n ks) + session_count (drop n ks) ≡ session_count ks
-count_parts zero [] = refl
-count_parts (suc n) [] = refl
-count_parts zero (k ∷ ks) = nothing_before (session_count (k ∷ ks))
-count_parts (suc n) (k ∷ ks) = at (is_some k.session) (session_count (take n ks)) (session_count (drop n ks)) (session_count ks) (count_parts n ks)
-  where
-    at : (b : Bool) (a c s : ℕ) → a + c ≡ s → (if b then a + 1 else a) + c ≡ (if b then s + 1 else s)
-    at true a c s e = omega arith
-    at false a c s e = e

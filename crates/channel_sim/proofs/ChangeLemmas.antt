@@ -13,7 +13,8 @@ use Rattle.channel_sim.specs.inner.Acts.{IsCaught, IsUpTo}
 use Rattle.channel_sim.specs.Lag.{LeastPassed, CallLags, CallsLag, level}
 use Rattle.channel_sim.specs.inner.Places.{place_of}
 use Rattle.channel_sim.specs.Tidy.{AreAbove, numbers_of}
-use Rattle.channel_sim.proofs.PlaceLemmas.{numbers, above_at, next_place-some, next_place-none, place_first, place_behind}
+use Rattle.channel_sim.specs.inner.Beside.{numbers}
+use Rattle.channel_sim.proofs.PlaceLemmas.{above_at, next_place-some, next_place-none, place_first, place_behind}
 use Rattle.channel_sim.proofs.SeatLemmas.{stands_now}
 
 -- a call that still stands for the same

@@ -1,22 +1,23 @@
--- Frames that are due, and when the next is.
-use Rattle.std.proofs.Common.{◌≡◌, ℕ, zero, suc, ◌+◌, ◌-◌, ◌<◌, ◌≤◌, ◌==◌, inl, inr, if◌then◌else◌, Bool, true, false, Option, Some, None, List, [], ◌∷◌, ◌++◌, length, get_or, slice_get, take, drop, refl, ap, sym, ◌∙◌, subst, arith, append-nil, append_assoc, add-one}
+-- Frames that are due.
+use Rattle.std.proofs.Common.{◌≡◌, ℕ, zero, suc, ◌+◌, ◌<◌, ◌≤◌, ◌==◌, ltb, inl, inr, if◌then◌else◌, Bool, true, false, Option, Some, None, List, [], ◌∷◌, ◌++◌, length, get_or, slice_get, take, drop, refl, ap, sym, ◌∙◌, subst, arith, append-nil, append_assoc, add-one}
 use Rattle.std.specs.Option.{option_eq, option_map}
 use Rattle.std.proofs.lemmas.List.{take-append-drop}
 use lib.Dec.{eqb}
 use Rattle.std.specs.List.{AllByRecursion}
-use Rattle.std.proofs.lemmas.Bool.{eqb-true, eq-eqb, ne_eqb}
+use Rattle.std.proofs.lemmas.Bool.{eqb-true, eqb-false, eq-eqb, ne_eqb, ltb-true, ltb-false}
 use Rattle.trace_model.specs.History.{Sent}
 use Rattle.channel_sim.specs.declared.calls.call.Call as kept_call
 use Rattle.channel_sim.specs.declared.channel.Channel as kept_channel
 use Rattle.channel_sim.specs.World.{Call, Due, World, call_of, due_frames, due_in}
 use Rattle.channel_sim.specs.inner.Acts.{due_by}
-use Rattle.channel_sim.specs.Handing.{flow_way, sent_way}
+use Rattle.channel_sim.specs.Handing.{alone, flow_way, sent_way}
 use Rattle.channel_sim.specs.Lag.{LeastPassed, CallLags, CallsLag, StandsAt}
-use Rattle.channel_sim.specs.Tidy.{CallInTime, AreFrom, numbers_of, ticks_of}
-use Rattle.channel_sim.specs.Quiet.{FramesRest}
+use Rattle.channel_sim.specs.Tidy.{AreAbove, CallInTime, AreFrom, numbers_of, ticks_of}
 use Rattle.channel_sim.specs.inner.Places.{place_of}
 use Rattle.channel_sim.specs.inner.Sends.{IsFirstFrom}
+use Rattle.channel_sim.specs.inner.Turns.{IsAmong, Rise}
 use Rattle.channel_sim.proofs.PlaceLemmas.{next_place-some, place_first, place_behind}
+use Rattle.channel_sim.proofs.TickLemmas.{all_from}
 
 pub frames_append : (c delay now : ℕ) (xs ys : List Sent) → due_frames c delay now (xs ++ ys) ≡ due_frames c delay now xs ++ due_frames c delay now ys
 frames_append c delay now [] ys = refl
@@ -72,42 +73,6 @@ behind_later tick zero (suc k) t (x ∷ ts) h le e = behind_later tick zero k t 
 behind_later tick (suc i) zero t (x ∷ ts) h le e = absurd (omega arith)
 behind_later tick (suc i) (suc k) t (x ∷ ts) h le e = behind_later tick i k t ts h (omega arith) e
 
--- What is quiet up to the next frame.
-
-rest_before : (n d now : ℕ) (xs : List Sent) → AllByRecursion (λ t. t + suc d ≤ now) (ticks_of xs) → FramesRest n (suc d) now xs
-rest_before n d now [] h = tt
-rest_before n d now (x ∷ xs) h = (inl h.0, rest_before n d now xs h.1)
-
--- those in front of a place are over, and those from it on are due later
-pub rest_split : (n d now place : ℕ) (xs : List Sent) → AllByRecursion (λ t. t + suc d ≤ now) (take place (ticks_of xs)) → AllByRecursion (λ t. now + n < t + suc d) (drop place (ticks_of xs)) → FramesRest n (suc d) now xs
-rest_split n d now place [] front back = tt
-rest_split n d now zero (x ∷ xs) front back = (inr back.0, rest_split n d now zero xs tt back.1)
-rest_split n d now (suc place) (x ∷ xs) front back = (inl front.0, rest_split n d now place xs front.1 back)
-
-pub low_over : (v d now : ℕ) (ts : List ℕ) → v ≤ (now + 1) - suc d → AllByRecursion (λ t. t < v) ts → AllByRecursion (λ t. t + suc d ≤ now) ts
-low_over v d now [] le h = tt
-low_over v d now (t ∷ ts) le h = let low : t < v = h.0 in (omega arith, low_over v d now ts le h.1)
-
-later_all : (n d now m : ℕ) (ts : List ℕ) → AreFrom m ts → now + n < m + suc d → AllByRecursion (λ t. now + n < t + suc d) ts
-later_all n d now m [] h low = tt
-later_all n d now m (t ∷ ts) h low = let least : m ≤ t = h.0 in (omega arith, later_all n d now t ts h.1 (omega arith))
-
-pub later_from : (n d now m place t : ℕ) (ts : List ℕ) → AreFrom m ts → slice_get ts place ≡ Some t → now + n < t + suc d → AllByRecursion (λ x. now + n < x + suc d) (drop place ts)
-later_from n d now m place t [] h e low = cc
-later_from n d now m zero t (x ∷ ts) h e low = let same : x ≡ t = cc in let here : now + n < x + suc d = omega arith in (here, later_all n d now x ts h.1 here)
-later_from n d now m (suc place) t (x ∷ ts) h e low = later_from n d now x place t ts h.1 e low
-
-pub none_from : (P : ℕ → Type 0) (place : ℕ) (ts : List ℕ) → slice_get ts place ≡ None → AllByRecursion P (drop place ts)
-none_from P zero [] e = tt
-none_from P (suc place) [] e = tt
-none_from P zero (t ∷ ts) e = cc
-none_from P (suc place) (t ∷ ts) e = none_from P place ts e
-
-pub take_one_more : (k : ℕ) (xs : List Sent) (d : Sent) → k < length xs → take (suc k) xs ≡ take k xs ++ get_or xs k d ∷ []
-take_one_more k [] d h = absurd (omega arith)
-take_one_more zero (x ∷ xs) d h = refl
-take_one_more (suc k) (x ∷ xs) d h = ap (λ z. x ∷ z) (take_one_more k xs d (omega arith))
-
 -- the frame at a place, by its tick
 pub sent_at_tick : (k t : ℕ) (xs : List Sent) → slice_get (ticks_of xs) k ≡ Some t → (s : Sent) × (slice_get xs k ≡ Some s) × (s.tick ≡ t) × (take (suc k) xs ≡ take k xs ++ s ∷ [])
 sent_at_tick k t [] e = cc
@@ -145,47 +110,10 @@ due_enough c delay t k u xs rise e over =
     ∙ sym (frames_append c delay (t + delay) (take k xs) (drop k xs))
     ∙ ap (due_frames c delay (t + delay)) (take-append-drop k xs)
 
-take_none : (k : ℕ) (xs : List Sent) → slice_get (ticks_of xs) k ≡ None → take k xs ≡ xs
-take_none zero [] e = refl
-take_none (suc k) [] e = refl
-take_none zero (x ∷ xs) e = cc
-take_none (suc k) (x ∷ xs) e = ap (λ z. x ∷ z) (take_none k xs e)
-
--- nothing is due where the first from a tick on is of another tick, or none
-pub none_here : (c delay t k : ℕ) (xs : List Sent) → AreFrom 0 (ticks_of xs) → IsFirstFrom t k (ticks_of xs) → (slice_get (ticks_of xs) k ≡ Some t → ⊥) → due_frames c delay (t + delay) xs ≡ []
-none_here c delay t k xs rise first other = at (slice_get (ticks_of xs) k) refl
-  where
-    front : due_frames c delay (t + delay) (take k xs) ≡ []
-    front = none_before c delay t (take k xs) (subst (AllByRecursion (λ x. x < t)) (sym (take_ticks k xs)) first.before)
-
-    at : (o : Option ℕ) → slice_get (ticks_of xs) k ≡ o → due_frames c delay (t + delay) xs ≡ []
-    at None e = sym (ap (due_frames c delay (t + delay)) (take_none k xs e)) ∙ front
-    at (Some u) e =
-        let least : t ≤ u = behind_later t k k u (ticks_of xs) first.behind (omega arith) e in
-        let apart : u ≡ t → ⊥ = λ same. other (e ∙ ap Some same) in
-        sym (due_enough c delay t k u xs rise e (omega (arith, apart))) ∙ front
-
 pub tick_there : (k : ℕ) (xs : List Sent) → k < length xs → (u : ℕ) × (slice_get (ticks_of xs) k ≡ Some u)
 tick_there k [] h = absurd (omega arith)
 tick_there zero (x ∷ xs) h = (x.tick, refl)
 tick_there (suc k) (x ∷ xs) h = tick_there k xs (omega arith)
-
--- a flow hands over none of these before
-pub hands_rest : (flow n now place v t : ℕ) (xs : List Sent) → (flow ≡ 0 → ⊥) → v ≤ (now + 1) - flow → IsFirstFrom v place (ticks_of xs) → slice_get (ticks_of xs) place ≡ Some t → AreFrom 0 (ticks_of xs) → now + n < t + flow → FramesRest n flow now xs
-hands_rest zero n now place v t xs some le first at rise low = absurd (some refl)
-hands_rest (suc d) n now place v t xs some le first at rise low =
-    rest_split n d now place xs (low_over v d now (take place (ticks_of xs)) le first.before) (later_from n d now 0 place t (ticks_of xs) rise at low)
-
-pub hands_none : (flow n now place v : ℕ) (xs : List Sent) → (flow ≡ 0 → ⊥) → v ≤ (now + 1) - flow → IsFirstFrom v place (ticks_of xs) → slice_get (ticks_of xs) place ≡ None → FramesRest n flow now xs
-hands_none zero n now place v xs some le first none = absurd (some refl)
-hands_none (suc d) n now place v xs some le first none =
-    rest_split n d now place xs (low_over v d now (take place (ticks_of xs)) le first.before) (none_from (λ x. now + n < x + suc d) place (ticks_of xs) none)
-
--- all of these frames were handed over
-pub past_rests : (flow n now sent newest : ℕ) (xs : List Sent) → sent ≤ (now + 1) - flow → newest < sent → AllByRecursion (λ s. s.tick ≤ newest) xs → FramesRest n flow now xs
-past_rests zero n now sent newest xs le lt h = tt
-past_rests (suc d) n now sent newest [] le lt h = tt
-past_rests (suc d) n now sent newest (x ∷ xs) le lt h = let low : x.tick ≤ newest = h.0 in (inl (omega arith), past_rests (suc d) n now sent newest xs le lt h.1)
 
 pub due_in_append : (sent : Call → List Sent) (d now : ℕ) (xs ys : List Call) → due_in sent (suc d) now (xs ++ ys) ≡ due_in sent (suc d) now xs ++ due_in sent (suc d) now ys
 due_in_append sent d now [] ys = refl
@@ -274,3 +202,177 @@ one_at up (suc d) now n tick ss k some e number sent =
     ∙ ap (λ t. due_frames k.number (suc d) t ss) e
     ∙ ap (due_frames k.number (suc d) now) sent
     ∙ sym (append-nil (due_frames k.number (suc d) now (sent_way up k)))
+
+-- Frames that are due in the calls of some numbers.
+
+-- what is due in each call of these numbers, one behind the other
+abbrev pub due_listed : (sent : Call → List Sent) (d now : ℕ) → List ℕ → List Call → List Due
+due_listed sent d now [] ks = []
+due_listed sent d now (n ∷ ns) ks = due_in sent (suc d) now (alone (call_of n ks)) ++ due_listed sent d now ns ks
+
+-- each call with a frame of this tick is listed
+abbrev pub AreListed : (sent : Call → List Sent) (tick : ℕ) → List ℕ → List Call → Type 0
+AreListed sent tick ns ks = AllByRecursion (λ k. AllByRecursion (λ s. s.tick ≡ tick → IsAmong k.number ns) (sent k)) ks
+
+-- one number more
+pub listed_more : (sent : Call → List Sent) (d now i : ℕ) (ns : List ℕ) (ks : List Call) → i < length ns → due_listed sent d now (take i ns) ks ++ due_in sent (suc d) now (alone (call_of (get_or ns i 0) ks)) ≡ due_listed sent d now (take (i + 1) ns) ks
+listed_more sent d now i ns ks inside = at i ns inside ∙ ap (λ m. due_listed sent d now (take m ns) ks) (sym (add-one i))
+  where
+    at : (i : ℕ) (ns : List ℕ) → i < length ns → due_listed sent d now (take i ns) ks ++ due_in sent (suc d) now (alone (call_of (get_or ns i 0) ks)) ≡ due_listed sent d now (take (suc i) ns) ks
+    at i [] inside = absurd (omega arith)
+    at zero (n ∷ ns) inside = sym (append-nil (due_in sent (suc d) now (alone (call_of n ks))))
+    at (suc i) (n ∷ ns) inside =
+        append_assoc (due_in sent (suc d) now (alone (call_of n ks))) (due_listed sent d now (take i ns) ks) (due_in sent (suc d) now (alone (call_of (get_or ns i 0) ks)))
+        ∙ ap (λ z. due_in sent (suc d) now (alone (call_of n ks)) ++ z) (at i ns (omega arith))
+
+-- of no call nothing is due
+listed_none : (sent : Call → List Sent) (d now : ℕ) (ns : List ℕ) → due_listed sent d now ns [] ≡ []
+listed_none sent d now [] = refl
+listed_none sent d now (n ∷ ns) = listed_none sent d now ns
+
+-- where none was sent at a tick, none of this tick is due
+none_sent : (c delay tick : ℕ) (xs : List Sent) → AllByRecursion (λ s. s.tick ≡ tick → ⊥) xs → due_frames c delay (tick + delay) xs ≡ []
+none_sent c delay tick [] h = refl
+none_sent c delay tick (x ∷ xs) h =
+    let other : x.tick ≡ tick → ⊥ = h.0 in
+    ap (λ b. if b then record { call = c; frame = x.frame } ∷ due_frames c delay (tick + delay) xs else due_frames c delay (tick + delay) xs) (ne_eqb (x.tick + delay) (tick + delay) (λ e. other (omega arith)))
+    ∙ none_sent c delay tick xs h.1
+
+-- a number is not among those above it
+not_among : (m c : ℕ) (ns : List ℕ) → AreAbove m ns → c ≤ m → IsAmong c ns → ⊥
+not_among m c [] above low has = has
+not_among m c (n ∷ ns) above low (inl here) = let least : m < n = above.0 in omega arith
+not_among m c (n ∷ ns) above low (inr further) = let least : m < n = above.0 in not_among n c ns above.1 (omega arith) further
+
+-- a call that isn't listed has no frame of this tick
+unlisted : (tick c : ℕ) (ns : List ℕ) (xs : List Sent) → (IsAmong c ns → ⊥) → AllByRecursion (λ s. s.tick ≡ tick → IsAmong c ns) xs → AllByRecursion (λ s. s.tick ≡ tick → ⊥) xs
+unlisted tick c ns [] other h = tt
+unlisted tick c ns (x ∷ xs) other h = (λ same. other (h.0 same), unlisted tick c ns xs other h.1)
+
+-- no call has a number that all are above
+no_call_below : (m c : ℕ) (ks : List Call) → AreAbove m (numbers_of ks) → c ≤ m → call_of c ks ≡ None
+no_call_below m c [] above low = refl
+no_call_below m c (k ∷ ks) above low =
+    let least : m < k.number = above.0 in
+    ap (λ b. if b then Some k else call_of c ks) (ne_eqb k.number c (λ e. omega arith)) ∙ no_call_below k.number c ks above.1 (omega arith)
+
+-- numbers above that of the first call are looked up behind it
+listed_behind : (sent : Call → List Sent) (d now m : ℕ) (ns : List ℕ) (k : Call) (ks : List Call) → k.number ≤ m → AreAbove m ns → due_listed sent d now ns (k ∷ ks) ≡ due_listed sent d now ns ks
+listed_behind sent d now m [] k ks low rise = refl
+listed_behind sent d now m (n ∷ ns) k ks low rise =
+    let least : m < n = rise.0 in
+    ap (λ b. due_in sent (suc d) now (alone (if b then Some k else call_of n ks)) ++ due_listed sent d now ns (k ∷ ks)) (ne_eqb k.number n (λ e. omega arith))
+    ∙ ap (λ z. due_in sent (suc d) now (alone (call_of n ks)) ++ z) (listed_behind sent d now n ns k ks (omega arith) rise.1)
+
+-- a number that all calls are above need not be listed
+fewer_frames : (tick c n : ℕ) (ns : List ℕ) (xs : List Sent) → n < c → AllByRecursion (λ s. s.tick ≡ tick → IsAmong c (n ∷ ns)) xs → AllByRecursion (λ s. s.tick ≡ tick → IsAmong c ns) xs
+fewer_frames tick c n ns [] low h = tt
+fewer_frames tick c n ns (x ∷ xs) low h = (λ same. elim (h.0 same) [ inl here ↦ absurd (omega arith) | inr further ↦ further ], fewer_frames tick c n ns xs low h.1)
+
+-- the same of all calls
+fewer : (sent : Call → List Sent) (tick m n : ℕ) (ns : List ℕ) (ks : List Call) → n ≤ m → AreAbove m (numbers_of ks) → AreListed sent tick (n ∷ ns) ks → AreListed sent tick ns ks
+fewer sent tick m n ns [] low above h = tt
+fewer sent tick m n ns (k ∷ ks) low above h =
+    let least : m < k.number = above.0 in
+    (fewer_frames tick k.number n ns (sent k) (omega arith) h.0, fewer sent tick k.number n ns ks (omega arith) above.1 h.1)
+
+-- a call that isn't listed: nothing of it is due
+first_unlisted : (sent : Call → List Sent) (d tick : ℕ) (ns : List ℕ) (k : Call) (ks : List Call) → (IsAmong k.number ns → ⊥) → AreListed sent tick ns (k ∷ ks) → due_in sent (suc d) (tick + suc d) (k ∷ ks) ≡ due_in sent (suc d) (tick + suc d) ks
+first_unlisted sent d tick ns k ks other listed =
+    ap (λ z. z ++ due_in sent (suc d) (tick + suc d) ks) (none_sent k.number (suc d) tick (sent k) (unlisted tick k.number ns (sent k) other listed.0))
+
+-- the first number is that of the first call
+first_listed : (sent : Call → List Sent) (d tick n : ℕ) (ns : List ℕ) (k : Call) (ks : List Call) → k.number ≡ n → AreAbove n ns → due_listed sent d (tick + suc d) ns ks ≡ due_in sent (suc d) (tick + suc d) ks → due_listed sent d (tick + suc d) (n ∷ ns) (k ∷ ks) ≡ due_in sent (suc d) (tick + suc d) (k ∷ ks)
+first_listed sent d tick n ns k ks here rise rest =
+    ap (λ b. due_in sent (suc d) (tick + suc d) (alone (if b then Some k else call_of n ks)) ++ due_listed sent d (tick + suc d) ns (k ∷ ks)) (eq-eqb k.number n here)
+    ∙ ap (λ z. z ++ due_listed sent d (tick + suc d) ns (k ∷ ks)) (append-nil (due_frames k.number (suc d) (tick + suc d) (sent k)))
+    ∙ ap (λ z. due_frames k.number (suc d) (tick + suc d) (sent k) ++ z) (listed_behind sent d (tick + suc d) n ns k ks (omega arith) rise ∙ rest)
+
+-- no call has the first number
+first_missing : (sent : Call → List Sent) (d now n : ℕ) (ns : List ℕ) (ks : List Call) → AreAbove n (numbers_of ks) → due_listed sent d now (n ∷ ns) ks ≡ due_listed sent d now ns ks
+first_missing sent d now n ns ks above =
+    ap (λ o. due_in sent (suc d) now (alone o) ++ due_listed sent d now ns ks) (no_call_below n n ks above (omega arith))
+
+-- what stands behind a number that rises, rises
+rise_behind : (n : ℕ) (ns : List ℕ) → AreAbove n ns → Rise ns
+rise_behind n [] h = tt
+rise_behind n (m ∷ ns) h = h.1
+
+-- where each call with a frame of a tick is listed, and all numbers rise, what is due in those listed is due in all
+pub all_listed : (sent : Call → List Sent) (d tick p : ℕ) (ks : List Call) (ns : List ℕ) → AreAbove p (numbers_of ks) → Rise ns → AreListed sent tick ns ks → due_listed sent d (tick + suc d) ns ks ≡ due_in sent (suc d) (tick + suc d) ks
+all_listed sent d tick p [] ns above rise listed = listed_none sent d (tick + suc d) ns
+all_listed sent d tick p (k ∷ ks) ns above rise listed = along (λ ns rise listed. all_listed sent d tick k.number ks ns above.1 rise listed) ns rise listed
+  where
+    along : ((ns : List ℕ) → Rise ns → AreListed sent tick ns ks → due_listed sent d (tick + suc d) ns ks ≡ due_in sent (suc d) (tick + suc d) ks) → (ns : List ℕ) → Rise ns → AreListed sent tick ns (k ∷ ks) → due_listed sent d (tick + suc d) ns (k ∷ ks) ≡ due_in sent (suc d) (tick + suc d) (k ∷ ks)
+    along further [] rise listed = sym (first_unlisted sent d tick [] k ks (λ has. has) listed ∙ sym (further [] tt listed.1))
+    along further (n ∷ ns) rise listed = at (along further ns (rise_behind n ns rise)) (ltb n k.number) refl (k.number == n) refl
+      where
+        at : (AreListed sent tick ns (k ∷ ks) → due_listed sent d (tick + suc d) ns (k ∷ ks) ≡ due_in sent (suc d) (tick + suc d) (k ∷ ks)) → (a : Bool) → ltb n k.number ≡ a → (b : Bool) → (k.number == n) ≡ b → due_listed sent d (tick + suc d) (n ∷ ns) (k ∷ ks) ≡ due_in sent (suc d) (tick + suc d) (k ∷ ks)
+        at without true low b e =
+            let less : n < k.number = ltb-true n k.number low in
+            first_missing sent d (tick + suc d) n ns (k ∷ ks) (less, above.1) ∙ without (fewer sent tick n n ns (k ∷ ks) (omega arith) (less, above.1) listed)
+        at without false high true same =
+            let here : k.number ≡ n = eqb-true k.number n same in
+            first_listed sent d tick n ns k ks here rise (further ns (rise_behind n ns rise) (fewer sent tick k.number n ns ks (omega arith) above.1 listed.1))
+        at without false high false other =
+            let least : k.number ≤ n = ltb-false n k.number high in
+            let apart : k.number ≡ n → ⊥ = eqb-false k.number n other in
+            let less : k.number < n = omega (arith, apart) in
+            listed_behind sent d (tick + suc d) k.number (n ∷ ns) k ks (omega arith) (less, rise)
+            ∙ further (n ∷ ns) rise listed.1
+            ∙ sym (first_unlisted sent d tick (n ∷ ns) k ks (not_among k.number k.number (n ∷ ns) (less, rise) (omega arith)) listed)
+
+-- the calls that are kept are listed, and so are those that they stand for
+pub listed_kept : (up : Bool) (floor : LeastPassed) (clock : ℕ → ℕ) (tick : ℕ) (ns : List ℕ) (xs : List kept_call.Call) (ks : List Call) → CallsLag floor clock xs ks → AllByRecursion (λ x. AllByRecursion (λ s. s.tick ≡ tick → IsAmong x.number ns) (if up then x.up else x.down)) xs → AreListed (sent_way up) tick ns ks
+listed_kept up floor clock tick ns [] [] h listed = tt
+listed_kept up floor clock tick ns [] (k ∷ ks) h listed = absurd h
+listed_kept up floor clock tick ns (x ∷ xs) [] h listed = absurd h
+listed_kept up floor clock tick ns (x ∷ xs) (k ∷ ks) h listed = (
+  subst (λ n. AllByRecursion (λ s. s.tick ≡ tick → IsAmong n ns) (sent_way up k)) (sym h.0.number)
+      (subst (AllByRecursion (λ s. s.tick ≡ tick → IsAmong x.number ns)) (way_kept up floor (clock k.number) x k h.0) listed.0),
+  listed_kept up floor clock tick ns xs ks h.1 listed.1,
+)
+
+-- what is due in the call that was found by its number
+pub one_found : (up : Bool) (d now n : ℕ) (ss : List Sent) (ks : List Call) (k : Call) → call_of n ks ≡ Some k → ss ≡ sent_way up k → due_frames n (suc d) now ss ≡ due_in (sent_way up) (suc d) now (alone (call_of n ks))
+one_found up d now n ss ks k found sent =
+    ap (λ m. due_frames m (suc d) now ss) (sym (number_of n ks k found))
+    ∙ ap (due_frames k.number (suc d) now) sent
+    ∙ sym (append-nil (due_frames k.number (suc d) now (sent_way up k)))
+    ∙ sym (ap (λ o. due_in (sent_way up) (suc d) now (alone o)) found)
+  where
+    number_of : (n : ℕ) (ks : List Call) (k : Call) → call_of n ks ≡ Some k → k.number ≡ n
+    number_of n [] k e = cc
+    number_of n (x ∷ ks) k e = at (number_of n ks k) (x.number == n) refl e
+      where
+        at : (call_of n ks ≡ Some k → k.number ≡ n) → (b : Bool) → (x.number == n) ≡ b → (if b then Some x else call_of n ks) ≡ Some k → k.number ≡ n
+        at further true same e = let here : x ≡ k = cc in ap (λ z. z.number) (sym here) ∙ eqb-true x.number n same
+        at further false other e = further e
+
+-- Where the frames of a tick begin.
+
+-- the one before a place is not of this tick
+abbrev pub Begins : (tick place : ℕ) → List ℕ → Type 0
+Begins t zero ts = Unit {0}
+Begins t (suc p) ts = slice_get ts p ≡ Some t → ⊥
+
+-- of ticks that rise, the first of these is there
+pub first_at : (m t p : ℕ) (ts : List ℕ) → AreFrom m ts → slice_get ts p ≡ Some t → Begins t p ts → IsFirstFrom t p ts
+first_at m t zero [] rise there begins = record { before = tt; behind = tt }
+first_at m t (suc p) [] rise there begins = cc
+first_at m t zero (x ∷ xs) rise there begins =
+    let same : x ≡ t = cc in
+    record { before = tt; behind = (omega (arith, same), all_from x t xs rise.1 (omega (arith, same))) }
+first_at m t (suc zero) (x ∷ []) rise there begins = cc
+first_at m t (suc zero) (x ∷ y ∷ ys) rise there begins =
+    let same : y ≡ t = cc in
+    let other : x ≡ t → ⊥ = λ e. begins (ap Some e) in
+    let low : x ≤ y = rise.1.0 in
+    let rest = first_at x t zero (y ∷ ys) rise.1 there tt in
+    record { before = (omega (arith, same, other), tt); behind = rest.behind }
+first_at m t (suc (suc p)) (x ∷ []) rise there begins = cc
+first_at m t (suc (suc p)) (x ∷ y ∷ ys) rise there begins =
+    let rest = first_at x t (suc p) (y ∷ ys) rise.1 there begins in
+    let next : y < t = rest.before.0 in
+    let low : x ≤ y = rise.1.0 in
+    record { before = (omega arith, rest.before); behind = rest.behind }

@@ -17,11 +17,11 @@ use Rattle.channel_sim.proofs.Jump.{quiet_up, quiet_down}
 use Rattle.channel_sim.proofs.TidyLemmas.{with_legs_all, sent_now}
 
 -- what a call keeps, whatever happens at the tick behind this one; the flows are given
-record Stays (P : (up down tick : ℕ) → Call → Type 0) : Type 0 where
+pub record Stays (P : (up down tick : ℕ) → Call → Type 0) : Type 0 where
   pub seat : (up down tick : ℕ) (k : Call) (o : Option Point) → P up down tick k → P up down tick (record k { session = o })
   pub carry : (up down tick : ℕ) (k : Call) (items : List Note) → P up down tick k → P up down tick (carries (told (tick + 1) items) k)
 
-abbrev Holds : (P : (up down tick : ℕ) → Call → Type 0) → ℕ → World → Type 0
+abbrev pub Holds : (P : (up down tick : ℕ) → Call → Type 0) → ℕ → World → Type 0
 Holds P t w = (w.tick ≡ t + 1) × AllByRecursion (P w.up_flow w.down_flow t) w.calls
 
 carried : (P : (up down tick : ℕ) → Call → Type 0) → Stays P → (up down t : ℕ) (items : List Note) (ks : List Call) → AllByRecursion (P up down t) ks → AllByRecursion (P up down t) (map (carries (told (t + 1) items)) ks)
@@ -43,7 +43,7 @@ seated_all P h up down t c o (k ∷ ks) all = at (k.number == c) (seated_all P h
     at true rest = (h.seat up down t k o all.0, all.1)
     at false rest = (all.0, rest)
 
-session_acts_holds : (P : (up down tick : ℕ) → Call → Type 0) → Stays P → (t c : ℕ) (w : World) (row : Point → Row Point) (o : Option Point) → Holds P t w → Holds P t (session_acts c w row o).world
+pub session_acts_holds : (P : (up down tick : ℕ) → Call → Type 0) → Stays P → (t c : ℕ) (w : World) (row : Point → Row Point) (o : Option Point) → Holds P t w → Holds P t (session_acts c w row o).world
 session_acts_holds P h t c w row None s = s
 session_acts_holds P h t c w row (Some p) s =
     did_holds P h t w (row p).items w.vehicle (seated c (left_by (row p).new) w.calls) s.0
@@ -64,10 +64,10 @@ does_each_holds : (P : (up down tick : ℕ) → Call → Type 0) → Stays P →
 does_each_holds P h t [] w s = s
 does_each_holds P h t (a ∷ acts) w s = does_each_holds P h t acts (does a w).world (does_holds P h t a w s)
 
-settled_holds : (P : (up down tick : ℕ) → Call → Type 0) → Stays P → (t : ℕ) (step : Step) → Holds P t step.world → Holds P t (settled step).world
+pub settled_holds : (P : (up down tick : ℕ) → Call → Type 0) → Stays P → (t : ℕ) (step : Step) → Holds P t step.world → Holds P t (settled step).world
 settled_holds P h t step s = does_each_holds P h t (consequences step.entries) step.world s
 
-each_holds : {A : Type 0} (P : (up down tick : ℕ) → Call → Type 0) (t : ℕ) (step : A → World → Step) (xs : List A) (w : World) → ((a : A) (u : World) → Holds P t u → Holds P t (step a u).world) → Holds P t w → Holds P t (each step xs w).world
+pub each_holds : {A : Type 0} (P : (up down tick : ℕ) → Call → Type 0) (t : ℕ) (step : A → World → Step) (xs : List A) (w : World) → ((a : A) (u : World) → Holds P t u → Holds P t (step a u).world) → Holds P t w → Holds P t (each step xs w).world
 each_holds P t step [] w one s = s
 each_holds P t step (x ∷ xs) w one s = each_holds P t step xs (step x w).world one (one x w s)
 

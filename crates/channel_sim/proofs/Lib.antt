@@ -3,9 +3,10 @@ mod ActLemmas
 pub mod Acts
 mod ArrivalLemmas
 mod AsleepLemmas
-mod AsleepTicks
 -- which ends were passed behind a line
 mod Behind
+-- what is kept beside the calls, when one of them changes, goes or comes
+mod BesideLemmas
 -- what bounds the work of one line: at most so many passes and calls
 pub mod BoundLemmas
 -- the calls of a world, found by number, through all that changes them
@@ -13,7 +14,7 @@ pub mod CallsKept
 mod CallsLemmas
 -- a call that comes up at both ends keeps a world that fits
 pub mod CallUp
--- each call caught up, one behind the other, and calls in two parts
+-- each call caught up, one behind the other
 mod CatchLemmas
 -- one call changed among calls that stand for calls
 mod ChangeLemmas
@@ -26,6 +27,8 @@ mod HandLemmas
 pub mod Jump
 mod LagLemmas
 mod LineLemmas
+-- the calls of turns caught up, and what it costs
+mod ListedLemmas
 -- the world that jumps over quiet ticks, as it is kept
 pub mod MomentLemmas
 mod PassLemmas
@@ -41,16 +44,21 @@ pub mod Running
 -- a session that is settled and lags, and hears something
 mod RestLemmas
 mod SeatLemmas
+-- when frames were sent, and in which calls
+mod SendingLemmas
 mod SendsLemmas
 mod SessionLemmas
 -- between lines: what is kept stands for the world
 pub mod Standing
 mod StepLemmas
-mod StillLemmas
 mod TickLemmas
 -- a unit tick of the world keeps a world that fits
 pub mod Ticks
 mod TidyLemmas
+-- the turns of sessions, and one that changes
+mod TurnLemmas
+-- the unit tick of the sessions, from turn to turn
+mod TurnTicks
 mod VehicleLemmas
 mod WaitLemmas
 mod WakeLemmas

@@ -1,5 +1,5 @@
 -- The unit tick of the vehicle and of the sessions, by what is kept of them.
-use Rattle.std.proofs.Common.{◌≡◌, ℕ, zero, suc, ◌+◌, ◌-◌, ◌<◌, ◌≤◌, ◌==◌, ◌||◌, if◌then◌else◌, Bool, true, false, Option, Some, None, IfSome, List, [], ◌∷◌, length, get_or, drop, map, refl, ap, sym, ◌∙◌, subst, arith}
+use Rattle.std.proofs.Common.{◌≡◌, ℕ, zero, suc, ◌+◌, ◌-◌, ◌<◌, ◌≤◌, ◌==◌, ◌||◌, if◌then◌else◌, Bool, true, false, Option, Some, None, IfSome, List, [], ◌∷◌, length, get_or, map, refl, ap, sym, ◌∙◌, subst, arith}
 use Rattle.std.specs.List.{AllByRecursion}
 use Rattle.std.specs.Option.{is_some}
 use Rattle.std.proofs.lemmas.Bool.{eq-eqb, ne_eqb}
@@ -92,7 +92,7 @@ vehicle_acts_now before passed due old new items v h least is gives stands =
 pub clock_first : (before n : ℕ) (ns : List ℕ) → clock_of before (n ∷ ns) n ≡ before
 clock_first before n ns = ap (λ b. if b || waits n ns then before else before + 1) (eq-eqb n n refl)
 
-not_waiting : (m c : ℕ) (ns : List ℕ) → AreAbove m ns → c ≤ m → waits c ns ≡ false
+pub not_waiting : (m c : ℕ) (ns : List ℕ) → AreAbove m ns → c ≤ m → waits c ns ≡ false
 not_waiting m c [] h low = refl
 not_waiting m c (x ∷ ns) h low =
     let above : c < x = omega (arith, h.0) in
@@ -111,7 +111,7 @@ all_still : (n : ℕ) (ns cs : List ℕ) → AllByRecursion (λ c. waits c ns �
 all_still n ns [] h = tt
 all_still n ns (c ∷ cs) h = (still_waits c n ns h.0, all_still n ns cs h.1)
 
-all_wait : (ns : List ℕ) → AllByRecursion (λ c. waits c ns ≡ true) ns
+pub all_wait : (ns : List ℕ) → AllByRecursion (λ c. waits c ns ≡ true) ns
 all_wait [] = tt
 all_wait (n ∷ ns) = (ap (λ b. b || waits n ns) (eq-eqb n n refl), all_still n ns ns (all_wait ns))
 
@@ -124,11 +124,6 @@ begins floor before ns (x ∷ xs) (k ∷ ks) all h =
 
 pub clocks_begin : (floor : LeastPassed) (before : ℕ) (ns : List ℕ) (xs : List kept_call.Call) (ks : List Call) → ns ≡ numbers_of ks → CallsLag floor (λ c. before) xs ks → CallsLag floor (clock_of before ns) xs ks
 clocks_begin floor before ns xs ks e h = subst (λ z. CallsLag floor (clock_of before z) xs ks) (sym e) (begins floor before (numbers_of ks) xs ks (all_wait (numbers_of ks)) h)
-
-pub above_behind : (n : ℕ) (ns : List ℕ) (i d : ℕ) → AreAbove n ns → i < length ns → AreAbove (get_or ns i d) (drop (suc i) ns)
-above_behind n [] i d h inside = absurd (omega arith)
-above_behind n (x ∷ ns) zero d h inside = h.1
-above_behind n (x ∷ ns) (suc i) d h inside = above_behind x ns i d h.1 (omega arith)
 
 -- another clock for the sessions
 pub reclocked : (ahead : ℕ) (floor : LeastPassed) (old new : ℕ → ℕ) (kept : kept_channel.Channel) (w : World) → StandsAt ahead floor old kept w → CallsLag floor new kept.calls w.calls → StandsAt ahead floor new kept w

@@ -1,5 +1,5 @@
 -- The place of a call among calls whose numbers rise.
-use Rattle.std.proofs.Common.{◌≡◌, ℕ, zero, suc, ◌<◌, ◌≤◌, ◌==◌, if◌then◌else◌, true, false, Option, Some, None, List, [], ◌∷◌, length, get_or, take, drop, map, IfSome, Result, Ok, Err, refl, ap, sym, ◌∙◌, arith}
+use Rattle.std.proofs.Common.{◌≡◌, ℕ, zero, suc, ◌<◌, ◌≤◌, ◌==◌, if◌then◌else◌, true, false, Option, Some, None, List, [], ◌∷◌, length, get_or, take, drop, IfSome, Result, Ok, Err, refl, ap, sym, ◌∙◌, arith}
 use Rattle.std.specs.List.{AllByRecursion}
 use Rattle.std.specs.List.Sorted.{IsBinarySearchResult, IsNonDecreasingBy, IsSearchInRange}
 use Rattle.std.specs.Ordering.{nat_cmp, ordering_index}
@@ -9,11 +9,9 @@ use Rattle.std.proofs.lemmas.Cmp.{ranked}
 use Rattle.std.proofs.lemmas.Bool.{eq-eqb}
 use Rattle.std.proofs.lemmas.Bool.Decides.{nat_tests}
 use Rattle.channel_sim.specs.declared.calls.call.Call.{Call}
+use Rattle.channel_sim.specs.inner.Beside.{numbers}
 use Rattle.channel_sim.specs.inner.Places.{next_place, place_of}
 use Rattle.channel_sim.specs.Tidy.{AreAbove}
-
-abbrev pub numbers : List Call → List ℕ
-numbers xs = map (λ x. x.number) xs
 
 pub above_other : (a c : ℕ) → c < a → (a == c) ≡ false
 above_other a c h = grind (arith, nat_tests)

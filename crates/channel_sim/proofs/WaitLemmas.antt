@@ -1,15 +1,19 @@
 -- When the next thing happens.
-use Rattle.std.proofs.Common.{◌≡◌, ℕ, zero, suc, ◌+◌, ◌-◌, ◌<◌, ◌≤◌, Option, Some, None, IfSome, List, [], ◌∷◌, ◌++◌, take, drop, sym, subst, arith}
+use Rattle.std.proofs.Common.{◌≡◌, ℕ, zero, suc, ◌+◌, ◌-◌, ◌<◌, ◌≤◌, Option, Some, None, IfSome, List, [], ◌∷◌, drop, sym, subst, arith}
 use Rattle.std.specs.List.{AllByRecursion}
 use Rattle.ivs_machine.specs.IvsStands.{IvsStandsFor}
 use Rattle.ivs_machine.specs.Vehicle.{Vehicle}
 use Rattle.ivs_machine.specs.VehicleRows as vehicle
+use Rattle.trace_model.specs.History.{Sent}
+use Rattle.channel_sim.specs.declared.calls.call.Call as kept_call
 use Rattle.channel_sim.specs.declared.channel.Channel as kept_channel
 use Rattle.channel_sim.specs.World.{Call, World}
-use Rattle.channel_sim.specs.Lag.{LeastPassed, StandsAt}
-use Rattle.channel_sim.specs.Quiet.{CallRests, FramesRest, IsQuietCall, QuietFor, EndsRest, UpRests, DownRests}
+use Rattle.channel_sim.specs.Lag.{LeastPassed, CallsLag, StandsAt}
+use Rattle.channel_sim.specs.Quiet.{CallRests, QuietFor, EndsRest, UpRests, DownRests}
 use Rattle.channel_sim.specs.Tidy.{CallInTime}
+use Rattle.channel_sim.specs.inner.Turns.{WaitsUntil}
 use Rattle.channel_sim.proofs.EndJump.{vehicle_later}
+use Rattle.channel_sim.proofs.WakeLemmas.{call_until}
 
 waits_for : (m n passed next : ℕ) (o : Option ℕ) → IfSome o (λ d. next ≤ passed + d) → (passed + m) + n < next → IfSome o (λ d. m + n < d)
 waits_for m n passed next None h low = tt
@@ -25,13 +29,25 @@ vehicle_waits floor n next due kept w s is within low =
     let later = waits_for (kept.tick - kept.passed) n kept.passed next (vehicle.due_of h.was) (subst (λ o. IfSome o (λ d. next ≤ kept.passed + d)) (is h.was h.stands) within) early in
     subst (λ z. IfSome (vehicle.due_of z) (λ d. n < d)) (sym h.aged) (vehicle_later (kept.tick - kept.passed) n h.was later)
 
-all_one_more : {A : Type 0} (P : A → Type 0) (xs : List A) (x : A) → AllByRecursion P xs → P x → AllByRecursion P (xs ++ x ∷ [])
-all_one_more P [] x h one = (one, tt)
-all_one_more P (y ∷ ys) x h one = (h.0, all_one_more P ys x h.1 one)
+-- where all that is kept does nothing before a tick, all rests up to it
+pub all_until : (floor : LeastPassed) (tick n until : ℕ) (xs : List kept_call.Call) (ks : List Call) → CallsLag floor (λ c. tick) xs ks → AllByRecursion (WaitsUntil until) xs → tick + n < until → AllByRecursion (CallRests n) ks
+all_until floor tick n until [] [] h wait low = tt
+all_until floor tick n until [] (k ∷ ks) h wait low = absurd h
+all_until floor tick n until (x ∷ xs) [] h wait low = absurd h
+all_until floor tick n until (x ∷ xs) (k ∷ ks) h wait low = (call_until floor tick n until x k h.0 wait.0 low, all_until floor tick n until xs ks h.1 wait.1 low)
 
--- one call more
-pub one_call_more : (P : Call → Type 0) (i : ℕ) (ks : List Call) (k : Call) → take (suc i) ks ≡ take i ks ++ k ∷ [] → AllByRecursion P (take i ks) → P k → AllByRecursion P (take (suc i) ks)
-one_call_more P i ks k e all one = subst (AllByRecursion P) (sym e) (all_one_more P (take i ks) k all one)
+-- what holds of the frames that are kept holds of those of the calls: up, and down
+pub up_rests : (floor : LeastPassed) (clock : ℕ → ℕ) (P : List Sent → Type 0) (xs : List kept_call.Call) (ks : List Call) → CallsLag floor clock xs ks → AllByRecursion (λ x. P x.up) xs → AllByRecursion (λ k. P k.up) ks
+up_rests floor clock P [] [] h all = tt
+up_rests floor clock P [] (k ∷ ks) h all = absurd h
+up_rests floor clock P (x ∷ xs) [] h all = absurd h
+up_rests floor clock P (x ∷ xs) (k ∷ ks) h all = (subst P (sym h.0.up) all.0, up_rests floor clock P xs ks h.1 all.1)
+
+pub down_rests : (floor : LeastPassed) (clock : ℕ → ℕ) (P : List Sent → Type 0) (xs : List kept_call.Call) (ks : List Call) → CallsLag floor clock xs ks → AllByRecursion (λ x. P x.down) xs → AllByRecursion (λ k. P k.down) ks
+down_rests floor clock P [] [] h all = tt
+down_rests floor clock P [] (k ∷ ks) h all = absurd h
+down_rests floor clock P (x ∷ xs) [] h all = absurd h
+down_rests floor clock P (x ∷ xs) (k ∷ ks) h all = (subst P (sym h.0.down) all.0, down_rests floor clock P xs ks h.1 all.1)
 
 -- the first behind these is in time
 pub call_in_time_at : (tick i : ℕ) (ks rest : List Call) (k : Call) → drop i ks ≡ k ∷ rest → AllByRecursion (CallInTime tick) ks → CallInTime tick k
@@ -42,12 +58,6 @@ call_in_time_at tick i [] rest k e h = none i e
     none (suc i) e = cc
 call_in_time_at tick zero (x ∷ ks) rest k e h = let same : x ≡ k = cc in subst (CallInTime tick) same h.0
 call_in_time_at tick (suc i) (x ∷ ks) rest k e h = call_in_time_at tick i ks rest k e h.1
-
--- all calls are quiet, each by itself
-pub all_quiet : (n up down tick : ℕ) (ks : List Call) → AllByRecursion (λ k. IsQuietCall n up down tick k) ks → AllByRecursion (CallRests n) ks × AllByRecursion (λ k. FramesRest n up tick k.up) ks × AllByRecursion (λ k. FramesRest n down tick k.down) ks
-all_quiet n up down tick [] h = (tt, tt, tt)
-all_quiet n up down tick (k ∷ ks) h =
-    let rest = all_quiet n up down tick ks h.1 in ((h.0.session, rest.0), (h.0.up, rest.1), (h.0.down, rest.2))
 
 -- up to the first of three ticks it is quiet
 pub quiet_until : (n t first acts up down : ℕ) (w : World) → first ≤ acts → first ≤ up → first ≤ down

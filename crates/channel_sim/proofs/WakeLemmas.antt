@@ -1,18 +1,23 @@
 -- Sessions that are known to do nothing in fewer ticks than so many.
-use Rattle.std.proofs.Common.{◌≡◌, ℕ, ◌+◌, ◌-◌, ◌<◌, ◌≤◌, false, Bool, Option, Some, None, IfSome, List, [], refl, sym, subst, arith}
+use Rattle.std.proofs.Common.{◌≡◌, ℕ, ◌+◌, ◌-◌, ◌<◌, ◌≤◌, zero, suc, false, Bool, Option, Some, None, IfSome, List, [], ◌∷◌, get_or, refl, ap, sym, subst, arith}
+use Rattle.std.proofs.Math.ListN.{set}
 use Rattle.link_frames.specs.declared.note.Note.{Note}
 use Rattle.link_frames.specs.Row.{Row}
 use Rattle.psap_machine.specs.declared.session.Session.{Session}
 use Rattle.psap_machine.specs.Point.{Point}
 use Rattle.psap_machine.specs.PointRows as point
-use Rattle.psap_machine.specs.SessionStands.{SessionStandsFor, AtRest}
+use Rattle.psap_machine.specs.SessionStands.{SessionStandsFor}
 use Rattle.channel_sim.specs.declared.calls.call.Call as kept_call
 use Rattle.channel_sim.specs.World.{Call}
-use Rattle.channel_sim.specs.inner.Acts.{CallDid}
+use Rattle.channel_sim.specs.inner.Acts.{CallDid, SessionDid}
+use Rattle.channel_sim.specs.inner.Beside.{Waits}
+use Rattle.channel_sim.specs.inner.Places.{place_of}
+use Rattle.channel_sim.specs.inner.Turns.{WaitsUntil}
 use Rattle.channel_sim.specs.inner.Seats.{DueLater, IsQuietFor}
-use Rattle.channel_sim.specs.Lag.{LeastPassed, SessionLags, SeatLags, CallLags}
+use Rattle.channel_sim.specs.Lag.{LeastPassed, AreSameBut, SessionLags, SeatLags, CallLags, CallsLag}
+use Rattle.channel_sim.specs.Tidy.{AreAbove, numbers_of}
 use Rattle.channel_sim.specs.Quiet.{SessionRests, CallRests}
-use Rattle.channel_sim.proofs.AsleepLemmas.{due_later}
+use Rattle.channel_sim.proofs.CallsLemmas.{did_at}
 use Rattle.channel_sim.proofs.EndJump.{point_later}
 use Rattle.channel_sim.proofs.LagLemmas.{rested, nobody_acts, session_passed, lags_by}
 
@@ -26,23 +31,36 @@ seat_quiet m n (Some k) (Some s) h later =
       live = h.live;
     }
 
--- a call whose session is quiet for longer rests
-pub call_quiet : (floor : LeastPassed) (tick n quiet : ℕ) (x : kept_call.Call) (k : Call) → CallLags floor tick x k → IsQuietFor quiet x.session → tick + n < x.passed + quiet → CallRests n k
-call_quiet floor tick n quiet x k h known low =
+-- a call whose session does nothing before a tick rests up to it
+pub call_until : (floor : LeastPassed) (tick n until : ℕ) (x : kept_call.Call) (k : Call) → CallLags floor tick x k → WaitsUntil until x → tick + n < until → CallRests n k
+call_until floor tick n until x k h wait low =
     let within : x.passed ≤ tick = h.passed in
-    seat_quiet (tick - x.passed) n x.session k.session h.session (known ((tick - x.passed) + n) (omega arith))
+    seat_quiet (tick - x.passed) n x.session k.session h.session (wait ((tick - x.passed) + n) (omega arith))
 
--- a session that is quiet for longer than up to the next tick does nothing at it
-pub quiet_did : (floor : LeastPassed) (before tick quiet : ℕ) (x : kept_call.Call) (k : Call) → CallLags floor before x k → before + 1 ≡ tick → IsQuietFor quiet x.session → tick - x.passed < quiet → CallDid floor tick false [] x k point.unit_row
-quiet_did floor before tick quiet x k h next known low = at x.session refl
+-- a session that waits up to the next tick does nothing at it
+pub wait_did : (floor : LeastPassed) (before tick : ℕ) (x : kept_call.Call) (k : Call) → CallLags floor before x k → before + 1 ≡ tick → Waits tick x → CallDid floor tick false [] x k point.unit_row
+wait_did floor before tick x k h next wait = at x.session refl
   where
     at : (o : Option Session) → x.session ≡ o → CallDid floor tick false [] x k point.unit_row
     at None e = nobody_acts floor before tick x k point.unit_row h (omega (arith, next)) e
-    at (Some session) e = rested floor before tick x k session h next e (subst (DueLater (tick - x.passed)) e (known (tick - x.passed) low))
+    at (Some session) e = rested floor before tick x k session h next e (subst (DueLater (tick - x.passed)) e wait)
 
--- one that is settled is quiet for any number of ticks
-pub rest_quiet : (quiet : ℕ) (a : Option Session) → AtRest a → IsQuietFor quiet a
-rest_quiet quiet a none = λ n low. due_later n a none
+-- the same of one that is quiet for longer
+pub quiet_did : (floor : LeastPassed) (before tick quiet : ℕ) (x : kept_call.Call) (k : Call) → CallLags floor before x k → before + 1 ≡ tick → IsQuietFor quiet x.session → tick - x.passed < quiet → CallDid floor tick false [] x k point.unit_row
+quiet_did floor before tick quiet x k h next known low = wait_did floor before tick x k h next (known (tick - x.passed) low)
+
+-- the call at a place, written back
+pub written_same : (xs : List kept_call.Call) (i : ℕ) (d : kept_call.Call) → set xs i (get_or xs i d) ≡ xs
+written_same [] i d = refl
+written_same (x ∷ xs) zero d = refl
+written_same (x ∷ xs) (suc i) d = ap (λ ys. x ∷ ys) (written_same xs i d)
+
+-- and of the call at a place among others
+pub waiting_did : (floor : LeastPassed) (before after : ℕ → ℕ) (tick c : ℕ) (xs : List kept_call.Call) (ks : List Call) (i : ℕ) (d : kept_call.Call) → CallsLag floor before xs ks → AreAbove 0 (numbers_of ks) → place_of c (numbers_of ks) ≡ Some i → AreSameBut c before after → before c + 1 ≡ tick → after c ≡ tick → Waits tick (get_or xs i d) → SessionDid floor after false [] xs c point.unit_row ks
+waiting_did floor before after tick c xs ks i d h above place others next passed wait =
+    subst (λ ys. SessionDid floor after false [] ys c point.unit_row ks) (written_same xs i d)
+    (did_at floor before after 0 c point.unit_row false [] xs ks i d (get_or xs i d) h above place others
+    (λ k number lags. subst (λ t. CallDid floor t false [] (get_or xs i d) k point.unit_row) (sym passed) (wait_did floor (before c) tick (get_or xs i d) k lags next wait)))
 
 -- The call that did this, by its equations.
 

@@ -49,9 +49,3 @@ pub record QuietFor (n : ℕ) (w : World) : Type 0 where
   pub ends : EndsRest n w
   pub up : UpRests n w
   pub down : DownRests n w
-
--- in this call nobody acts, and nothing is handed over, in the next n ticks
-pub record IsQuietCall (n up_flow down_flow tick : ℕ) (k : Call) : Type 0 where
-  pub session : CallRests n k
-  pub up : FramesRest n up_flow tick k.up
-  pub down : FramesRest n down_flow tick k.down

@@ -1,9 +1,10 @@
 pub mod Acts
-pub mod Asleep
+pub mod Beside
 pub mod FitAt
 pub mod Happenings
 pub mod Passes
-pub mod Past
 pub mod Places
 pub mod Seats
+pub mod Sendings
 pub mod Sends
+pub mod Turns

@@ -1,13 +1,14 @@
 //! The calls with a leg up, by number.
 
-mod asleep;
 mod call;
-mod counts;
 mod due;
+mod passing;
 mod seat;
+mod sendings;
 mod sessions;
+mod turns;
 
-ghost use Rattle.std.specs.Prelude.{◌≡◌, ◌<◌, ◌++◌, ◌∷◌, ◌-◌, ◌+◌, ℕ, List, [], Option, false, Some, None, OnOk, IfSome, length, map, slice_get, if◌then◌else◌};
+ghost use Rattle.std.specs.Prelude.{◌≡◌, ◌<◌, ◌≤◌, ◌++◌, ◌∷◌, ◌-◌, ◌+◌, ℕ, List, [], Option, true, false, Some, None, OnOk, IfOk, IfSome, length, map, slice_get, if◌then◌else◌};
 ghost use Rattle.std.specs.List.{AllByRecursion};
 ghost use Rattle.std.specs.Option.{option_map};
 ghost use Rattle.trace_fit.specs.Seats.{is_number};
@@ -16,40 +17,46 @@ ghost use Rattle.channel_sim.specs.Lines as lines;
 ghost use Rattle.channel_sim.specs.World as model;
 ghost use Rattle.channel_sim.specs.inner.Acts.{OtherHasLeg};
 ghost use Rattle.channel_sim.specs.Handing.{full};
+ghost use Rattle.channel_sim.specs.Quiet.{FramesRest};
 ghost use Rattle.channel_sim.specs.Lag.{LeastPassed, CallsLag};
-ghost use Rattle.channel_sim.specs.inner.Asleep.{IsActingPart, IsAwakePart, IsLatePart};
+ghost use Rattle.channel_sim.specs.inner.Beside.{WaitsBetween};
 ghost use Rattle.channel_sim.specs.inner.Places.{place_of};
+ghost use Rattle.channel_sim.specs.inner.Sendings.{IsNoted};
+ghost use Rattle.channel_sim.specs.inner.Turns.{IsAmong, Rise, WaitsUntil};
 ghost use Rattle.channel_sim.specs.Tidy.{AreAbove, numbers_of};
 
 use crate::kept::KeptFrame;
-use asleep::count_waiting;
-pub(crate) use asleep::{catch_each_up, catch_waking_each};
 pub(crate) use call::Call;
-use counts::Counts;
 pub use due::Due;
 pub(crate) use due::{all_due, call_due};
 use link_frames::{End, Frame, Note};
+pub(crate) use passing::catch_up;
+use sendings::Sendings;
 pub(crate) use sessions::{act_session, admit, catch_session_up, has_session, hear_session};
 use std::alloc::{AllocError, Global};
 use std::marker::Model;
+use turns::Turns;
 
-/// The calls with a leg up, by number, and how many of the first ones have nothing due.
+/// The calls with a leg up, by number, the turns of those whose sessions aren't settled, and when frames were sent, up
+/// and down.
 #[derive(Drop)]
 pub(crate) struct Calls {
     list: Vec<Call>,
-    counts: Counts,
+    turns: Turns,
+    up: Sendings,
+    down: Sendings,
 }
 
 impl Model for Calls {
     ghost use Rattle.std.specs.Prelude.{List};
     ghost use Rattle.channel_sim.specs.declared.calls.call.Call.{Call};
-    ghost use Rattle.channel_sim.specs.inner.Asleep.{CountsStand};
+    ghost use Rattle.channel_sim.specs.inner.Beside.{CallsStand};
 
     ghost Value = { List Call };
 
     ghost view = { λ s. s.list.items };
 
-    ghost invariant = { λ s. CountsStand s.counts s.list.items };
+    ghost invariant = { λ s. CallsStand s.turns s.up s.down s.list.items };
 }
 
 impl Calls {
@@ -59,7 +66,9 @@ impl Calls {
     {
         Calls {
             list: Vec::new(alloc),
-            counts: Counts::new(),
+            turns: Turns::new(alloc),
+            up: Sendings::new(alloc),
+            down: Sendings::new(alloc),
         }
     }
 
@@ -70,39 +79,56 @@ impl Calls {
         &self.list
     }
 
-    /// All but the first ones, whose sessions do nothing however many ticks pass.
-    pub(crate) fn awake(&self) -> &[Call]
-        ensures { IsAwakePart result.now self.now }
+    /// A tick before which no session does anything; at most `end`.
+    pub(crate) fn act_at(&self, end: u64) -> u64
+        ensures most { result ≤ end }
+        ensures waits { AllByRecursion (WaitsUntil result) self.now }
     {
-        &self.list[self.counts.asleep..]
+        self.turns.least(end)
     }
 
-    /// All but the first ones, whose sessions do nothing however many ticks pass, and in which nothing was sent at this
-    /// tick or later.
-    pub(crate) fn from_tick(&self, tick: u64) -> &[Call]
-        ensures { IsLatePart tick result.now self.now }
+    /// The first call from this number on whose session may do something up to this tick.
+    pub(crate) fn next_acting(&self, from: u64, tick: u64) -> Option<u32>
+        ensures from { IfSome result (λ c. from ≤ c) }
+        ensures others { AllByRecursion (WaitsBetween from result tick) self.now }
     {
-        let front = self.counts.before(tick);
-        &self.list[front..]
+        self.turns.next(from, tick)
     }
 
-    /// Counts which of the first calls need not be looked at behind this tick, while the flows that are on hand frames
-    /// over after at most so many ticks.
-    pub(crate) fn settle(&mut self, tick: u64, flow: u32)
-        ensures { self.new ≡ self.old }
+    /// The tick behind `now` at which a flow hands the next frame over that was sent up, or down; at most `end`.
+    pub(crate) fn hand_at(&self, up: bool, flow: u32, now: u64, near: usize, end: u64) -> u64
+        ensures most { result ≤ end }
+        ensures quiet { (n : ℕ) → now + n < result →
+            AllByRecursion (λ k. FramesRest n flow now (if up then k.up else k.down)) self.now }
     {
-        if self.counts.lags() && flow > 0 {
-            self.counts
-                .settle(&self.list, tick.saturating_sub(u64::from(flow)));
+        if flow == 0 {
+            return end;
+        }
+        let delay = u64::from(flow);
+        let sent = now.saturating_sub(delay - 1);
+        let sendings = if up { &self.up } else { &self.down };
+        match sendings.first_from(sent, near) {
+            Some(tick) => tick.saturating_add(delay).min(end),
+            None => end,
         }
     }
 
-    /// All from the first one on whose session does something at this tick.
-    pub(crate) fn acting(&self, tick: u64) -> &[Call]
-        ensures { IsActingPart tick result.now self.now }
+    /// The calls in which frames were sent up, or down, at this tick, in place of what stood in `numbers`, unless that
+    /// isn't known: whether it is.
+    pub(crate) fn list_sent(
+        &self,
+        up: bool,
+        tick: u64,
+        near: &mut usize,
+        numbers: &mut Vec<u32>,
+    ) -> Result<bool, AllocError>
+        ensures rise { IfOk result (λ known. known ≡ true → Rise numbers.new.items) }
+        ensures all { IfOk result (λ known. known ≡ true → AllByRecursion
+            (λ k. AllByRecursion (λ s. s.tick ≡ tick → IsAmong k.number numbers.new.items)
+            (if up then k.up else k.down)) self.now) }
     {
-        let count = count_waiting(&self.list, self.counts.asleep, tick);
-        &self.list[count..]
+        let sendings = if up { &self.up } else { &self.down };
+        sendings.list_calls(tick, near, numbers)
     }
 }
 
@@ -164,7 +190,10 @@ fn post_frame(
 {
     match find(&calls.list, number) {
         Some(i) => {
-            calls.counts.wake(i);
+            match end {
+                End::Vehicle => calls.up.note(number, tick)?,
+                End::Point => calls.down.note(number, tick)?,
+            }
             calls.list[i].push(alloc, end, tick, frame)
         }
         None => Ok(()),
@@ -198,8 +227,8 @@ pub(crate) fn drop_without_session(calls: &mut Calls, number: u32)
 {
     if let Some(i) = find(&calls.list, number) {
         if calls.list[i].session.is_none() {
-            calls.counts.wake(i);
             drop(calls.list.remove(i));
+            calls.turns.forget(number);
         }
     }
 }
@@ -217,18 +246,34 @@ pub(crate) fn sent_frame(calls: &[Call], up: bool, number: u32, place: usize) ->
     }
 }
 
-/// Adds a call behind the others, in which nothing was sent, and whose session is not there yet.
+/// Adds a call behind the others, in which nothing was sent, and whose session is not there yet. Its number is above
+/// theirs, or else it isn't added.
 pub(crate) fn add_call(
     calls: &mut Calls,
     alloc: Global,
     number: u32,
     passed: u64,
 ) -> Result<(), AllocError>
-    ensures { OnOk result (calls.new ≡ calls.old ++
+    ensures { AreAbove 0 (map (λ k. k.number) calls.old ++ number ∷ []) → OnOk result (calls.new ≡ calls.old ++
         record { number = number; session = None; passed = passed; up = []; down = [] } ∷ []) }
 {
+    if number <= last_number(&calls.list) {
+        return Ok(());
+    }
     calls.list.push(Call::new(alloc, number, passed))?;
     Ok(())
+}
+
+/// The number of the last of these calls, and 0 where there is none: what is above it is above all.
+fn last_number(calls: &[Call]) -> u32
+    ensures above { (c : ℕ) → AreAbove 0 (map (λ k. k.number) calls.now) → result < c →
+        AreAbove 0 (map (λ k. k.number) calls.now ++ c ∷ []) }
+    ensures last { (c : ℕ) → AreAbove 0 (map (λ k. k.number) calls.now ++ c ∷ []) → result < c }
+{
+    match calls.last() {
+        Some(call) => call.number,
+        None => 0,
+    }
 }
 
 /// The numbers of these calls, in order, in place of what stood there.

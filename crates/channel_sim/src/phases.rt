@@ -1,6 +1,7 @@
 //! The parts of elapsed time, for what plays several worlds side by side: it says when each part comes.
 
 use crate::calls::Due;
+use crate::channel::Passing;
 use crate::fault::SimFault;
 use crate::world::World;
 use link_frames::Steps;
@@ -32,7 +33,6 @@ impl World {
     pub fn reach(&mut self, tick: u64)
         ensures { self.new ≡ record self.old { channel = record (self.old.channel) { tick = tick } } }
     {
-        self.channel.settle_calls();
         self.channel.tick = tick;
     }
 
@@ -103,10 +103,7 @@ impl World {
             StandsAt ahead floor clock self.old.channel w → OnOk result
             (map due_of due.new.items ≡ map due_of due.old.items ++ due_in_call up number w) }
     {
-        let mut near = self.room.near.at(up);
-        self.channel.call_due(number, up, due, &mut near)?;
-        self.room.near.set(up, near);
-        Ok(())
+        self.channel.call_due(number, up, due)
     }
 
     /// Hands a frame that is due to the point's session of its call, or to the vehicle, if that end is in this call.
@@ -144,6 +141,7 @@ impl World {
             ticks_reached self.old < floor.waking + 2 ^ 32 → ticks_reached self.old < floor.settled + 2 ^ 32 →
             moments.new ≤ moments.old + model.ends w }
     {
-        self.channel.catch_all_up(&mut self.room.given.own, moments);
+        self.channel
+            .catch_up(Passing::All, &mut self.room.given.own, moments);
     }
 }

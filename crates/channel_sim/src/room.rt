@@ -13,25 +13,45 @@ pub(crate) struct Given {
     pub(crate) other: Items,
 }
 
-/// The place among the frames sent up, and down, behind those that were handed over last: the next ones are near.
-#[derive(Drop)]
+/// Places near to which the next frames that a flow hands over stand: among all that were sent in its direction, and in
+/// a call.
+#[derive(Clone, Copy)]
 pub(crate) struct Near {
-    pub(crate) up: usize,
-    pub(crate) down: usize,
+    pub(crate) sending: usize,
+    pub(crate) frame: usize,
 }
 
-impl Near {
-    /// The place for the frames sent up, or down.
-    pub(crate) fn at(&self, up: bool) -> usize {
+/// Those for the frames sent up, and down.
+#[derive(Clone, Copy)]
+pub(crate) struct Nears {
+    pub(crate) up: Near,
+    pub(crate) down: Near,
+}
+
+impl Nears {
+    /// At the start of both.
+    fn start() -> Nears {
+        let near = Near {
+            sending: 0,
+            frame: 0,
+        };
+        Nears {
+            up: near,
+            down: near,
+        }
+    }
+
+    /// Those for the frames sent up, or down.
+    pub(crate) fn at(&self, up: bool) -> Near {
         if up { self.up } else { self.down }
     }
 
-    /// The place for the frames sent up, or down, is this one.
-    pub(crate) fn set(&mut self, up: bool, place: usize) {
+    /// Those for the frames sent up, or down, are these from now on.
+    pub(crate) fn set(&mut self, up: bool, near: Near) {
         if up {
-            self.up = place;
+            self.up = near;
         } else {
-            self.down = place;
+            self.down = near;
         }
     }
 }
@@ -42,7 +62,7 @@ pub(crate) struct Room {
     pub(crate) given: Given,
     pub(crate) numbers: Vec<u32>,
     pub(crate) due: Vec<Due>,
-    pub(crate) near: Near,
+    pub(crate) near: Nears,
 }
 
 impl Room {
@@ -55,7 +75,7 @@ impl Room {
             },
             numbers: Vec::new(alloc),
             due: Vec::new(alloc),
-            near: Near { up: 0, down: 0 },
+            near: Nears::start(),
         }
     }
 }

@@ -1,6 +1,6 @@
 //! The frames sent in one direction of a call.
 
-ghost use Rattle.std.specs.Prelude.{◌≡◌, ◌≤◌, ◌<◌, ◌+◌, ◌++◌, ◌∷◌, [], true, false, OnOk, length, map, slice_get, take, drop, ltb};
+ghost use Rattle.std.specs.Prelude.{◌≡◌, ◌≤◌, ◌<◌, ◌+◌, ◌++◌, ◌∷◌, [], true, false, OnOk, OnErr, length, map, slice_get, take, drop, ltb};
 ghost use Rattle.std.specs.List.{AllByRecursion};
 ghost use Rattle.std.specs.Option.{option_map};
 ghost use Rattle.channel_sim.specs.inner.Sends.{IsFirstFrom};
@@ -26,21 +26,16 @@ pub(crate) struct KeptSent {
 pub struct Sends {
     frames: Vec<KeptSent>,
     last: Option<Rc<[u8; OCTETS]>>,
-    /// No frame was sent later than at this tick.
-    newest: u64,
 }
 
 impl Model for Sends {
-    ghost use Rattle.std.specs.Prelude.{List, map, ◌≤◌};
-    ghost use Rattle.std.specs.List.{AllByRecursion};
+    ghost use Rattle.std.specs.Prelude.{List, map};
     ghost use Rattle.trace_model.specs.History.{Sent};
     ghost use Rattle.channel_sim.specs.Sends.{sent_of};
 
     ghost Value = { List Sent };
 
     ghost view = { λ s. map sent_of s.frames.items };
-
-    ghost invariant = { λ s. AllByRecursion (λ (x : Sent). x.tick ≤ s.newest) (map sent_of s.frames.items) };
 }
 
 impl Sends {
@@ -51,15 +46,7 @@ impl Sends {
         Sends {
             frames: Vec::new(alloc),
             last: None,
-            newest: 0,
         }
-    }
-
-    /// A tick later than which no frame was sent.
-    pub(crate) fn newest(&self) -> u64
-        ensures { AllByRecursion (λ s. s.tick ≤ result) self.now }
-    {
-        self.newest
     }
 
     /// How many frames were sent.
@@ -93,95 +80,23 @@ impl Sends {
 
     /// A frame was sent at this tick.
     pub fn push(&mut self, alloc: Global, tick: u64, frame: &Frame) -> Result<(), AllocError>
-        ensures { OnOk result (self.new ≡ self.old ++ record { tick = tick; frame = frame.now } ∷ []) }
+        ensures ok { OnOk result (self.new ≡ self.old ++ record { tick = tick; frame = frame.now } ∷ []) }
+        ensures err { OnErr result (self.new ≡ self.old) }
     {
         let kept = kept_frame(&mut self.last, alloc, frame)?;
         self.frames.push(KeptSent { tick, frame: kept })?;
-        self.newest = self.newest.max(tick);
         Ok(())
     }
 
-    /// The place of the first frame that was sent at this tick or later, found the sooner the less it is behind `near`.
-    pub(crate) fn first_from(&self, tick: u64, near: usize) -> usize
+    /// The place of the first frame that was sent at this tick or later.
+    pub(crate) fn first_from(&self, tick: u64) -> usize
         ensures within { result ≤ length self.now }
         ensures first { AreFrom 0 (ticks_of self.now) → IsFirstFrom tick result (ticks_of self.now) }
     {
-        first_place(&self.frames, tick, near)
-    }
-}
-
-/// Whether there is a frame at this place, and it was sent earlier than at this tick.
-fn is_earlier(frames: &[KeptSent], place: usize, tick: u64) -> bool
-    ensures within { result ≡ true → place < length frames.now }
-    ensures front { result ≡ true → AreFrom 0 (map (λ s. s.tick) frames.now) →
-        AllByRecursion (λ t. t < tick) (take (place + 1) (map (λ s. s.tick) frames.now)) }
-    ensures behind { result ≡ false → AreFrom 0 (map (λ s. s.tick) frames.now) →
-        AllByRecursion (λ t. tick ≤ t) (drop place (map (λ s. s.tick) frames.now)) }
-{
-    if place >= frames.len() {
-        return false;
-    }
-    frames[place].tick < tick
-}
-
-/// Whether the first frame that was sent at this tick or later is at this place, or this place is behind all.
-fn is_first(frames: &[KeptSent], place: usize, tick: u64) -> bool
-    ensures within { result ≡ true → place ≤ length frames.now }
-    ensures first { result ≡ true → AreFrom 0 (map (λ s. s.tick) frames.now) →
-        IsFirstFrom tick place (map (λ s. s.tick) frames.now) }
-{
-    if place > 0 && !is_earlier(frames, place - 1, tick) {
-        return false;
-    }
-    !is_earlier(frames, place, tick)
-}
-
-/// A place in front of which all were sent earlier than at this tick: `near`, or else the start.
-fn begin_at(frames: &[KeptSent], tick: u64, near: usize) -> usize
-    ensures within { result ≤ length frames.now }
-    ensures front { AreFrom 0 (map (λ s. s.tick) frames.now) →
-        AllByRecursion (λ t. t < tick) (take result (map (λ s. s.tick) frames.now)) }
-{
-    if near == 0 {
-        return 0;
-    }
-    if is_earlier(frames, near - 1, tick) {
-        return near;
-    }
-    0
-}
-
-/// The place of the first of these that was sent at this tick or later, by halves. Out of line, since it is nearly
-/// always at `near`, behind all, or in front of them.
-#[cold]
-#[inline(never)]
-fn search_place(frames: &[KeptSent], tick: u64, near: usize) -> usize
-    ensures within { result ≤ length frames.now }
-    ensures first { AreFrom 0 (map (λ s. s.tick) frames.now) → IsFirstFrom tick result (map (λ s. s.tick) frames.now) }
-{
-    let begin = begin_at(frames, tick, near);
-    begin
-        + frames[begin..].partition_point(
+        self.frames.partition_point(
             |sent: &KeptSent| -> bool
                 ensures { result ≡ ltb sent.now.tick tick }
             { sent.tick < tick },
         )
-}
-
-/// The place of the first of these that was sent at this tick or later.
-fn first_place(frames: &[KeptSent], tick: u64, near: usize) -> usize
-    ensures within { result ≤ length frames.now }
-    ensures first { AreFrom 0 (map (λ s. s.tick) frames.now) → IsFirstFrom tick result (map (λ s. s.tick) frames.now) }
-{
-    if is_first(frames, near, tick) {
-        return near;
     }
-    let count = frames.len();
-    if is_first(frames, count, tick) {
-        return count;
-    }
-    if is_first(frames, 0, tick) {
-        return 0;
-    }
-    search_place(frames, tick, near)
 }

@@ -46,6 +46,11 @@ abbrev pub IfAll : Passing → Type 0 → Type 0
 IfAll passing.All Holds = Holds
 IfAll passing.Waking Holds = Unit {0}
 
+-- where only those are passed that aren't settled, this holds
+abbrev pub IfWaking : Passing → Type 0 → Type 0
+IfWaking passing.All Holds = Unit {0}
+IfWaking passing.Waking Holds = Holds
+
 -- a happening that may draw a call number
 abbrev pub DrawsCall : Happening → Type 0
 DrawsCall happening.Answer = Unit {0}

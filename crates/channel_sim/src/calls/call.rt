@@ -1,6 +1,6 @@
 //! A call with a leg up, and what its session does.
 
-ghost use Rattle.std.specs.Prelude.{◌≡◌, ◌≤◌, ◌<◌, ◌-◌, ◌+◌, ◌↔◌, ℕ, IsTrue, [], Option, true, false, Some, None, OnOk, length, slice_get, if◌then◌else◌, ◌^◌};
+ghost use Rattle.std.specs.Prelude.{◌≡◌, ◌≤◌, ◌<◌, ◌-◌, ◌+◌, ◌↔◌, ℕ, IsTrue, [], Option, true, false, Some, None, OnOk, OnErr, length, slice_get, if◌then◌else◌, ◌^◌};
 ghost use Rattle.std.specs.Option.{is_some, option_map};
 ghost use Rattle.psap_machine.specs.Point.{Point};
 ghost use Rattle.psap_machine.specs.PointRows as point;
@@ -8,8 +8,8 @@ ghost use Rattle.channel_sim.specs.World as model;
 ghost use Rattle.channel_sim.specs.inner.Acts.{pushed, CallDid, IsUpTo};
 ghost use Rattle.channel_sim.specs.Handing.{full};
 ghost use Rattle.channel_sim.specs.Lag.{LeastPassed, CallLags};
-ghost use Rattle.channel_sim.specs.inner.Asleep.{Sleeps};
-ghost use Rattle.channel_sim.specs.inner.Past.{IsPast};
+ghost use Rattle.channel_sim.specs.inner.Beside.{Waits};
+ghost use Rattle.channel_sim.specs.inner.Turns.{Sleeps, WaitsUntil};
 ghost use Rattle.channel_sim.specs.inner.Passes.{once_if};
 
 use super::seat::{Seat, quiet_ticks};
@@ -54,19 +54,13 @@ impl Call {
         tick: u64,
         frame: &Frame,
     ) -> Result<(), AllocError>
-        ensures { OnOk result (self.new ≡ pushed end (record { tick = tick; frame = frame.now }) self.old) }
+        ensures ok { OnOk result (self.new ≡ pushed end (record { tick = tick; frame = frame.now }) self.old) }
+        ensures err { OnErr result (self.new ≡ self.old) }
     {
         match end {
             End::Vehicle => self.up.push(alloc, tick, frame),
             End::Point => self.down.push(alloc, tick, frame),
         }
-    }
-
-    /// A tick later than which no frame was sent.
-    pub(super) fn newest(&self) -> u64
-        ensures { IsPast result self.now }
-    {
-        self.up.newest().max(self.down.newest())
     }
 
     /// The frames sent up, or down.
@@ -127,12 +121,7 @@ pub(super) fn hear_call(
 }
 
 /// Passes a call's session up to a tick, up to which it does nothing. `items` is room.
-pub(crate) fn catch_up<L: Ledger>(
-    call: &mut Call,
-    tick: u64,
-    items: &mut Items,
-    moments: &mut Steps<L>,
-)
+fn catch_up<L: Ledger>(call: &mut Call, tick: u64, items: &mut Items, moments: &mut Steps<L>)
     ensures same { call.new ≡ record call.old { session = call.new.session; passed = tick } }
     ensures caught { (floor : LeastPassed) (k : model.Call) → CallLags floor tick call.old k →
         CallLags floor tick call.new k }
@@ -150,7 +139,7 @@ pub(crate) fn catch_up<L: Ledger>(
 }
 
 /// The same, but a session that is settled stays as it is. `items` is room.
-pub(crate) fn catch_waking_up<L: Ledger>(
+pub(super) fn catch_waking_up<L: Ledger>(
     call: &mut Call,
     tick: u64,
     items: &mut Items,
@@ -158,6 +147,7 @@ pub(crate) fn catch_waking_up<L: Ledger>(
 )
     ensures same { call.new ≡ record call.old { session = call.new.session; passed = call.new.passed } }
     ensures reached { IsUpTo tick call.new }
+    ensures asleep { Sleeps call.old → call.new ≡ call.old }
     ensures caught { (floor : LeastPassed) (k : model.Call) → CallLags floor tick call.old k →
         CallLags floor tick call.new k }
     ensures passes { (floor : LeastPassed) (k : model.Call) → CallLags floor tick call.old k →
@@ -179,9 +169,23 @@ pub(super) fn sleeps(call: &Call) -> bool
     }
 }
 
+/// A tick before which the session of this call, if it is there, does nothing.
+pub(super) fn acts_from(call: &Call) -> u64
+    ensures { WaitsUntil result call.now }
+{
+    call.passed.saturating_add(call.session.quiet())
+}
+
+/// Whether the session of this call, if it is there, does nothing up to this tick.
+pub(super) fn waits(call: &Call, tick: u64) -> bool
+    ensures { result ≡ true → Waits tick call.now }
+{
+    tick.saturating_sub(call.passed) < call.session.quiet()
+}
+
 /// Passes a call's session, which is settled, up to a tick.
 #[inline]
-pub(super) fn rest_up<L: Ledger>(call: &mut Call, tick: u64, moments: &mut Steps<L>)
+fn rest_up<L: Ledger>(call: &mut Call, tick: u64, moments: &mut Steps<L>)
     requires { Sleeps call.old }
     ensures same { call.new ≡ record call.old { session = call.new.session; passed = tick } }
     ensures asleep { Sleeps call.new }
@@ -194,6 +198,27 @@ pub(super) fn rest_up<L: Ledger>(call: &mut Call, tick: u64, moments: &mut Steps
         rest_by(session, tick.saturating_sub(call.passed), moments);
     }
     call.passed = tick;
+}
+
+/// Passes a call's session up to a tick, up to which it does nothing; one that is settled stays so. `items` is room.
+pub(super) fn pass_up<L: Ledger>(
+    call: &mut Call,
+    tick: u64,
+    items: &mut Items,
+    moments: &mut Steps<L>,
+)
+    ensures same { call.new ≡ record call.old { session = call.new.session; passed = tick } }
+    ensures asleep { Sleeps call.old → Sleeps call.new }
+    ensures caught { (floor : LeastPassed) (k : model.Call) → CallLags floor tick call.old k →
+        CallLags floor tick call.new k }
+    ensures passes { (floor : LeastPassed) (k : model.Call) → CallLags floor tick call.old k →
+        tick < call.old.passed + 2 ^ 32 → moments.new ≤ moments.old + once_if k.session }
+{
+    if sleeps(call) {
+        rest_up(call, tick, moments);
+    } else {
+        catch_up(call, tick, items, moments);
+    }
 }
 
 /// Passes a call's session up to this tick, if it does something at it, and one that is over is gone: whether it did.

@@ -1,17 +1,19 @@
 //! The frames of calls that a flow hands over at a tick.
 
-ghost use Rattle.std.specs.Prelude.{◌≡◌, ◌<◌, ◌++◌, ◌∷◌, [], ◌-◌, ◌+◌, ℕ, suc, List, Option, Some, OnOk, map};
+ghost use Rattle.std.specs.Prelude.{◌≡◌, ◌<◌, ◌++◌, ◌∷◌, [], ◌-◌, ◌+◌, ℕ, suc, List, Option, true, Some, OnOk, map, if◌then◌else◌};
 ghost use Rattle.std.specs.List.{AllByRecursion};
 ghost use Rattle.std.specs.Option.{option_map};
 ghost use Rattle.channel_sim.specs.World as model;
 ghost use Rattle.channel_sim.specs.inner.Acts.{due_by};
 ghost use Rattle.channel_sim.specs.Handing.{due_of, sent_way, full};
 ghost use Rattle.channel_sim.specs.Lag.{LeastPassed, CallLags, CallsLag};
-ghost use Rattle.channel_sim.specs.Tidy.{AreFrom, ticks_of, CallInTime};
+ghost use Rattle.channel_sim.specs.Tidy.{AreAbove, AreFrom, ticks_of, CallInTime, numbers_of};
 ghost use Rattle.channel_sim.specs.inner.Sends.{IsFirstFrom};
+ghost use Rattle.channel_sim.specs.inner.Turns.{IsAmong, Rise};
 
-use super::{Call, Calls};
+use super::{Call, Calls, find};
 use crate::kept::KeptFrame;
+use crate::room::Near;
 use crate::sends::Sends;
 use std::alloc::AllocError;
 
@@ -59,6 +61,27 @@ fn add_from(
     Ok(sends.len())
 }
 
+/// Whether the first frame that was sent at this tick is at this place.
+fn begins_at(sends: &Sends, tick: u64, place: usize) -> bool
+    ensures { result ≡ true → AreFrom 0 (ticks_of sends.now) → IsFirstFrom tick place (ticks_of sends.now) }
+{
+    sends.tick(place) == Some(tick) && (place == 0 || sends.tick(place - 1) != Some(tick))
+}
+
+/// The place of the first frame that was sent at this tick or later: nearly always at `near`, or the last one.
+fn first_from(sends: &Sends, tick: u64, near: usize) -> usize
+    ensures { AreFrom 0 (ticks_of sends.now) → IsFirstFrom tick result (ticks_of sends.now) }
+{
+    if begins_at(sends, tick, near) {
+        return near;
+    }
+    let last = sends.len().saturating_sub(1);
+    if begins_at(sends, tick, last) {
+        return last;
+    }
+    sends.first_from(tick)
+}
+
 /// Adds the frames of a call that were sent at this tick. `near` becomes the place behind them, where the next ones
 /// are.
 fn add_due(
@@ -72,11 +95,7 @@ fn add_due(
         (map due_of due.new.items ≡ map due_of due.old.items ++ model.due_frames number delay
         (tick + delay) sends.now) }
 {
-    let first = sends.first_from(tick, *near);
-    *near = first;
-    if sends.tick(first) != Some(tick) {
-        return Ok(());
-    }
+    let first = first_from(sends, tick, *near);
     *near = add_from(due, number, sends, tick, first)?;
     Ok(())
 }
@@ -100,6 +119,31 @@ fn add_all_due(
     Ok(())
 }
 
+/// Adds the frames that were sent up, or down, at this tick in those of these calls that have one of these numbers,
+/// which rise.
+fn add_listed_due(
+    due: &mut Vec<Due>,
+    calls: &[Call],
+    numbers: &[u32],
+    up: bool,
+    tick: u64,
+    near: &mut usize,
+) -> Result<(), AllocError>
+    ensures { (d : ℕ) (floor : LeastPassed) (now : ℕ) (clock : ℕ → ℕ) (ks : List model.Call) →
+        CallsLag floor clock calls.now ks → AreAbove 0 (numbers_of ks) →
+        AllByRecursion (CallInTime now) ks → Rise numbers.now →
+        AllByRecursion (λ k. AllByRecursion (λ s. s.tick ≡ tick → IsAmong k.number numbers.now)
+        (if up then k.up else k.down)) calls.now → OnOk result
+        (map due_of due.new.items ≡ map due_of due.old.items ++ model.due_in (sent_way up) (suc d) (tick + suc d) ks) }
+{
+    for number in numbers {
+        if let Some(i) = find(calls, *number) {
+            add_due(due, *number, calls[i].sends(up), tick, near)?;
+        }
+    }
+    Ok(())
+}
+
 /// Adds the frames of a call that a flow up, or down, hands over now.
 pub(crate) fn call_due(
     due: &mut Vec<Due>,
@@ -107,7 +151,6 @@ pub(crate) fn call_due(
     up: bool,
     flow: u32,
     now: u64,
-    near: &mut usize,
 ) -> Result<(), AllocError>
     ensures { (floor : LeastPassed) (clock : ℕ) (k : model.Call) → CallLags floor clock call.now k → CallInTime now k →
         OnOk result
@@ -117,10 +160,11 @@ pub(crate) fn call_due(
     if flow == 0 || now < delay {
         return Ok(());
     }
-    add_due(due, call.number, call.sends(up), now - delay, near)
+    let mut near = 0;
+    add_due(due, call.number, call.sends(up), now - delay, &mut near)
 }
 
-/// The frames of these calls that a flow up, or down, hands over now, in place of what stood there.
+/// The frames of these calls that a flow up, or down, hands over now, in place of what stood there. `numbers` is room.
 #[inline(always)]
 pub(crate) fn all_due(
     calls: &Calls,
@@ -128,9 +172,11 @@ pub(crate) fn all_due(
     flow: u32,
     now: u64,
     due: &mut Vec<Due>,
-    near: &mut usize,
+    numbers: &mut Vec<u32>,
+    near: &mut Near,
 ) -> Result<(), AllocError>
     ensures { (floor : LeastPassed) (clock : ℕ → ℕ) (ks : List model.Call) → CallsLag floor clock calls.now ks →
+        AreAbove 0 (numbers_of ks) →
         AllByRecursion (CallInTime now) ks →
         OnOk result (map due_of due.new.items ≡ model.due_in (sent_way up) flow now ks) }
 {
@@ -140,6 +186,10 @@ pub(crate) fn all_due(
         return Ok(());
     }
     let sent = now - delay;
-    add_all_due(due, calls.from_tick(sent), up, sent, near)?;
+    if calls.list_sent(up, sent, &mut near.sending, numbers)? {
+        add_listed_due(due, calls.all(), numbers, up, sent, &mut near.frame)?;
+    } else {
+        add_all_due(due, calls.all(), up, sent, &mut near.frame)?;
+    }
     Ok(())
 }

@@ -1,6 +1,6 @@
 //! The session of the call of a number, among calls.
 
-ghost use Rattle.std.specs.Prelude.{◌≡◌, ◌≤◌, ◌<◌, ◌-◌, ◌+◌, ℕ, List, [], false, Some, None, length, ◌^◌};
+ghost use Rattle.std.specs.Prelude.{◌≡◌, ◌≤◌, ◌<◌, ◌-◌, ◌+◌, ℕ, List, [], false, Some, None, OnOk, OnErr, IfOk, length, ◌^◌};
 ghost use Rattle.std.specs.Option.{is_some};
 ghost use Rattle.psap_machine.specs.Point.{Point};
 ghost use Rattle.trace_fit.specs.Seats.{left_by};
@@ -12,11 +12,12 @@ ghost use Rattle.channel_sim.specs.Lag.{LeastPassed, AreSameBut, CallsLag, level
 ghost use Rattle.channel_sim.specs.Tidy.{AreAbove, numbers_of};
 ghost use Rattle.channel_sim.specs.inner.Passes.{once_if};
 
-use super::call::{act_at, catch_waking_up, hear_call};
+use super::call::{act_at, acts_from, catch_waking_up, hear_call, waits};
 use super::seat::Seat;
 use super::{Call, Calls, find};
 use link_frames::{Items, Steps, Why, no_items};
 use psap_machine::{PointEvent, Session};
+use std::alloc::AllocError;
 use std::sync::ledger::Ledger;
 
 /// Whether a call's session is there.
@@ -32,18 +33,25 @@ pub(crate) fn has_session(calls: &[Call], number: u32) -> bool
 }
 
 /// A session comes up in the call of a number, at a tick.
-pub(crate) fn admit(calls: &mut Calls, number: u32, tick: u64, session: Session)
+pub(crate) fn admit(
+    calls: &mut Calls,
+    number: u32,
+    tick: u64,
+    session: Session,
+) -> Result<(), AllocError>
     ensures { (settled : ℕ) (s : Point) (ks : List model.Call) →
         CallsLag (level settled tick) (λ c. tick) calls.old ks →
         AreAbove 0 (numbers_of ks) → SessionStandsFor session s → left_by s ≡ Some s →
-        CallsLag (level settled tick) (λ c. tick) calls.new (model.seated number (Some s) ks) }
+        OnOk result (CallsLag (level settled tick) (λ c. tick) calls.new (model.seated number (Some s) ks)) }
 {
     if let Some(i) = find(&calls.list, number) {
-        calls.counts.wake(i);
+        let turn = calls.turns.wake(number)?;
         let call = &mut calls.list[i];
         call.session = Seat::of(session);
         call.passed = tick;
+        calls.turns.note(turn, acts_from(&calls.list[i]));
     }
+    Ok(())
 }
 
 /// The session of a call hears this at a tick, and one that is over is gone: whether it is there. Its items stand in
@@ -54,27 +62,29 @@ pub(crate) fn hear_session(
     tick: u64,
     event: &PointEvent<'_>,
     items: &mut Items,
-) -> bool
+) -> Result<bool, AllocError>
     ensures variant { (floor : LeastPassed) (clock : ℕ → ℕ) (ks : List model.Call) →
         CallsLag floor clock calls.old ks → AreAbove 0 (numbers_of ks) →
-        result ≡ is_some (model.session_of number ks) }
+        IfOk result (λ there. there ≡ is_some (model.session_of number ks)) }
     ensures did { (floor : LeastPassed) (clock : ℕ → ℕ) (ks : List model.Call) → CallsLag floor clock calls.old ks →
         AreAbove 0 (numbers_of ks) → floor.waking ≤ tick → clock number ≡ tick → IsCaught clock number calls.old →
-        SessionDid floor clock result items.new.items calls.new number
-        (λ s. point.point_row s (point.heard event.now)) ks }
+        IfOk result (λ there. SessionDid floor clock there items.new.items calls.new number
+        (λ s. point.point_row s (point.heard event.now)) ks) }
     ensures ended { (floor : LeastPassed) (clock : ℕ → ℕ) (ks : List model.Call) → CallsLag floor clock calls.old ks →
         AreAbove 0 (numbers_of ks) → event.now ≡ PointEvent.Ended Why.Release →
-        SessionDid floor clock result items.new.items calls.new number
-        (λ s. point.point_row s (point.Ended Why.Release)) ks }
+        IfOk result (λ there. SessionDid floor clock there items.new.items calls.new number
+        (λ s. point.point_row s (point.Ended Why.Release)) ks) }
 {
     match find(&calls.list, number) {
         Some(i) => {
-            calls.counts.wake(i);
-            hear_call(&mut calls.list[i], tick, event, items)
+            let turn = calls.turns.wake(number)?;
+            let there = hear_call(&mut calls.list[i], tick, event, items);
+            calls.turns.note(turn, acts_from(&calls.list[i]));
+            Ok(there)
         }
         None => {
             no_items(items);
-            false
+            Ok(false)
         }
     }
 }
@@ -88,26 +98,29 @@ pub(crate) fn act_session<L: Ledger>(
     tick: u64,
     items: &mut Items,
     moments: &mut Steps<L>,
-) -> bool
+) -> Result<bool, AllocError>
     ensures did { (floor : LeastPassed) (before after : ℕ → ℕ) (ks : List model.Call) →
         CallsLag floor before calls.old ks → AreAbove 0 (numbers_of ks) → before number + 1 ≡ tick →
         after number ≡ tick → AreSameBut number before after →
-        SessionDid floor after result items.new.items calls.new number point.unit_row ks }
-    ensures none { result ≡ false → items.new.items ≡ [] }
+        IfOk result (λ done. SessionDid floor after done items.new.items calls.new number point.unit_row ks) }
+    ensures none { IfOk result (λ done. done ≡ false → items.new.items ≡ []) }
     ensures passes { (floor : LeastPassed) (before : ℕ → ℕ) (ks : List model.Call) →
         CallsLag floor before calls.old ks → AreAbove 0 (numbers_of ks) →
-        moments.new ≤ moments.old + length items.new.items }
+        OnOk result (moments.new ≤ moments.old + length items.new.items) }
+    ensures err { OnErr result (moments.new ≡ moments.old) }
 {
-    match find(&calls.list, number) {
-        Some(i) => {
-            calls.counts.wake(i);
-            act_at(&mut calls.list[i], tick, items, moments)
-        }
-        None => {
-            no_items(items);
-            false
-        }
+    let Some(i) = find(&calls.list, number) else {
+        no_items(items);
+        return Ok(false);
+    };
+    if waits(&calls.list[i], tick) {
+        no_items(items);
+        return Ok(false);
     }
+    let turn = calls.turns.wake(number)?;
+    let done = act_at(&mut calls.list[i], tick, items, moments);
+    calls.turns.note(turn, acts_from(&calls.list[i]));
+    Ok(done)
 }
 
 /// Passes the session of a call up to this tick, up to which it does nothing; one that is settled stays as it is.
@@ -118,17 +131,20 @@ pub(crate) fn catch_session_up<L: Ledger>(
     tick: u64,
     items: &mut Items,
     moments: &mut Steps<L>,
-)
+) -> Result<(), AllocError>
     ensures lags { (floor : LeastPassed) (ks : List model.Call) → CallsLag floor (λ c. tick) calls.old ks →
-        AreAbove 0 (numbers_of ks) → CallsLag floor (λ c. tick) calls.new ks }
+        AreAbove 0 (numbers_of ks) → OnOk result (CallsLag floor (λ c. tick) calls.new ks) }
     ensures caught { (floor : LeastPassed) (ks : List model.Call) → CallsLag floor (λ c. tick) calls.old ks →
-        AreAbove 0 (numbers_of ks) → IsCaught (λ c. tick) number calls.new }
+        AreAbove 0 (numbers_of ks) → OnOk result (IsCaught (λ c. tick) number calls.new) }
     ensures passes { (floor : LeastPassed) (ks : List model.Call) → CallsLag floor (λ c. tick) calls.old ks →
         AreAbove 0 (numbers_of ks) → tick < floor.waking + 2 ^ 32 → moments.new ≤ moments.old + once_if
         (model.session_of number ks) }
+    ensures err { OnErr result (moments.new ≡ moments.old) }
 {
     if let Some(i) = find(&calls.list, number) {
-        calls.counts.wake(i);
+        let turn = calls.turns.wake(number)?;
         catch_waking_up(&mut calls.list[i], tick, items, moments);
+        calls.turns.note(turn, acts_from(&calls.list[i]));
     }
+    Ok(())
 }

@@ -172,7 +172,7 @@ impl Channel {
         ensures passed { self.new.passed ≡ self.old.passed }
     {
         let event = PointEvent::Ended(Why::Release);
-        if hear_session(&mut self.calls, number, self.tick, &event, items) {
+        if hear_session(&mut self.calls, number, self.tick, &event, items)? {
             self.did(alloc, items.as_slice(), Some(number), to)
         } else {
             Ok(())
@@ -204,7 +204,7 @@ impl Channel {
         ensures still { self.old.passed ≡ self.old.tick → (self.new.passed ≡ self.new.tick)
             × (moments.new ≡ moments.old) }
     {
-        if hear_session(&mut self.calls, number, self.tick, event, &mut given.own) {
+        if hear_session(&mut self.calls, number, self.tick, event, &mut given.own)? {
             let items = given.own.as_slice();
             self.settles(alloc, items, &mut given.other, Some(number), to, moments)
         } else {

@@ -55,7 +55,7 @@ impl Channel {
         ensures faults { CountsFaults result (H.faults to.old) (H.faults to.new) }
         ensures still { self.old.passed ≡ self.old.tick → moments.new ≡ moments.old }
     {
-        if hear_session(&mut self.calls, number, self.tick, event, &mut given.own) {
+        if hear_session(&mut self.calls, number, self.tick, event, &mut given.own)? {
             let items = given.own.as_slice();
             self.settles(alloc, items, &mut given.other, Some(number), to, moments)
         } else {
@@ -210,7 +210,7 @@ impl Channel {
         add_call(&mut self.calls, alloc, number, tick)?;
         self.vehicle.hear_into(event, &mut given.own);
         self.did(alloc, given.own.as_slice(), Some(number), to)?;
-        admit(&mut self.calls, number, tick, session);
+        admit(&mut self.calls, number, tick, session)?;
         self.did(alloc, given.other.as_slice(), Some(number), to)
     }
 

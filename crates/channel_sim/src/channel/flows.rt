@@ -4,7 +4,7 @@ use super::Channel;
 use crate::calls::{Due, all_due, call_due, catch_session_up, find};
 use crate::fault::SimFault;
 use crate::kept::KeptFrame;
-use crate::room::{Given, Room};
+use crate::room::{Given, Near, Room};
 use ivs_machine::VehicleEvent;
 use link_frames::Steps;
 use psap_machine::PointEvent;
@@ -30,12 +30,26 @@ impl Channel {
 
     /// The frames that the flow up, or down, hands over at this tick, in place of what stood there.
     #[inline(always)]
-    fn list_due(&self, up: bool, due: &mut Vec<Due>, near: &mut usize) -> Result<(), AllocError>
+    fn list_due(
+        &self,
+        up: bool,
+        due: &mut Vec<Due>,
+        numbers: &mut Vec<u32>,
+        near: &mut Near,
+    ) -> Result<(), AllocError>
         ensures { (ahead : ℕ) (floor : LeastPassed) (w : model.World) → StandsAt ahead floor (λ c. ahead) self.now w →
             OnOk result
             (map due_of due.new.items ≡ model.due_in (sent_way up) (flow_way up w) w.tick w.calls) }
     {
-        all_due(&self.calls, up, self.flow(up), self.tick, due, near)
+        all_due(
+            &self.calls,
+            up,
+            self.flow(up),
+            self.tick,
+            due,
+            numbers,
+            near,
+        )
     }
 
     /// Adds the frames of a call that its flow up, or down, hands over at this tick.
@@ -44,7 +58,6 @@ impl Channel {
         number: u32,
         up: bool,
         due: &mut Vec<Due>,
-        near: &mut usize,
     ) -> Result<(), AllocError>
         ensures { (ahead : ℕ) (floor : LeastPassed) (clock : ℕ → ℕ) (w : model.World) →
             StandsAt ahead floor clock self.now w →
@@ -52,7 +65,7 @@ impl Channel {
     {
         let calls = self.calls.all();
         match find(calls, number) {
-            Some(i) => call_due(due, &calls[i], up, self.flow(up), self.tick, near),
+            Some(i) => call_due(due, &calls[i], up, self.flow(up), self.tick),
             None => Ok(()),
         }
     }
@@ -80,7 +93,7 @@ impl Channel {
             self.old.tick < floor.waking + 2 ^ 32 → moments.new ≤ moments.old +
             passes_of (model.hands_up (record { call = number; frame = full frame.now }) w) }
     {
-        catch_session_up(&mut self.calls, number, self.tick, &mut given.own, moments);
+        catch_session_up(&mut self.calls, number, self.tick, &mut given.own, moments)?;
         let event = PointEvent::Frame(frame.lend());
         self.session_performs(alloc, number, &event, given, to, moments)
     }
@@ -198,7 +211,7 @@ impl Channel {
             moments.new ≤ moments.old + passes_of (flows_by up w) }
     {
         let mut near = room.near.at(up);
-        self.list_due(up, &mut room.due, &mut near)?;
+        self.list_due(up, &mut room.due, &mut room.numbers, &mut near)?;
         room.near.set(up, near);
         self.hand_each(alloc, up, &room.due, &mut room.given, to, moments)
     }

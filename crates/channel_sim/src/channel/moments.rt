@@ -1,16 +1,11 @@
 //! Elapsed time: from one tick at which something happens to the next.
 ghost use Rattle.std.specs.Prelude.{◌≡◌, ◌≤◌, ◌+◌, ◌-◌, ◌^◌, ◌<◌, ℕ, Some, None, IfSome};
-ghost use Rattle.channel_sim.specs.Quiet.{FramesRest, CallRests};
-ghost use Rattle.channel_sim.specs.Tidy.{AreFrom, ticks_of};
-ghost use Rattle.channel_sim.specs.Lag.{LeastPassed, CallLags};
-ghost use Rattle.channel_sim.specs.World as model;
 
 use super::{Channel, Passing};
-use crate::calls::{Call, act_session, catch_each_up, catch_waking_each, list_numbers};
+use crate::calls::{act_session, catch_up};
 use crate::fault::SimFault;
 use crate::quiet::{pass_vehicle_quietly, vehicle_due_at};
-use crate::room::{Given, Near, Room};
-use crate::sends::Sends;
+use crate::room::{Given, Nears, Room};
 use link_frames::{Items, Steps};
 use std::alloc::Global;
 use std::sync::ledger::Ledger;
@@ -23,35 +18,6 @@ fn acts_at(passed: u64, due: Option<u32>, end: u64) -> u64
 {
     match due {
         Some(ticks) => passed.saturating_add(u64::from(ticks)).min(end),
-        None => end,
-    }
-}
-
-/// The tick at which the session of a call acts, if it is there; at most `end`.
-fn session_acts_at(call: &Call, end: u64) -> u64
-    ensures most { result ≤ end }
-    ensures rests { (floor : LeastPassed) (tick n : ℕ) (k : model.Call) → CallLags floor tick call.now k →
-        tick + n < result → CallRests n k }
-{
-    call.passed.saturating_add(call.session.quiet()).min(end)
-}
-
-/// The tick behind `now` at which a flow hands the next of these frames over; at most `end`.
-fn hands_at(sends: &Sends, near: usize, flow: u32, now: u64, end: u64) -> u64
-    ensures most { result ≤ end }
-    ensures quiet { (n : ℕ) → AreFrom 0 (ticks_of sends.now) → now + n < result → FramesRest n flow now sends.now }
-{
-    if flow == 0 {
-        return end;
-    }
-    let delay = u64::from(flow);
-    let sent = now.saturating_sub(delay - 1);
-    if sends.newest() < sent {
-        return end;
-    }
-    let place = sends.first_from(sent, near);
-    match sends.tick(place) {
-        Some(tick) => tick.saturating_add(delay).min(end),
         None => end,
     }
 }
@@ -78,15 +44,13 @@ impl Channel {
     ghost use Rattle.ivs_machine.specs.IvsStands.{IvsStandsFor};
     ghost use Rattle.ivs_machine.specs.Vehicle.{Vehicle};
     ghost use Rattle.ivs_machine.specs.VehicleRows as vehicle;
-    ghost use Rattle.channel_sim.specs.Lag.{LeastPassed, VehicleLags, AreSameBut, CameAt, CameNow, StandsAt, StandsNow, clock_of};
+    ghost use Rattle.channel_sim.specs.Lag.{LeastPassed, VehicleLags, AreSameBut, CameAt, CameNow, StandsAt, StandsNow};
     ghost use Rattle.std.specs.Prelude.{true, false, IfSome, ◌≡◌, ◌+◌, ◌-◌, ◌^◌, ◌<◌, ◌≤◌, ℕ, List, [], ◌∷◌, Some, None, map, OnOk, OnErr, IfOk, IfErr, length};
     ghost use Rattle.channel_sim.specs.World as model;
     ghost use Rattle.channel_sim.specs.SimFault.{CountsFaults};
     ghost use Rattle.channel_sim.specs.inner.Acts.{flows_by};
-    ghost use Rattle.channel_sim.specs.inner.Happenings.{IfAll, settled_by};
-    ghost use Rattle.channel_sim.specs.inner.Asleep.{IsStirringPart};
+    ghost use Rattle.channel_sim.specs.inner.Happenings.{IfAll, IfWaking, settled_by};
     ghost use Rattle.channel_sim.specs.Quiet.{QuietFor, EndsRest, UpRests, DownRests};
-    ghost use Rattle.channel_sim.specs.Tidy.{AreAbove};
     ghost use Rattle.channel_sim.specs.Passes.{passes_of};
 
     /// Passes the vehicle up to this tick, up to which it does nothing. `items` is room.
@@ -109,30 +73,9 @@ impl Channel {
         self.passed = self.tick;
     }
 
-    /// The calls in which something may happen in time: not those whose sessions do nothing however many ticks pass,
-    /// and whose frames are handed over, where a flow is on.
-    fn stirring(&self) -> &[Call]
-        ensures { IsStirringPart self.now.up_flow self.now.down_flow self.now.tick result.now self.now.calls }
-    {
-        let flow = self.up_flow.max(self.down_flow);
-        if flow == 0 {
-            return self.calls.awake();
-        }
-        let sent = self.tick.saturating_sub(u64::from(flow) - 1);
-        self.calls.from_tick(sent)
-    }
-
-    /// Counts which calls need not be looked at any more.
-    pub(crate) fn settle_calls(&mut self)
-        ensures { self.new ≡ self.old }
-    {
-        self.calls
-            .settle(self.tick, self.up_flow.max(self.down_flow));
-    }
-
     /// The next ticks at which something happens, each at most `end`.
     #[inline(always)]
-    fn next_moment(&self, near: &Near, end: u64) -> Next
+    fn next_moment(&self, near: &Nears, end: u64) -> Next
         ensures most { result.acts ≤ end }
         ensures acts { (floor : LeastPassed) (n : ℕ) (w : model.World) →
             StandsAt self.now.tick floor (λ c. self.now.tick) self.now w →
@@ -144,20 +87,20 @@ impl Channel {
             StandsAt self.now.tick floor (λ c. self.now.tick) self.now w →
             self.now.tick + n < result.down → DownRests n w }
     {
-        let mut acts = acts_at(self.passed, self.vehicle.due(), end);
-        let mut up = end;
-        let mut down = end;
-        let calls = self.stirring();
-        for call in calls {
-            acts = session_acts_at(call, acts);
-            up = hands_at(&call.up, near.up, self.up_flow, self.tick, up);
-            down = hands_at(&call.down, near.down, self.down_flow, self.tick, down);
+        let due = acts_at(self.passed, self.vehicle.due(), end);
+        Next {
+            acts: self.calls.act_at(due),
+            up: self
+                .calls
+                .hand_at(true, self.up_flow, self.tick, near.up.sending, end),
+            down: self
+                .calls
+                .hand_at(false, self.down_flow, self.tick, near.down.sending, end),
         }
-        Next { acts, up, down }
     }
 
     /// The next tick at which something happens; at most `end`.
-    pub(crate) fn next_tick(&self, near: &Near, end: u64) -> u64
+    pub(crate) fn next_tick(&self, near: &Nears, end: u64) -> u64
         ensures most { result ≤ end }
         ensures quiet { (floor : LeastPassed) (n : ℕ) (w : model.World) →
             StandsAt self.now.tick floor (λ c. self.now.tick) self.now w →
@@ -243,7 +186,7 @@ impl Channel {
             self.old.tick < floor.waking + 2 ^ 32 → moments.new ≤ moments.old + passes_of
             (model.session_passes number w) }
     {
-        if act_session(&mut self.calls, number, self.tick, &mut given.own, moments) {
+        if act_session(&mut self.calls, number, self.tick, &mut given.own, moments)? {
             let items = given.own.as_slice();
             self.settles(alloc, items, &mut given.other, Some(number), to, moments)
         } else {
@@ -251,39 +194,11 @@ impl Channel {
         }
     }
 
-    /// The unit tick of each of these sessions, which are those of the calls that were not passed yet.
-    fn each_session_passes<H: Listener, L: Ledger>(
-        &mut self,
-        alloc: Global,
-        numbers: &[u32],
-        given: &mut Given,
-        to: &mut H,
-        moments: &mut Steps<L>,
-    ) -> Result<(), SimFault>
-        ensures step { (ahead : ℕ) (floor : LeastPassed) (before : ℕ) (w : model.World) →
-            StandsAt ahead floor (clock_of before numbers.now) self.old w →
-            ahead ≡ self.old.tick → before + 1 ≡ ahead → AreAbove 0 numbers.now →
-            CameAt (H.grew to.old to.new) (H.partly to.old to.new) result ahead floor (λ c. ahead) self.new
-            (model.each model.session_passes numbers.now w) }
-        ensures tick { self.new.tick ≡ self.old.tick }
-        ensures faults { CountsFaults result (H.faults to.old) (H.faults to.new) }
-        ensures passes { (ahead : ℕ) (floor : LeastPassed) (before : ℕ) (w : model.World) →
-            StandsAt ahead floor (clock_of before numbers.now) self.old w →
-            ahead ≡ self.old.tick → before + 1 ≡ ahead → AreAbove 0 numbers.now →
-            self.old.tick < floor.waking + 2 ^ 32 →
-            moments.new ≤ moments.old + passes_of (model.each model.session_passes numbers.now w) }
-    {
-        for number in numbers {
-            self.session_passes(alloc, *number, given, to, moments)?;
-        }
-        Ok(())
-    }
-
     /// The unit tick of each session, by call.
     fn sessions_pass<H: Listener, L: Ledger>(
         &mut self,
         alloc: Global,
-        room: &mut Room,
+        given: &mut Given,
         to: &mut H,
         moments: &mut Steps<L>,
     ) -> Result<(), SimFault>
@@ -299,8 +214,12 @@ impl Channel {
             ahead ≡ self.old.tick → before + 1 ≡ ahead → self.old.tick < floor.waking + 2 ^ 32 →
             moments.new ≤ moments.old + passes_of (model.sessions_pass w) }
     {
-        list_numbers(self.calls.acting(self.tick), &mut room.numbers)?;
-        self.each_session_passes(alloc, &room.numbers, &mut room.given, to, moments)
+        let mut from = 0;
+        while let Some(number) = self.calls.next_acting(from, self.tick) {
+            self.session_passes(alloc, number, given, to, moments)?;
+            from = u64::from(number) + 1;
+        }
+        Ok(())
     }
 
     /// The unit tick of the vehicle, and then of each session, unless the next of them acts after this tick.
@@ -328,7 +247,7 @@ impl Channel {
             return Ok(());
         }
         self.vehicle_passes(alloc, &mut room.given, to, moments)?;
-        self.sessions_pass(alloc, room, to, moments)
+        self.sessions_pass(alloc, &mut room.given, to, moments)
     }
 
     /// Hands over what was sent up, or down, so many ticks ago, unless the next frame comes after this tick.
@@ -392,81 +311,26 @@ impl Channel {
         self.flows_from(alloc, false, next.down, room, to, moments)
     }
 
-    /// The same, and before it those calls are counted that need not be looked at any more.
-    fn plays_moment<H: Listener, L: Ledger>(
-        &mut self,
-        alloc: Global,
-        tick: u64,
-        next: &Next,
-        room: &mut Room,
-        to: &mut H,
-        moments: &mut Steps<L>,
-    ) -> Result<(), SimFault>
-        ensures step { (floor : LeastPassed) (n : ℕ) (w : model.World) →
-            StandsAt self.old.tick floor (λ c. self.old.tick) self.old w →
-            self.old.tick + n + 1 ≡ tick → QuietFor n w →
-            (tick < next.now.acts → EndsRest (n + 1) w) → (tick < next.now.up → UpRests (n + 1) w) →
-            (tick < next.now.down → DownRests (n + 1) w) →
-            CameAt (H.grew to.old to.new) (H.partly to.old to.new) result tick floor (λ c. tick) self.new
-            (model.units (n + 1) w) }
-        ensures tick { self.new.tick ≡ tick }
-        ensures faults { CountsFaults result (H.faults to.old) (H.faults to.new) }
-        ensures passes { (floor : LeastPassed) (n : ℕ) (w : model.World) → StandsAt self.old.tick floor
-            (λ c. self.old.tick) self.old w →
-            self.old.tick + n + 1 ≡ tick → QuietFor n w →
-            (tick < next.now.acts → EndsRest (n + 1) w) → (tick < next.now.up → UpRests (n + 1) w) →
-            (tick < next.now.down → DownRests (n + 1) w) →
-            tick < floor.waking + 2 ^ 32 → moments.new ≤ moments.old + passes_of (model.units (n + 1) w) }
-    {
-        self.settle_calls();
-        self.moment(alloc, tick, next, room, to, moments)
-    }
-
-    /// Passes each end that lags up to this tick. `items` is room.
-    pub(crate) fn catch_all_up<L: Ledger>(&mut self, items: &mut Items, moments: &mut Steps<L>)
-        ensures tick { self.new.tick ≡ self.old.tick }
-        ensures caught { (floor : LeastPassed) (w : model.World) →
-            StandsAt self.old.tick floor (λ c. self.old.tick) self.old w →
-            StandsNow self.old.tick self.new w }
-        ensures passes { (floor : LeastPassed) (w : model.World) →
-            StandsAt self.old.tick floor (λ c. self.old.tick) self.old w →
-            self.old.tick < floor.waking + 2 ^ 32 → self.old.tick < floor.settled + 2 ^ 32 →
-            moments.new ≤ moments.old + model.ends w }
-    {
-        self.catch_vehicle_up(items, moments);
-        catch_each_up(&mut self.calls, self.tick, items, moments);
-    }
-
-    /// Passes each end that lags up to this tick, but sessions that are settled stay as they are. `items` is room.
-    #[inline(always)]
-    fn catch_waking_up<L: Ledger>(&mut self, items: &mut Items, moments: &mut Steps<L>)
-        ensures tick { self.new.tick ≡ self.old.tick }
-        ensures caught { (floor : LeastPassed) (w : model.World) →
-            StandsAt self.old.tick floor (λ c. self.old.tick) self.old w →
-            floor.settled ≤ floor.waking → StandsNow floor.settled self.new w }
-        ensures passes { (floor : LeastPassed) (w : model.World) →
-            StandsAt self.old.tick floor (λ c. self.old.tick) self.old w →
-            self.old.tick < floor.waking + 2 ^ 32 → moments.new ≤ moments.old + model.ends w }
-    {
-        self.catch_vehicle_up(items, moments);
-        catch_waking_each(&mut self.calls, self.tick, items, moments);
-    }
-
     /// Passes the ends that lag up to this tick: all, or those that are not settled. `items` is room.
-    fn catch_up<L: Ledger>(&mut self, passing: Passing, items: &mut Items, moments: &mut Steps<L>)
+    #[inline]
+    pub(crate) fn catch_up<L: Ledger>(
+        &mut self,
+        passing: Passing,
+        items: &mut Items,
+        moments: &mut Steps<L>,
+    )
         ensures tick { self.new.tick ≡ self.old.tick }
         ensures caught { (floor : LeastPassed) (w : model.World) →
             StandsAt self.old.tick floor (λ c. self.old.tick) self.old w →
-            floor.settled ≤ floor.waking → StandsNow (settled_by passing floor.settled self.old.tick) self.new w }
+            IfWaking passing (floor.settled ≤ floor.waking) →
+            StandsNow (settled_by passing floor.settled self.old.tick) self.new w }
         ensures passes { (floor : LeastPassed) (w : model.World) →
             StandsAt self.old.tick floor (λ c. self.old.tick) self.old w →
             self.old.tick < floor.waking + 2 ^ 32 → IfAll passing (self.old.tick < floor.settled + 2 ^ 32) →
             moments.new ≤ moments.old + model.ends w }
     {
-        match passing {
-            Passing::All => self.catch_all_up(items, moments),
-            Passing::Waking => self.catch_waking_up(items, moments),
-        }
+        self.catch_vehicle_up(items, moments);
+        catch_up(&mut self.calls, passing, self.tick, items, moments);
     }
 
     /// So many ticks elapse.
@@ -495,7 +359,7 @@ impl Channel {
             if tick > end {
                 self.tick = end;
             } else {
-                self.plays_moment(alloc, tick, &next, room, to, moments)?;
+                self.moment(alloc, tick, &next, room, to, moments)?;
             }
         }
         self.catch_up(passing, &mut room.given.own, moments);

@@ -1,8 +1,9 @@
-use Rattle.std.proofs.Common.{◌<◌, length, not, ap, sym, ◌∙◌, subst, arith}
+use Rattle.std.proofs.Common.{◌<◌, length, arith, not, ap, sym, ◌∙◌, subst}
 use Rattle.std.specs.Option.{is_some}
 use Rattle.channel_sim.specs.World.{with_legs}
 use Rattle.channel_sim.specs.Lag.{CallsLag}
-use Rattle.channel_sim.proofs.StillLemmas.{counts_removed}
+use Rattle.channel_sim.specs.inner.Turns.{OthersStay}
+use Rattle.channel_sim.proofs.BesideLemmas.{found_number, stand_removed}
 use Rattle.channel_sim.proofs.CallsLemmas.{found_at, none_of}
 use Rattle.channel_sim.proofs.TidyLemmas.{dropped_at, session_has, all_still}
 use Rattle.channel_sim.proofs.calls.drop_without_session.Goals as goal
@@ -41,6 +42,11 @@ returns-in_default c =
 pub invariant_of-calls : goal.invariant_of-calls
 invariant_of-calls c =
     let xs = c.calls.inside.list.items in
-    let inside : c.in-Some.i < length xs = omega (arith, c.in-Some.ensures.within, ap length c.deref.ensures.value) in
+    let i = c.in-Some.i in
+    let d = c.index.result.now in
+    let h = c.calls.invariant in
+    let inside : i < length xs = omega (arith, c.in-Some.ensures.within, ap length c.deref.ensures.value) in
+    let number = found_number c.args.number c.deref.result.now xs c.find.result i d c.deref.ensures.value h.numbers c.find.ensures.place c.in-Some.is inside in
     rw c.remove.ensures.items
-    (counts_removed c.in-Some.i c.calls.inside.counts c.wake.new.self xs inside c.wake.ensures c.calls.invariant)
+    (stand_removed c.calls.inside.turns c.forget.new.self c.calls.inside.up c.calls.inside.down xs i d inside
+    (subst (λ n. OthersStay n c.calls.inside.turns c.forget.new.self) (sym number) c.forget.ensures) h)

@@ -6,7 +6,7 @@ use Rattle.channel_sim.specs.declared.channel.Channel.{Channel}
 use Rattle.channel_sim.specs.World.{World, Step, units, and_then, ends}
 use Rattle.channel_sim.specs.Lag.{StandsAt, StandsNow, level}
 use Rattle.channel_sim.specs.inner.Happenings.{settled_by}
-use Rattle.channel_sim.proofs.Behind.{late_by}
+use Rattle.channel_sim.proofs.Behind.{late_by, waking_too}
 use Rattle.channel_sim.proofs.Jump.{units_add}
 use Rattle.channel_sim.proofs.MomentLemmas.{moment_quiet, quiet_end}
 use Rattle.channel_sim.proofs.WaitLemmas.{quiet_until}
@@ -70,9 +70,9 @@ loop-self-preserved g c =
     let began : start ≤ now = c.loop-self.invariant.began in
     let within : now ≤ (c.args.self.now.tick + c.from.result) = c.loop-self.invariant.within in
     record {
-      began = omega (arith, c.plays_moment.ensures.tick, c.max-tick.ensures);
-      within = omega (arith, c.plays_moment.ensures.tick, c.if-tick-end.false);
-      stood = c.in_ok-plays_moment.ensures.faults.stood ∙ c.loop-self.invariant.stood;
+      began = omega (arith, c.moment.ensures.tick, c.max-tick.ensures);
+      within = omega (arith, c.moment.ensures.tick, c.if-tick-end.false);
+      stood = c.in_ok-moment.ensures.faults.stood ∙ c.loop-self.invariant.stood;
       passes =
           λ settled w s.
           let so_far = c.loop-self.invariant.came settled w s in
@@ -85,14 +85,14 @@ loop-self-preserved g c =
           let next : now + n + 1 ≡ c.max-tick.result = quiet.1 ∙ sym c.max-tick.ensures in
           let few : c.args.n < 2 ^ 32 = c.ranges.n.fits in
           let small : c.max-tick.result < start + 2 ^ 32 = omega (arith, c.if-tick-end.false, c.from.ensures) in
-          let did = c.plays_moment.ensures.passes (level settled start) n front.world so_far.1 next quiet.2
+          let did = c.moment.ensures.passes (level settled start) n front.world so_far.1 next quiet.2
           (λ late. c.next_moment-next.ensures.acts (level settled start) (n + 1) front.world so_far.1 (omega (arith, late, next)))
           (λ late. c.next_moment-next.ensures.up (level settled start) (n + 1) front.world so_far.1 (omega (arith, late, next)))
           (λ late. c.next_moment-next.ensures.down (level settled start) (n + 1) front.world so_far.1 (omega (arith, late, next))) small in
-          let e : c.plays_moment.new.self.tick - start ≡ k + (n + 1) = omega (arith, c.plays_moment.ensures.tick) in
-          let same : units (c.plays_moment.new.self.tick - start) w ≡ and_then front (units (n + 1)) = ap (λ m. units m w) e ∙ units_add k (n + 1) w in
-          subst (λ (z : Step). c.plays_moment.new.moments ≤ c.args.moments.now + passes_of z) (sym same)
-          (passes_more front (units (n + 1)) c.args.moments.now c.loop-self.moments c.plays_moment.new.moments (c.loop-self.invariant.passes settled w s) did);
+          let e : c.moment.new.self.tick - start ≡ k + (n + 1) = omega (arith, c.moment.ensures.tick) in
+          let same : units (c.moment.new.self.tick - start) w ≡ and_then front (units (n + 1)) = ap (λ m. units m w) e ∙ units_add k (n + 1) w in
+          subst (λ (z : Step). c.moment.new.moments ≤ c.args.moments.now + passes_of z) (sym same)
+          (passes_more front (units (n + 1)) c.args.moments.now c.loop-self.moments c.moment.new.moments (c.loop-self.invariant.passes settled w s) did);
       came =
           λ settled w s.
           let so_far = c.loop-self.invariant.came settled w s in
@@ -103,20 +103,20 @@ loop-self-preserved g c =
           (c.next_moment-next.ensures.acts (level settled start) n u so_far.1) (c.next_moment-next.ensures.up (level settled start) n u so_far.1) (c.next_moment-next.ensures.down (level settled start) n u so_far.1) low) in
           let n = quiet.0 in
           let next : now + n + 1 ≡ c.max-tick.result = quiet.1 ∙ sym c.max-tick.ensures in
-          let did = c.in_ok-plays_moment.ensures.step (level settled start) n u so_far.1 next quiet.2
+          let did = c.in_ok-moment.ensures.step (level settled start) n u so_far.1 next quiet.2
           (λ late. c.next_moment-next.ensures.acts (level settled start) (n + 1) u so_far.1 (omega (arith, late, next)))
           (λ late. c.next_moment-next.ensures.up (level settled start) (n + 1) u so_far.1 (omega (arith, late, next)))
           (λ late. c.next_moment-next.ensures.down (level settled start) (n + 1) u so_far.1 (omega (arith, late, next))) in
-          let e : c.plays_moment.new.self.tick - start ≡ k + (n + 1) = omega (arith, c.plays_moment.ensures.tick) in
-          let same : units (c.plays_moment.new.self.tick - start) w ≡ and_then (units k w) (units (n + 1)) = ap (λ m. units m w) e ∙ units_add k (n + 1) w in
-          subst (λ (z : Step). g.H.Listener.grew c.args.to.now c.plays_moment.new.to z.entries × StandsAt c.plays_moment.new.self.tick (level settled start) (λ d. c.plays_moment.new.self.tick) c.plays_moment.new.self z.world) (sym same) (
+          let e : c.moment.new.self.tick - start ≡ k + (n + 1) = omega (arith, c.moment.ensures.tick) in
+          let same : units (c.moment.new.self.tick - start) w ≡ and_then (units k w) (units (n + 1)) = ap (λ m. units m w) e ∙ units_add k (n + 1) w in
+          subst (λ (z : Step). g.H.Listener.grew c.args.to.now c.moment.new.to z.entries × StandsAt c.moment.new.self.tick (level settled start) (λ d. c.moment.new.self.tick) c.moment.new.self z.world) (sym same) (
             g.met.H.Listener.twice _ _ _ _ _ so_far.0 did.0,
-            subst (λ t. StandsAt t (level settled start) (λ d. t) c.plays_moment.new.self (units (n + 1) u).world) (sym c.plays_moment.ensures.tick) did.1,
+            subst (λ t. StandsAt t (level settled start) (λ d. t) c.moment.new.self (units (n + 1) u).world) (sym c.moment.ensures.tick) did.1,
           );
     }
 
-pub returns-in_err-plays_moment-clause-step : goal.returns-in_err-plays_moment-clause-step
-returns-in_err-plays_moment-clause-step g c =
+pub returns-in_err-moment-clause-step : goal.returns-in_err-moment-clause-step
+returns-in_err-moment-clause-step g c =
     λ settled w s low.
     let failed = err_from_is_err_and c.from_residual.result c.from_residual.ensures.1 in
     let law = g.met.H.Listener in
@@ -131,14 +131,14 @@ returns-in_err-plays_moment-clause-step g c =
     (c.next_moment-next.ensures.acts (level settled start) n u so_far.1) (c.next_moment-next.ensures.up (level settled start) n u so_far.1) (c.next_moment-next.ensures.down (level settled start) n u so_far.1) low) in
     let n = quiet.0 in
     let next : now + n + 1 ≡ c.max-tick.result = quiet.1 ∙ sym c.max-tick.ensures in
-    let part = c.in_err-plays_moment.ensures.step (level settled start) n u so_far.1 next quiet.2
+    let part = c.in_err-moment.ensures.step (level settled start) n u so_far.1 next quiet.2
     (λ late. c.next_moment-next.ensures.acts (level settled start) (n + 1) u so_far.1 (omega (arith, late, next)))
     (λ late. c.next_moment-next.ensures.up (level settled start) (n + 1) u so_far.1 (omega (arith, late, next)))
     (λ late. c.next_moment-next.ensures.down (level settled start) (n + 1) u so_far.1 (omega (arith, late, next))) in
     let within : c.max-tick.result ≤ start + c.from.result = omega (arith, c.if-tick-end.false) in
     let rest = (start + c.from.result) - c.max-tick.result in
     let e : c.args.n ≡ (k + (n + 1)) + rest = omega (arith, c.from.ensures) in
-    let Partly = g.H.Listener.partly c.args.to.now c.plays_moment.new.to in
+    let Partly = g.H.Listener.partly c.args.to.now c.moment.new.to in
     let front : Partly (units (k + (n + 1)) w).entries = subst (λ (z : Step). Partly z.entries) (sym (units_add k (n + 1) w)) (law.then_partly _ _ _ _ _ so_far.0 part) in
     let whole = subst (λ (z : Step). Partly z.entries) (sym (ap (λ m. units m w) e ∙ units_add (k + (n + 1)) rest w)) (law.longer _ _ _ _ front) in
     rw failed.1 whole
@@ -156,7 +156,7 @@ returns-clause-step g c =
     subst (λ m. g.H.Listener.grew c.args.to.now c.loop-self.to (units m w).entries × StandsNow (settled_by c.args.passing settled c.catch_up.new.self.tick) c.catch_up.new.self (units m w).world) e (
       so_far.0,
       subst (λ t. StandsNow (settled_by c.args.passing settled t) c.catch_up.new.self (units (now - start) w).world) (sym c.catch_up.ensures.tick)
-          (c.catch_up.ensures.caught (level settled start) (units (now - start) w).world so_far.1 low),
+          (c.catch_up.ensures.caught (level settled start) (units (now - start) w).world so_far.1 (waking_too c.args.passing low)),
     )
 
 pub returns-clause-passes : goal.returns-clause-passes
@@ -175,8 +175,8 @@ returns-clause-passes g c =
     subst (λ m. c.catch_up.new.moments ≤ c.args.moments.now + (passes_of (units m w) + ends w)) e
     (ends_more (passes_of (units (now - start) w)) (ends (units (now - start) w).world) (ends w) c.args.moments.now c.loop-self.moments c.catch_up.new.moments (c.loop-self.invariant.passes settled w s) caught fall)
 
-pub returns-in_err-plays_moment-clause-passes : goal.returns-in_err-plays_moment-clause-passes
-returns-in_err-plays_moment-clause-passes g c =
+pub returns-in_err-moment-clause-passes : goal.returns-in_err-moment-clause-passes
+returns-in_err-moment-clause-passes g c =
     λ settled w s low exact.
     let start = c.args.self.now.tick in
     let now = c.loop-self.self.tick in
@@ -191,14 +191,14 @@ returns-in_err-plays_moment-clause-passes g c =
     let next : now + n + 1 ≡ c.max-tick.result = quiet.1 ∙ sym c.max-tick.ensures in
     let few : c.args.n < 2 ^ 32 = c.ranges.n.fits in
     let small : c.max-tick.result < start + 2 ^ 32 = omega (arith, c.if-tick-end.false, c.from.ensures) in
-    let did = c.plays_moment.ensures.passes (level settled start) n front.world so_far.1 next quiet.2
+    let did = c.moment.ensures.passes (level settled start) n front.world so_far.1 next quiet.2
     (λ late. c.next_moment-next.ensures.acts (level settled start) (n + 1) front.world so_far.1 (omega (arith, late, next)))
     (λ late. c.next_moment-next.ensures.up (level settled start) (n + 1) front.world so_far.1 (omega (arith, late, next)))
     (λ late. c.next_moment-next.ensures.down (level settled start) (n + 1) front.world so_far.1 (omega (arith, late, next))) small in
     let within : c.max-tick.result ≤ start + c.from.result = omega (arith, c.if-tick-end.false) in
     let rest = (start + c.from.result) - c.max-tick.result in
     let e : c.args.n ≡ (k + (n + 1)) + rest = omega (arith, c.from.ensures) in
-    let Few = λ (z : Step). c.plays_moment.new.moments ≤ c.args.moments.now + passes_of z in
-    let part = subst Few (sym (units_add k (n + 1) w)) (passes_more front (units (n + 1)) c.args.moments.now c.loop-self.moments c.plays_moment.new.moments (c.loop-self.invariant.passes settled w s) did) in
-    let all = subst Few (sym (ap (λ m. units m w) e ∙ units_add (k + (n + 1)) rest w)) (passes_front (units (k + (n + 1)) w) (units rest) c.args.moments.now c.plays_moment.new.moments part) in
+    let Few = λ (z : Step). c.moment.new.moments ≤ c.args.moments.now + passes_of z in
+    let part = subst Few (sym (units_add k (n + 1) w)) (passes_more front (units (n + 1)) c.args.moments.now c.loop-self.moments c.moment.new.moments (c.loop-self.invariant.passes settled w s) did) in
+    let all = subst Few (sym (ap (λ m. units m w) e ∙ units_add (k + (n + 1)) rest w)) (passes_front (units (k + (n + 1)) w) (units rest) c.args.moments.now c.moment.new.moments part) in
     omega (arith, all)

@@ -11,7 +11,7 @@ returns c =
     λ ahead floor w s.
     let kept = c.args.self.now in
     let in_time = subst (λ t. AllByRecursion (CallInTime t) w.calls) s.tick s.tidy.frames in
-    let due = c.all_due.ensures floor (λ d. ahead) w.calls s.calls in_time in
+    let due = c.all_due.ensures floor (λ d. ahead) w.calls s.calls s.tidy.numbers in_time in
     subst (λ t. OnOk c.all_due.result (map due_of c.all_due.new.due.items ≡ due_in (sent_way c.args.up) (flow_way c.args.up w) t w.calls)) (sym s.tick)
     (subst (λ f. OnOk c.all_due.result (map due_of c.all_due.new.due.items ≡ due_in (sent_way c.args.up) f kept.tick w.calls))
     (c.flow.ensures ∙ flow_kept c.args.up ahead floor (λ d. ahead) kept w s) due)

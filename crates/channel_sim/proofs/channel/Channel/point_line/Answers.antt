@@ -1,4 +1,5 @@
-use Rattle.std.proofs.Common.{◌≡◌, ℕ, true, false, refl, sym, ◌∙◌, subst, arith}
+use Rattle.std.proofs.Common.{[], ◌≡◌, ℕ, true, false, refl, sym, ◌∙◌, subst, arith}
+use Rattle.std.proofs.lemmas.Result.{err_from_is_err_and}
 use Rattle.std.specs.Option.{is_some}
 use Rattle.psap_machine.specs.Point.{Point}
 use Rattle.psap_machine.specs.PointRows as point
@@ -10,8 +11,15 @@ use Rattle.channel_sim.proofs.LineLemmas.{one_deed, came_now, all_caught, nothin
 use Rattle.channel_sim.proofs.SessionLemmas.{session_ready, session_step, nobody_did}
 use Rattle.channel_sim.proofs.channel.Channel.point_line.Goals as goal
 
-pub returns-then-hear_session-clause-step : goal.returns-then-hear_session-clause-step
-returns-then-hear_session-clause-step g c =
+pub returns-in_err-hear_session-clause-step : goal.returns-in_err-hear_session-clause-step
+returns-in_err-hear_session-clause-step g c =
+    λ settled w s.
+    let failed = err_from_is_err_and c.from_residual.result c.from_residual.ensures.1 in
+    let law = g.met.H.Listener in
+    rw failed.1 (law.longer _ _ [] _ (law.whole _ _ _ (law.unchanged _)))
+
+pub returns-then-branch-clause-step : goal.returns-then-branch-clause-step
+returns-then-branch-clause-step g c =
     λ settled w s.
     let kept = c.args.self.now in
     let clock = λ (d : ℕ). kept.tick in
@@ -20,10 +28,10 @@ returns-then-hear_session-clause-step g c =
     let act = model.Session number (point.heard c.args.event.now) in
     let Grew = g.H.Listener.grew c.args.to.now c.settles.new.to in
     let Partly = g.H.Listener.partly c.args.to.now c.settles.new.to in
-    let heard = c.hear_session.ensures.did (level settled kept.tick) clock w.calls s.calls s.tidy.numbers (omega arith) refl
+    let heard = c.in_ok-hear_session.ensures.did (level settled kept.tick) clock w.calls s.calls s.tidy.numbers (omega arith) refl
     (all_caught settled kept.tick number kept.calls w.calls s.calls) in
     let there : is_some (model.session_of number w.calls) ≡ true =
-    sym (c.hear_session.ensures.variant (level settled kept.tick) clock w.calls s.calls s.tidy.numbers) ∙ c.if-hear_session.true in
+    sym (c.in_ok-hear_session.ensures.variant (level settled kept.tick) clock w.calls s.calls s.tidy.numbers) ∙ c.if-branch.true in
     let after = model.seated number (seat_after row (model.session_of number w.calls)) w.calls in
     let Step = λ (z : model.Step).
     CameAt Grew Partly c.settles.result kept.tick (level settled kept.tick) clock c.settles.new.self (model.settled z) in
@@ -40,8 +48,8 @@ returns-then-hear_session-clause-step g c =
     (came_now Grew Partly c.settles.result settled kept.tick c.settles.new.self (model.performs act w) c.settles.ensures.tick
     did))
 
-pub returns-else-hear_session-clause-step : goal.returns-else-hear_session-clause-step
-returns-else-hear_session-clause-step g c =
+pub returns-else-branch-clause-step : goal.returns-else-branch-clause-step
+returns-else-branch-clause-step g c =
     λ settled w s.
     let kept = c.args.self.now in
     let clock = λ (d : ℕ). kept.tick in
@@ -50,10 +58,10 @@ returns-else-hear_session-clause-step g c =
     let act = model.Session number (point.heard c.args.event.now) in
     let Grew = g.H.Listener.grew c.args.to.now c.tell_nothing.new.to in
     let Partly = g.H.Listener.partly c.args.to.now c.tell_nothing.new.to in
-    let heard = c.hear_session.ensures.did (level settled kept.tick) clock w.calls s.calls s.tidy.numbers (omega arith) refl
+    let heard = c.in_ok-hear_session.ensures.did (level settled kept.tick) clock w.calls s.calls s.tidy.numbers (omega arith) refl
     (all_caught settled kept.tick number kept.calls w.calls s.calls) in
     let gone : is_some (model.session_of number w.calls) ≡ false =
-    sym (c.hear_session.ensures.variant (level settled kept.tick) clock w.calls s.calls s.tidy.numbers) ∙ c.if-hear_session.false in
+    sym (c.in_ok-hear_session.ensures.variant (level settled kept.tick) clock w.calls s.calls s.tidy.numbers) ∙ c.if-branch.false in
     let moved = record kept { calls = c.hear_session.new.calls } in
     subst (λ b. CameNow Grew Partly c.tell_nothing.result settled moved (lines.or_nothing (lines.when b (lines.Does act)) w))
     (sym gone)

@@ -9,7 +9,7 @@ use Rattle.channel_sim.specs.Tidy.{numbers_of}
 use Rattle.channel_sim.proofs.ActLemmas.{came_after}
 use Rattle.channel_sim.proofs.CallsLemmas.{same_numbers}
 use Rattle.channel_sim.proofs.LineLemmas.{item_came}
-use Rattle.channel_sim.proofs.PlaceLemmas.{numbers}
+use Rattle.channel_sim.specs.inner.Beside.{numbers}
 use Rattle.channel_sim.proofs.channel.Channel.reset_point.Goals as goal
 
 pub returns-in_err-list_numbers-clause-step : goal.returns-in_err-list_numbers-clause-step

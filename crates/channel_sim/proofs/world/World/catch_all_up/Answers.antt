@@ -5,5 +5,5 @@ use Rattle.channel_sim.proofs.world.World.catch_all_up.Goals as goal
 pub returns-clause-stands : goal.returns-clause-stands
 returns-clause-stands g c =
     λ floor w s.
-    stands_then c.args.self.now.channel.tick c.catch_all_up.new.self w (omega (arith, c.catch_all_up.ensures.tick))
-    (c.catch_all_up.ensures.caught floor w s)
+    stands_then c.args.self.now.channel.tick c.catch_up.new.self w (omega (arith, c.catch_up.ensures.tick))
+    (c.catch_up.ensures.caught floor w s tt)
