@@ -11,6 +11,8 @@ mod plan;
 mod real;
 mod sink;
 mod source;
+#[cfg(test)]
+mod tests;
 
 pub use block::Block;
 pub use calm::{CalmSink, CalmSource};

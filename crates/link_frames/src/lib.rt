@@ -11,6 +11,8 @@ mod reader;
 mod requests;
 mod stage;
 mod steps;
+#[cfg(test)]
+mod tests;
 mod writing;
 
 pub use fault::{Fault, FrameFault};

@@ -7,6 +7,8 @@ mod item;
 mod message_reader;
 mod part;
 mod part_reader;
+#[cfg(test)]
+mod tests;
 mod writing;
 
 pub use fault::{LinkFault, PartFault};

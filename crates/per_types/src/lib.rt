@@ -5,6 +5,8 @@
 mod index;
 pub mod laws;
 mod readers;
+#[cfg(test)]
+mod tests;
 mod writers;
 
 pub use index::EnumIndex;

@@ -5,6 +5,8 @@ mod fault;
 mod laws;
 mod reading;
 mod sums;
+#[cfg(test)]
+mod tests;
 mod writing;
 
 pub use fault::ToneFault;

@@ -1,7 +1,7 @@
 //! Readings worked out by hand from the encoding rules, of what the programs don't show.
+use crate::{read_additions, read_octets, read_oid, read_whole};
 use per_bits::Reason::{BadOid, EmptyOpen, LongLength, NoAddition, OutOfRange, Short, SmallLarge};
 use per_bits::{Bits, Cursor, Octs, Reason, Refusal};
-use per_types::{read_additions, read_octets, read_oid, read_whole};
 
 // A cursor over the first bits of the octets, of which at most 200 are looked at.
 fn front(octets: &[u8], len: u32) -> Cursor<'_> {

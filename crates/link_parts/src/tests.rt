@@ -1,11 +1,6 @@
-//! The parts of a live link's messages, worked out by hand, and a count that takes no bytes.
-ghost use Rattle.std.specs.Prelude.{◌≡◌, ◌<◌};
-
-use link_frames::{Answer, End, Frame, Note, Request, Steps, Why};
-use link_parts::{Part, part_of_item, write_part};
-use std::marker::Brand;
-use std::process::Abort;
-use std::sync::ledger::{Blank, Ledger};
+//! The parts of a live link's messages, worked out by hand.
+use crate::{Part, part_of_item, write_part};
+use link_frames::{Answer, End, Frame, Note, Request, Why};
 
 #[test]
 fn octets_of_parts(rt: HostRuntime) {
@@ -49,20 +44,4 @@ fn an_end_that_left_by_itself_says_so(rt: HostRuntime) {
     ] {
         assert_eq!(rt; part_of_item(followed, &item), part);
     }
-}
-
-fn takes_two_steps<L: Ledger>(rt: &impl Abort, blank: Blank)
-    requires name { blank.name ≡ L.name }
-    requires parts { blank.parts ≡ L.parts }
-    requires some { 0 < blank.parts }
-{
-    let mut steps = Steps::<L>::start(blank);
-    steps.tick();
-    steps.tick();
-    assert_eq!(rt; size_of::<Steps<L>>(), 0);
-}
-
-#[test]
-fn steps_take_no_bytes(rt: HostRuntime) {
-    takes_two_steps::<Brand>(&rt, Blank::new(1));
 }

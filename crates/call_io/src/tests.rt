@@ -1,7 +1,7 @@
 //! What no clause says of the sources and sinks over std's, and of a block.
 ghost use Rattle.std.specs.Prelude.{None};
 
-use call_io::{Block, Failed, MemSink, Memory, RealSink, RealSource, Sink, Source, write_all};
+use crate::{Block, Failed, MemSink, Memory, RealSink, RealSource, Sink, Source, write_all};
 use std::io;
 use std::io::{Error, ErrorKind, Read, Write};
 use std::test::Fail;

@@ -1,6 +1,6 @@
 //! Samples worked out by hand: a 1 is the pattern + + - + - - + - times 1000, and a sum says a bit from 4000 on to either side.
+use crate::{ToneFault, tone_read, tone_write};
 use link_frames::Frame;
-use tone_link::{ToneFault, tone_read, tone_write};
 
 /// The first sample in place of that of `init`, whose eight first bits are 0, and what is then read.
 #[test]

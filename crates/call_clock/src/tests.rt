@@ -1,5 +1,5 @@
 //! Timers by rank, worked out by hand: no program runs on them.
-use call_clock::Timers;
+use crate::Timers;
 
 /// So many ticks, the rank that ends with them, and what is due then.
 #[test]

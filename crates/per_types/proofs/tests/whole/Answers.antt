@@ -1,6 +1,6 @@
 use Rattle.std.proofs.Common.{refl}
 use Rattle.per_types.specs.Kinds.{width_of, width_from}
-use Rattle.base_tests.proofs.readings.whole.Goals as goal
+use Rattle.per_types.proofs.tests.whole.Goals as goal
 
 pub read_whole-requires-clause-width : goal.read_whole-requires-clause-width
 unfolding width_of width_from
