@@ -83,15 +83,9 @@ stay_both call a b c first second d n h = at (first d n h)
     at (inr there) = second d n there
 
 -- the call has its turn
-pub noted_watched : (turns : List Turn) (call tick : ℕ) (y z : kept.Call) → z ≡ y → y.number ≡ call → HasTurn call tick turns → WaitsUntil tick z → IsWatched turns y
-noted_watched turns call tick y z same number turn waits =
-    inr (record { tick = tick; turn = subst (λ n. HasTurn n tick turns) (sym number) turn; waits = subst (WaitsUntil tick) same waits })
-
--- the item written at a place stands there
-pub written_at : (xs : List kept.Call) (i : ℕ) (d y z : kept.Call) → i < length xs → z ≡ get_or (set xs i y) i d → z ≡ y
-written_at [] i d y z inside e = absurd (omega arith)
-written_at (x ∷ xs) zero d y z inside e = e
-written_at (x ∷ xs) (suc i) d y z inside e = written_at xs i d y z (omega arith) e
+pub noted_watched : (turns : List Turn) (call tick : ℕ) (y : kept.Call) → y.number ≡ call → HasTurn call tick turns → WaitsUntil tick y → IsWatched turns y
+noted_watched turns call tick y number turn waits =
+    inr (record { tick = tick; turn = subst (λ n. HasTurn n tick turns) (sym number) turn; waits = waits })
 
 -- A frame that was sent.
 

@@ -5,6 +5,7 @@ use Rattle.std.proofs.lemmas.List.{take-append-drop}
 use lib.Dec.{eqb}
 use Rattle.std.specs.List.{AllByRecursion}
 use Rattle.std.proofs.lemmas.Bool.{eqb-true, eqb-false, eq-eqb, ne_eqb, ltb-true, ltb-false}
+use Rattle.trace_fit.proofs.Lists.{all_into}
 use Rattle.trace_model.specs.History.{Sent}
 use Rattle.channel_sim.specs.declared.calls.call.Call as kept_call
 use Rattle.channel_sim.specs.declared.channel.Channel as kept_channel
@@ -332,6 +333,17 @@ listed_kept up floor clock tick ns (x ∷ xs) (k ∷ ks) h listed = (
       (subst (AllByRecursion (λ s. s.tick ≡ tick → IsAmong x.number ns)) (way_kept up floor (clock k.number) x k h.0) listed.0),
   listed_kept up floor clock tick ns xs ks h.1 listed.1,
 )
+
+-- where one call alone has frames of a tick, what is due in it is due in all
+pub one_has_all : (up : Bool) (floor : LeastPassed) (clock : ℕ → ℕ) (d tick n : ℕ) (xs : List kept_call.Call) (ks : List Call) → CallsLag floor clock xs ks → AreAbove 0 (numbers_of ks) → AllByRecursion (λ x. AllByRecursion (λ s. s.tick ≡ tick → x.number ≡ n) (if up then x.up else x.down)) xs → due_in (sent_way up) (suc d) (tick + suc d) (alone (call_of n ks)) ≡ due_in (sent_way up) (suc d) (tick + suc d) ks
+one_has_all up floor clock d tick n xs ks h above one =
+    let listed = all_into
+    (λ (x : kept_call.Call). AllByRecursion (λ s. s.tick ≡ tick → x.number ≡ n) (if up then x.up else x.down))
+    (λ (x : kept_call.Call). AllByRecursion (λ s. s.tick ≡ tick → IsAmong x.number (n ∷ [])) (if up then x.up else x.down))
+    (λ x. all_into (λ (s : Sent). s.tick ≡ tick → x.number ≡ n) (λ (s : Sent). s.tick ≡ tick → IsAmong x.number (n ∷ [])) (λ s same e. inl (sym (same e))) (if up then x.up else x.down))
+    xs one in
+    sym (append-nil (due_in (sent_way up) (suc d) (tick + suc d) (alone (call_of n ks))))
+    ∙ all_listed (sent_way up) d tick 0 ks (n ∷ []) above tt (listed_kept up floor clock tick (n ∷ []) xs ks h listed)
 
 -- what is due in the call that was found by its number
 pub one_found : (up : Bool) (d now n : ℕ) (ss : List Sent) (ks : List Call) (k : Call) → call_of n ks ≡ Some k → ss ≡ sent_way up k → due_frames n (suc d) now ss ≡ due_in (sent_way up) (suc d) now (alone (call_of n ks))

@@ -1,5 +1,5 @@
 -- When frames were sent, and in which calls: what is noted stays noted, and is found by its tick.
-use Rattle.std.proofs.Common.{◌≡◌, ℕ, zero, suc, ◌<◌, ◌≤◌, ◌+◌, ◌-◌, ◌⊎◌, inl, inr, if◌then◌else◌, Bool, true, false, leb, Result, Ok, Err, IfOk, List, [], ◌∷◌, ◌++◌, length, get_or, take, drop, map, refl, ap, sym, ◌∙◌, subst, arith, add-one, length-drop}
+use Rattle.std.proofs.Common.{◌≡◌, ℕ, zero, suc, ◌<◌, ◌≤◌, ◌+◌, ◌-◌, ◌⊎◌, inl, inr, if◌then◌else◌, Bool, true, false, leb, Option, Some, None, IfSome, Result, Ok, Err, IfOk, List, [], ◌∷◌, ◌++◌, length, get_or, take, drop, map, refl, ap, sym, ◌∙◌, subst, arith, add-one, length-drop}
 use Rattle.std.proofs.Math.ListN.{set}
 use Rattle.std.specs.List.{AllByRecursion, Contains, dedup}
 use Rattle.std.specs.List.Sorted.{IsPermutation, IsSorted, IsStrictlyIncreasing}
@@ -97,7 +97,7 @@ high c n t (x ∷ xs) h (inr further) =
     let more : x.tick ≤ n = high c n x.tick xs h.1 further in omega arith
 
 -- the same from a lower tick on
-lower : (m n : ℕ) (xs : List ℕ) → m ≤ n → AreFrom n xs → AreFrom m xs
+pub lower : (m n : ℕ) (xs : List ℕ) → m ≤ n → AreFrom n xs → AreFrom m xs
 lower m n [] le h = tt
 lower m n (x ∷ xs) le h = let least : n ≤ x = h.0 in (omega arith, h.1)
 
@@ -184,6 +184,16 @@ all_listed t c (suc place) (x ∷ xs) d rise other inside (inl here) = inl here.
 all_listed t c (suc place) (x ∷ xs) d rise other inside (inr further) =
     inr (all_listed t c place xs d (lower t x.tick (ticks xs) rise.0 rise.1) other (omega arith) further)
 
+-- the first of those that rise from a tick is the only one of this tick where the next is of another, or there is none
+pub only_first : (t c : ℕ) (x d : Sending) (xs : List Sending) → AreFrom t (ticks xs) → (0 < length xs → (get_or xs 0 d).tick ≡ t → ⊥) → HasSending c t (x ∷ xs) → c ≡ x.call
+only_first t c x d xs rise other (inl here) = sym here.0
+only_first t c x d [] rise other (inr has) = absurd has
+only_first t c x d (y ∷ xs) rise other (inr (inl here)) = absurd (other (omega arith) here.1)
+only_first t c x d (y ∷ xs) rise other (inr (inr further)) =
+    let least : t ≤ y.tick = rise.0 in
+    let most : y.tick ≤ t = high c t y.tick xs rise.1 further in
+    absurd (other (omega arith) (omega arith))
+
 -- the call of each is among the calls
 pub among_calls : (c n : ℕ) (xs : List Sending) → HasSending c n xs → IsAmong c (calls xs)
 among_calls c n [] has = absurd has
@@ -225,10 +235,10 @@ last_noted c n since d xs ys same some last call tick =
 pub behind_in : (t place : ℕ) (xs ys : List Sending) → ys ≡ xs → (AreFrom 0 (ticks ys) → IsPlaceBehind t place (ticks ys)) → AreFrom 0 (ticks xs) → IsPlaceBehind t place (ticks xs)
 behind_in t place xs ys same found rise = subst (λ zs. IsPlaceBehind t place (ticks zs)) same (found (subst (λ zs. AreFrom 0 (ticks zs)) (sym same) rise))
 
--- what was noted at a tick, not older than all, is listed from the first from it on
-pub listed_from : (since c t place : ℕ) (xs ys : List Sending) (listed : List ℕ) → ys ≡ xs → since ≤ t → AreFrom 0 (ticks xs) → IsFirstFrom t place (ticks xs) → (AreFrom t (ticks (take (length ys - place) (drop place ys))) → (c : ℕ) → HasSending c t (take (length ys - place) (drop place ys)) → IsAmong c listed) → IsNoted c t (record { since = since; list = xs }) → IsAmong c listed
-listed_from since c t place xs ys listed same known rise first all (inl early) = absurd (omega arith)
-listed_from since c t place xs ys listed same known rise first all (inr has) =
+-- what each call has that is found at a tick from its first on, each has that is noted at it, not older than all
+pub told_from : (P : ℕ → Type 0) (since c t place : ℕ) (xs ys : List Sending) → ys ≡ xs → since ≤ t → AreFrom 0 (ticks xs) → IsFirstFrom t place (ticks xs) → (AreFrom t (ticks (take (length ys - place) (drop place ys))) → (c : ℕ) → HasSending c t (take (length ys - place) (drop place ys)) → P c) → IsNoted c t (record { since = since; list = xs }) → P c
+told_from P since c t place xs ys same known rise first all (inl early) = absurd (omega arith)
+told_from P since c t place xs ys same known rise first all (inr has) =
     let whole : take (length ys - place) (drop place ys) ≡ drop place xs = take_all (length ys - place) (drop place ys) (omega (arith, length-drop place ys)) ∙ ap (drop place) same in
     let rest : AreFrom t (ticks (drop place xs)) = subst (AreFrom t) (sym (drop_ticks place xs)) (rise_from 0 t place (ticks xs) rise first.behind) in
     all (subst (λ zs. AreFrom t (ticks zs)) (sym whole) rest) c (subst (HasSending c t) (sym whole) (from_place c t place xs first.before has))
@@ -291,19 +301,25 @@ all_rest up sent_up sent_down n flow now from [] same late h = tt
 all_rest true sent_up sent_down n flow now from (x ∷ xs) same late h = (frames_rest sent_up x.number n flow now from x.up same late h.0.up, all_rest true sent_up sent_down n flow now from xs same late h.1)
 all_rest false sent_up sent_down n flow now from (x ∷ xs) same late h = (frames_rest sent_down x.number n flow now from x.down same late h.0.down, all_rest false sent_up sent_down n flow now from xs same late h.1)
 
--- where what was noted at a tick is listed, each call with a frame of this tick is
-frames_listed : (sent : SentSince) (c t : ℕ) (listed : List ℕ) (frames : List Sent) → ((c : ℕ) → IsNoted c t sent → IsAmong c listed) → AreNoted sent c frames → AllByRecursion (λ s. s.tick ≡ t → IsAmong c listed) frames
-frames_listed sent c t listed [] all h = tt
-frames_listed sent c t listed (f ∷ frames) all h = (λ same. all c (subst (λ n. IsNoted c n sent) same h.0), frames_listed sent c t listed frames all h.1)
+-- what the call of each that was noted at a tick has, a call with a frame of this tick has
+frames_told : (P : ℕ → Type 0) (sent : SentSince) (c t : ℕ) (frames : List Sent) → ((c : ℕ) → IsNoted c t sent → P c) → AreNoted sent c frames → AllByRecursion (λ s. s.tick ≡ t → P c) frames
+frames_told P sent c t [] all h = tt
+frames_told P sent c t (f ∷ frames) all h = (λ same. all c (subst (λ n. IsNoted c n sent) same h.0), frames_told P sent c t frames all h.1)
 
 -- the same of all calls, up or down
-calls_listed : (up : Bool) (sent_up sent_down : SentSince) (t : ℕ) (listed : List ℕ) (xs : List kept.Call) → ((c : ℕ) → IsNoted c t (if up then sent_up else sent_down) → IsAmong c listed) → AllByRecursion (IsNotedCall sent_up sent_down) xs → AllByRecursion (λ k. AllByRecursion (λ s. s.tick ≡ t → IsAmong k.number listed) (if up then k.up else k.down)) xs
-calls_listed up sent_up sent_down t listed [] all h = tt
-calls_listed true sent_up sent_down t listed (x ∷ xs) all h = (frames_listed sent_up x.number t listed x.up all h.0.up, calls_listed true sent_up sent_down t listed xs all h.1)
-calls_listed false sent_up sent_down t listed (x ∷ xs) all h = (frames_listed sent_down x.number t listed x.down all h.0.down, calls_listed false sent_up sent_down t listed xs all h.1)
+calls_told : (P : ℕ → Type 0) (up : Bool) (sent_up sent_down : SentSince) (t : ℕ) (xs : List kept.Call) → ((c : ℕ) → IsNoted c t (if up then sent_up else sent_down) → P c) → AllByRecursion (IsNotedCall sent_up sent_down) xs → AllByRecursion (λ k. AllByRecursion (λ s. s.tick ≡ t → P k.number) (if up then k.up else k.down)) xs
+calls_told P up sent_up sent_down t [] all h = tt
+calls_told P true sent_up sent_down t (x ∷ xs) all h = (frames_told P sent_up x.number t x.up all h.0.up, calls_told P true sent_up sent_down t xs all h.1)
+calls_told P false sent_up sent_down t (x ∷ xs) all h = (frames_told P sent_down x.number t x.down all h.0.down, calls_told P false sent_up sent_down t xs all h.1)
 
--- the same where it is told whether all are known
+-- the calls with a frame of a tick are listed, where it is told whether all are known
 pub sent_listed : {E : Type 0} (r : Result Bool E) (up : Bool) (sent_up sent_down way : SentSince) (t : ℕ) (listed : List ℕ) (xs : List kept.Call) → way ≡ (if up then sent_up else sent_down) → IfOk r (λ known. known ≡ true → (c : ℕ) → IsNoted c t way → IsAmong c listed) → AllByRecursion (IsNotedCall sent_up sent_down) xs → IfOk r (λ known. known ≡ true → AllByRecursion (λ k. AllByRecursion (λ s. s.tick ≡ t → IsAmong k.number listed) (if up then k.up else k.down)) xs)
 sent_listed (Ok known) up sent_up sent_down way t listed xs same all h =
-    λ yes. calls_listed up sent_up sent_down t listed xs (λ c noted. all yes c (subst (IsNoted c t) (sym same) noted)) h
+    λ yes. calls_told (λ n. IsAmong n listed) up sent_up sent_down t xs (λ c noted. all yes c (subst (IsNoted c t) (sym same) noted)) h
 sent_listed (Err e) up sent_up sent_down way t listed xs same all h = tt
+
+-- one call alone has frames of a tick, where it is told which
+pub sent_alone : (r : Option ℕ) (up : Bool) (sent_up sent_down way : SentSince) (t : ℕ) (xs : List kept.Call) → way ≡ (if up then sent_up else sent_down) → IfSome r (λ call. (c : ℕ) → IsNoted c t way → c ≡ call) → AllByRecursion (IsNotedCall sent_up sent_down) xs → IfSome r (λ call. AllByRecursion (λ k. AllByRecursion (λ s. s.tick ≡ t → k.number ≡ call) (if up then k.up else k.down)) xs)
+sent_alone (Some call) up sent_up sent_down way t xs same all h =
+    calls_told (λ n. n ≡ call) up sent_up sent_down t xs (λ c noted. all c (subst (IsNoted c t) (sym same) noted)) h
+sent_alone None up sent_up sent_down way t xs same all h = tt

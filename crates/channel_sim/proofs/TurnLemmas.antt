@@ -433,11 +433,10 @@ pub noted_rise : (ts : List Turn) (i : ℕ) (d t : Turn) → t.call ≡ (get_or 
 noted_rise ts i d t same rise = subst Rise (sym (map-set_same (λ (t : Turn). t.call) ts i t d same)) rise
 
 -- one turn more holds, and the calls are as before
-pub renewed_more : (calls : List kept.Call) (first ts us : List Turn) (i : ℕ) (d t : Turn) → i < length ts → us ≡ set ts i t → t.call ≡ (get_or ts i d).call → calls_of ts ≡ calls_of first → AllByRecursion (Holds calls) (take i ts) → Holds calls t → (calls_of us ≡ calls_of first) × AllByRecursion (Holds calls) (take (i + 1) us)
-renewed_more calls first ts us i d t inside e same before all new = (
-  ap calls_of e ∙ map-set_same (λ (t : Turn). t.call) ts i t d same ∙ before,
-  subst (λ z. AllByRecursion (Holds calls) (take (i + 1) z)) (sym e)
-      (subst (AllByRecursion (Holds calls)) (sym (take_more_set ts i t inside)) (all_append (Holds calls) (take i ts) (t ∷ []) all (new, tt))),
+pub renewed_more : (calls : List kept.Call) (first ts : List Turn) (i : ℕ) (d t u : Turn) → i < length ts → t ≡ u → u.call ≡ (get_or ts i d).call → calls_of ts ≡ calls_of first → AllByRecursion (Holds calls) (take i ts) → Holds calls u → (calls_of (set ts i t) ≡ calls_of first) × AllByRecursion (Holds calls) (take (i + 1) (set ts i t))
+renewed_more calls first ts i d t u inside is same before all new = (
+  map-set_same (λ (t : Turn). t.call) ts i t d (ap (λ (t : Turn). t.call) is ∙ same) ∙ before,
+  subst (AllByRecursion (Holds calls)) (sym (take_more_set ts i t inside)) (all_append (Holds calls) (take i ts) (t ∷ []) all (subst (Holds calls) (sym is) new, tt)),
 )
 
 -- The first turn from a number on.
@@ -462,8 +461,6 @@ next_others from first tick ts r rise below others c n has at low =
     let rest_rise : Rise (calls_of (from_place first ts)) =
     subst Rise (drop-map (λ (t : Turn). t.call) first ts ∙ sym (ap calls_of (whole_rest first ts))) (rise_drop first (calls_of ts) rise) in
     others rest_rise c n (subst (HasTurn c n) (sym (whole_rest first ts)) (has_behind from first c n ts below at has)) low
-
--- A turn that is gone.
 
 forgotten_above : (n i : ℕ) (ts : List Turn) → AreAbove n (calls_of ts) → AreAbove n (calls_of (remove ts i))
 forgotten_above n zero [] h = tt

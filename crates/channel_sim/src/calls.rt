@@ -34,6 +34,7 @@ pub(crate) use passing::catch_up;
 use sendings::Sendings;
 pub(crate) use sessions::{act_session, admit, catch_session_up, has_session, hear_session};
 use std::alloc::{AllocError, Global};
+use std::collections::VecDeque;
 use std::marker::Model;
 use turns::Turns;
 
@@ -41,7 +42,7 @@ use turns::Turns;
 /// and down.
 #[derive(Drop)]
 pub(crate) struct Calls {
-    list: Vec<Call>,
+    list: VecDeque<Call>,
     turns: Turns,
     up: Sendings,
     down: Sendings,
@@ -65,7 +66,7 @@ impl Calls {
         ensures { result ≡ [] }
     {
         Calls {
-            list: Vec::new(alloc),
+            list: VecDeque::new(alloc),
             turns: Turns::new(alloc),
             up: Sendings::new(alloc),
             down: Sendings::new(alloc),
@@ -73,8 +74,8 @@ impl Calls {
     }
 
     /// All of them.
-    pub(crate) fn all(&self) -> &[Call]
-        ensures { result.now ≡ self.now }
+    pub(crate) fn all(&self) -> &VecDeque<Call>
+        ensures { result.now.items ≡ self.now }
     {
         &self.list
     }
@@ -113,6 +114,15 @@ impl Calls {
         }
     }
 
+    /// The call in which frames were sent up, or down, at this tick, where that is known and there is one alone.
+    pub(crate) fn only_sent(&self, up: bool, tick: u64, near: &mut usize) -> Option<u32>
+        ensures { IfSome result (λ call. AllByRecursion
+            (λ k. AllByRecursion (λ s. s.tick ≡ tick → k.number ≡ call) (if up then k.up else k.down)) self.now) }
+    {
+        let sendings = if up { &self.up } else { &self.down };
+        sendings.only_call(tick, near)
+    }
+
     /// The calls in which frames were sent up, or down, at this tick, in place of what stood in `numbers`, unless that
     /// isn't known: whether it is.
     pub(crate) fn list_sent(
@@ -132,11 +142,25 @@ impl Calls {
     }
 }
 
-/// The index of the call of a number, if it is there.
-pub(crate) fn find(calls: &[Call], number: u32) -> Option<usize>
-    ensures within { IfSome result (λ i. i < length calls.now) }
-    ensures place { AreAbove 0 (map (λ k. k.number) calls.now) →
-        result ≡ place_of number (map (λ k. k.number) calls.now) }
+/// The index of the call of a number, if it is there: nearly always it is the newest one.
+#[inline]
+pub(crate) fn find(calls: &VecDeque<Call>, number: u32) -> Option<usize>
+    ensures within { IfSome result (λ i. i < length calls.now.items) }
+    ensures place { AreAbove 0 (map (λ k. k.number) calls.now.items) →
+        result ≡ place_of number (map (λ k. k.number) calls.now.items) }
+{
+    match calls.back() {
+        Some(newest) if newest.number == number => Some(calls.len() - 1),
+        _ => search(calls, number),
+    }
+}
+
+/// The same, where the newest call has another number. Out of line, so that `find` is short where it is called.
+#[inline(never)]
+fn search(calls: &VecDeque<Call>, number: u32) -> Option<usize>
+    ensures within { IfSome result (λ i. i < length calls.now.items) }
+    ensures place { AreAbove 0 (map (λ k. k.number) calls.now.items) →
+        result ≡ place_of number (map (λ k. k.number) calls.now.items) }
 {
     let place = likely_place(calls, number);
     if place < calls.len() {
@@ -155,8 +179,8 @@ pub(crate) fn find(calls: &[Call], number: u32) -> Option<usize>
 }
 
 /// Where the call of a number is if it is there, and no number is missing between the first and it.
-fn likely_place(calls: &[Call], number: u32) -> usize {
-    match calls.first() {
+fn likely_place(calls: &VecDeque<Call>, number: u32) -> usize {
+    match calls.front() {
         Some(first) => number.saturating_sub(first.number) as usize,
         None => 0,
     }
@@ -234,8 +258,13 @@ pub(crate) fn drop_without_session(calls: &mut Calls, number: u32)
 }
 
 /// The frame sent up, or down, in a call at this place, from 0.
-pub(crate) fn sent_frame(calls: &[Call], up: bool, number: u32, place: usize) -> Option<&KeptFrame>
-    ensures { (floor : LeastPassed) (clock : ℕ → ℕ) (ks : List model.Call) → CallsLag floor clock calls.now ks →
+pub(crate) fn sent_frame(
+    calls: &VecDeque<Call>,
+    up: bool,
+    number: u32,
+    place: usize,
+) -> Option<&KeptFrame>
+    ensures { (floor : LeastPassed) (clock : ℕ → ℕ) (ks : List model.Call) → CallsLag floor clock calls.now.items ks →
         AreAbove 0 (numbers_of ks) → option_map (λ f. full f.now) result ≡
         option_map (λ s. s.frame) (slice_get (if up then lines.sent_up (model.call_of number ks)
         else lines.sent_down (model.call_of number ks)) place) }
@@ -254,31 +283,33 @@ pub(crate) fn add_call(
     number: u32,
     passed: u64,
 ) -> Result<(), AllocError>
-    ensures { AreAbove 0 (map (λ k. k.number) calls.old ++ number ∷ []) → OnOk result (calls.new ≡ calls.old ++
+    ensures added { AreAbove 0 (map (λ k. k.number) calls.old ++ number ∷ []) → OnOk result (calls.new ≡ calls.old ++
         record { number = number; session = None; passed = passed; up = []; down = [] } ∷ []) }
+    ensures refused { (AreAbove 0 (map (λ k. k.number) calls.old ++ number ∷ []) → ⊥) →
+        OnOk result (calls.new ≡ calls.old) }
 {
     if number <= last_number(&calls.list) {
         return Ok(());
     }
-    calls.list.push(Call::new(alloc, number, passed))?;
+    calls.list.push_back(Call::new(alloc, number, passed))?;
     Ok(())
 }
 
 /// The number of the last of these calls, and 0 where there is none: what is above it is above all.
-fn last_number(calls: &[Call]) -> u32
-    ensures above { (c : ℕ) → AreAbove 0 (map (λ k. k.number) calls.now) → result < c →
-        AreAbove 0 (map (λ k. k.number) calls.now ++ c ∷ []) }
-    ensures last { (c : ℕ) → AreAbove 0 (map (λ k. k.number) calls.now ++ c ∷ []) → result < c }
+fn last_number(calls: &VecDeque<Call>) -> u32
+    ensures above { (c : ℕ) → AreAbove 0 (map (λ k. k.number) calls.now.items) → result < c →
+        AreAbove 0 (map (λ k. k.number) calls.now.items ++ c ∷ []) }
+    ensures last { (c : ℕ) → AreAbove 0 (map (λ k. k.number) calls.now.items ++ c ∷ []) → result < c }
 {
-    match calls.last() {
+    match calls.back() {
         Some(call) => call.number,
         None => 0,
     }
 }
 
 /// The numbers of these calls, in order, in place of what stood there.
-pub(crate) fn list_numbers(calls: &[Call], numbers: &mut Vec<u32>) -> Result<(), AllocError>
-    ensures { OnOk result (numbers.new.items ≡ map (λ k. k.number) calls.now) }
+pub(crate) fn list_numbers(calls: &VecDeque<Call>, numbers: &mut Vec<u32>) -> Result<(), AllocError>
+    ensures { OnOk result (numbers.new.items ≡ map (λ k. k.number) calls.now.items) }
 {
     numbers.clear();
     for call in calls {

@@ -16,6 +16,7 @@ use crate::kept::KeptFrame;
 use crate::room::Near;
 use crate::sends::Sends;
 use std::alloc::AllocError;
+use std::collections::VecDeque;
 
 /// A frame that is due, with its call.
 #[derive(Drop)]
@@ -84,6 +85,7 @@ fn first_from(sends: &Sends, tick: u64, near: usize) -> usize
 
 /// Adds the frames of a call that were sent at this tick. `near` becomes the place behind them, where the next ones
 /// are.
+#[inline]
 fn add_due(
     due: &mut Vec<Due>,
     number: u32,
@@ -103,13 +105,13 @@ fn add_due(
 /// Adds the frames of these calls that were sent up, or down, at this tick.
 fn add_all_due(
     due: &mut Vec<Due>,
-    calls: &[Call],
+    calls: &VecDeque<Call>,
     up: bool,
     tick: u64,
     near: &mut usize,
 ) -> Result<(), AllocError>
     ensures { (d : ℕ) (floor : LeastPassed) (now : ℕ) (clock : ℕ → ℕ) (ks : List model.Call) →
-        CallsLag floor clock calls.now ks →
+        CallsLag floor clock calls.now.items ks →
         AllByRecursion (CallInTime now) ks → OnOk result
         (map due_of due.new.items ≡ map due_of due.old.items ++ model.due_in (sent_way up) (suc d) (tick + suc d) ks) }
 {
@@ -119,21 +121,44 @@ fn add_all_due(
     Ok(())
 }
 
+/// Adds the frames that were sent up, or down, at this tick in the call of this number, and in no other of these.
+#[inline]
+fn add_only_due(
+    due: &mut Vec<Due>,
+    calls: &VecDeque<Call>,
+    number: u32,
+    up: bool,
+    tick: u64,
+    near: &mut usize,
+) -> Result<(), AllocError>
+    ensures { (d : ℕ) (floor : LeastPassed) (now : ℕ) (clock : ℕ → ℕ) (ks : List model.Call) →
+        CallsLag floor clock calls.now.items ks → AreAbove 0 (numbers_of ks) →
+        AllByRecursion (CallInTime now) ks →
+        AllByRecursion (λ k. AllByRecursion (λ s. s.tick ≡ tick → k.number ≡ number)
+        (if up then k.up else k.down)) calls.now.items → OnOk result
+        (map due_of due.new.items ≡ map due_of due.old.items ++ model.due_in (sent_way up) (suc d) (tick + suc d) ks) }
+{
+    match find(calls, number) {
+        Some(i) => add_due(due, number, calls[i].sends(up), tick, near),
+        None => Ok(()),
+    }
+}
+
 /// Adds the frames that were sent up, or down, at this tick in those of these calls that have one of these numbers,
 /// which rise.
 fn add_listed_due(
     due: &mut Vec<Due>,
-    calls: &[Call],
+    calls: &VecDeque<Call>,
     numbers: &[u32],
     up: bool,
     tick: u64,
     near: &mut usize,
 ) -> Result<(), AllocError>
     ensures { (d : ℕ) (floor : LeastPassed) (now : ℕ) (clock : ℕ → ℕ) (ks : List model.Call) →
-        CallsLag floor clock calls.now ks → AreAbove 0 (numbers_of ks) →
+        CallsLag floor clock calls.now.items ks → AreAbove 0 (numbers_of ks) →
         AllByRecursion (CallInTime now) ks → Rise numbers.now →
         AllByRecursion (λ k. AllByRecursion (λ s. s.tick ≡ tick → IsAmong k.number numbers.now)
-        (if up then k.up else k.down)) calls.now → OnOk result
+        (if up then k.up else k.down)) calls.now.items → OnOk result
         (map due_of due.new.items ≡ map due_of due.old.items ++ model.due_in (sent_way up) (suc d) (tick + suc d) ks) }
 {
     for number in numbers {
@@ -186,7 +211,9 @@ pub(crate) fn all_due(
         return Ok(());
     }
     let sent = now - delay;
-    if calls.list_sent(up, sent, &mut near.sending, numbers)? {
+    if let Some(number) = calls.only_sent(up, sent, &mut near.sending) {
+        add_only_due(due, calls.all(), number, up, sent, &mut near.frame)?;
+    } else if calls.list_sent(up, sent, &mut near.sending, numbers)? {
         add_listed_due(due, calls.all(), numbers, up, sent, &mut near.frame)?;
     } else {
         add_all_due(due, calls.all(), up, sent, &mut near.frame)?;

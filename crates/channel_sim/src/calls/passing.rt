@@ -15,6 +15,7 @@ use super::turns::Turn;
 use super::{Call, Calls, find};
 use crate::channel::Passing;
 use link_frames::{Items, Steps};
+use std::collections::VecDeque;
 use std::sync::ledger::Ledger;
 
 /// Passes each session up to this tick, up to which it does nothing: all, or those that aren't settled. `items` is
@@ -34,7 +35,7 @@ pub(crate) fn catch_up<L: Ledger>(
         moments.new ≤ moments.old + model.session_count ks }
 {
     match passing {
-        Passing::All => pass_each(&mut calls.list, tick, items, moments),
+        Passing::All => pass_each(calls.list.make_contiguous(), tick, items, moments),
         Passing::Waking => pass_listed(&mut calls.list, calls.turns.all(), tick, items, moments),
     }
     calls.turns.renew(&calls.list);
@@ -59,19 +60,20 @@ fn pass_each<L: Ledger>(calls: &mut [Call], tick: u64, items: &mut Items, moment
 /// Passes the session of each of these calls that has one of these turns up to this tick, up to which it does nothing,
 /// unless it is settled. `items` is room.
 fn pass_listed<L: Ledger>(
-    calls: &mut [Call],
+    calls: &mut VecDeque<Call>,
     turns: &[Turn],
     tick: u64,
     items: &mut Items,
     moments: &mut Steps<L>,
 )
-    requires { AreAbove 0 (numbers calls.old) }
-    ensures same { map bare calls.new ≡ map bare calls.old }
-    ensures listed { AllByRecursion (IsListed turns.now) calls.old → AllByRecursion (IsListed turns.now) calls.new }
-    ensures lags { (floor : LeastPassed) (ks : List model.Call) → CallsLag floor (λ c. tick) calls.old ks →
-        AllByRecursion (IsListed turns.now) calls.old → floor.settled ≤ floor.waking →
-        CallsLag (level floor.settled tick) (λ c. tick) calls.new ks }
-    ensures passes { (floor : LeastPassed) (ks : List model.Call) → CallsLag floor (λ c. tick) calls.old ks →
+    requires { AreAbove 0 (numbers calls.old.items) }
+    ensures same { map bare calls.new.items ≡ map bare calls.old.items }
+    ensures listed { AllByRecursion (IsListed turns.now) calls.old.items →
+        AllByRecursion (IsListed turns.now) calls.new.items }
+    ensures lags { (floor : LeastPassed) (ks : List model.Call) → CallsLag floor (λ c. tick) calls.old.items ks →
+        AllByRecursion (IsListed turns.now) calls.old.items → floor.settled ≤ floor.waking →
+        CallsLag (level floor.settled tick) (λ c. tick) calls.new.items ks }
+    ensures passes { (floor : LeastPassed) (ks : List model.Call) → CallsLag floor (λ c. tick) calls.old.items ks →
         Rise (calls_of turns.now) → tick < floor.waking + 2 ^ 32 →
         moments.new ≤ moments.old + model.session_count ks }
 {

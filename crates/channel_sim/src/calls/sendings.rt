@@ -1,6 +1,6 @@
 //! When frames were sent, and in which calls: those of one direction, from some tick on.
 
-ghost use Rattle.std.specs.Prelude.{◌≡◌, ◌≤◌, ◌<◌, ◌+◌, ℕ, true, false, IfOk, OnOk, OnErr, leb, length, ltb, map, take, drop};
+ghost use Rattle.std.specs.Prelude.{◌≡◌, ◌≤◌, ◌<◌, ◌+◌, ℕ, true, false, IfOk, IfSome, OnOk, OnErr, leb, length, ltb, map, take, drop};
 ghost use Rattle.std.specs.List.{AllByRecursion, insert};
 ghost use Rattle.channel_sim.specs.Tidy.{AreFrom};
 ghost use Rattle.channel_sim.specs.inner.Sendings.{HasSending, IsFoundBy, IsNoted, IsPlaceBehind};
@@ -61,20 +61,30 @@ impl Sendings {
     }
 
     /// Leaves out those that were sent too long before this tick, where they are the most.
+    #[inline]
     fn leave_old_ones(&mut self, tick: u64)
         ensures { (c n : ℕ) → IsNoted c n self.old → IsNoted c n self.new }
     {
         let since = tick.saturating_sub(LONGEST_DELAY);
         let half = self.list.len() / 2;
-        if half < FEW || self.list[half].tick >= since {
-            return;
+        if half >= FEW && self.list[half].tick < since {
+            self.leave_before(since);
         }
-        let old = first_place(&self.list, since, 0);
+    }
+
+    /// Leaves out those that were sent before this tick. Out of line, since that is seldom.
+    #[cold]
+    #[inline(never)]
+    fn leave_before(&mut self, tick: u64)
+        ensures { (c n : ℕ) → IsNoted c n self.old → IsNoted c n self.new }
+    {
+        let old = first_place(&self.list, tick, 0);
         drop(self.list.drain(..old));
-        self.since = self.since.max(since);
+        self.since = self.since.max(tick);
     }
 
     /// Adds a sending behind those that were sent no later.
+    #[inline]
     fn add(&mut self, call: u32, tick: u64) -> Result<(), AllocError>
         ensures kept { (c n : ℕ) → IsNoted c n self.old → IsNoted c n self.new }
         ensures noted { OnOk result (IsNoted call tick self.new) }
@@ -105,6 +115,21 @@ impl Sendings {
         }
     }
 
+    /// The call in which frames were sent at this tick, where that is known and there is one alone. So it is nearly
+    /// always, and then nothing is listed. `near` becomes the place behind it.
+    #[inline]
+    pub(super) fn only_call(&self, tick: u64, near: &mut usize) -> Option<u32>
+        ensures { IfSome result (λ call. (c : ℕ) → IsNoted c tick self.now → c ≡ call) }
+    {
+        if tick < self.since {
+            return None;
+        }
+        let first = first_place(&self.list, tick, *near);
+        let call = only_at(&self.list[first..], tick)?;
+        *near = first + 1;
+        Some(call)
+    }
+
     /// The calls in which frames were sent at this tick, in place of what stood in `numbers`, unless some may have been
     /// left out: whether they weren't. `near` becomes the place behind them.
     pub(super) fn list_calls(
@@ -127,7 +152,22 @@ impl Sendings {
     }
 }
 
+/// The call of the first of these, which was sent at this tick, if the next was sent later.
+#[inline]
+fn only_at(sendings: &[Sending], tick: u64) -> Option<u32>
+    ensures { AreFrom tick (map (λ x. x.tick) sendings.now) →
+        IfSome result (λ call. (c : ℕ) → HasSending c tick sendings.now → c ≡ call) }
+{
+    let (first, others) = sendings.split_first()?;
+    match others.first() {
+        Some(next) if next.tick == tick => None,
+        _ if first.tick == tick => Some(first.call),
+        _ => None,
+    }
+}
+
 /// Puts a sending at a place: nearly always behind the last.
+#[inline]
 fn put_at(sendings: &mut Vec<Sending>, place: usize, sending: Sending) -> Result<(), AllocError>
     requires { place ≤ length sendings.old.items }
     ensures ok { OnOk result (sendings.new.items ≡ insert sendings.old.items place sending) }
@@ -171,19 +211,31 @@ fn list_at(sendings: &[Sending], tick: u64, numbers: &mut Vec<u32>) -> Result<us
 }
 
 /// The place behind all that were sent no later than at this tick: nearly always behind the last.
+#[inline]
 fn place_behind(sendings: &[Sending], tick: u64) -> usize
     ensures within { result ≤ length sendings.now }
     ensures behind { AreFrom 0 (map (λ x. x.tick) sendings.now) →
         IsPlaceBehind tick result (map (λ x. x.tick) sendings.now) }
 {
     match sendings.last() {
-        Some(last) if last.tick > tick => sendings.partition_point(
-            |one: &Sending| -> bool
-                ensures { result ≡ leb one.now.tick tick }
-            { one.tick <= tick },
-        ),
+        Some(last) if last.tick > tick => search_behind(sendings, tick),
         _ => sendings.len(),
     }
+}
+
+/// The place behind all that were sent no later than at this tick, by halves.
+#[cold]
+#[inline(never)]
+fn search_behind(sendings: &[Sending], tick: u64) -> usize
+    ensures within { result ≤ length sendings.now }
+    ensures behind { AreFrom 0 (map (λ x. x.tick) sendings.now) →
+        IsPlaceBehind tick result (map (λ x. x.tick) sendings.now) }
+{
+    sendings.partition_point(
+        |one: &Sending| -> bool
+            ensures { result ≡ leb one.now.tick tick }
+        { one.tick <= tick },
+    )
 }
 
 /// Whether there is one at this place, and it was sent earlier than at this tick.

@@ -18,11 +18,12 @@ use super::{Call, Calls, find};
 use link_frames::{Items, Steps, Why, no_items};
 use psap_machine::{PointEvent, Session};
 use std::alloc::AllocError;
+use std::collections::VecDeque;
 use std::sync::ledger::Ledger;
 
 /// Whether a call's session is there.
-pub(crate) fn has_session(calls: &[Call], number: u32) -> bool
-    ensures { (floor : LeastPassed) (clock : ℕ → ℕ) (ks : List model.Call) → CallsLag floor clock calls.now ks →
+pub(crate) fn has_session(calls: &VecDeque<Call>, number: u32) -> bool
+    ensures { (floor : LeastPassed) (clock : ℕ → ℕ) (ks : List model.Call) → CallsLag floor clock calls.now.items ks →
         AreAbove 0 (numbers_of ks) →
         result ≡ is_some (model.session_of number ks) }
 {
@@ -49,7 +50,7 @@ pub(crate) fn admit(
         let call = &mut calls.list[i];
         call.session = Seat::of(session);
         call.passed = tick;
-        calls.turns.note(turn, acts_from(&calls.list[i]));
+        calls.turns.note(turn, acts_from(call));
     }
     Ok(())
 }
@@ -78,8 +79,9 @@ pub(crate) fn hear_session(
     match find(&calls.list, number) {
         Some(i) => {
             let turn = calls.turns.wake(number)?;
-            let there = hear_call(&mut calls.list[i], tick, event, items);
-            calls.turns.note(turn, acts_from(&calls.list[i]));
+            let call = &mut calls.list[i];
+            let there = hear_call(call, tick, event, items);
+            calls.turns.note(turn, acts_from(call));
             Ok(there)
         }
         None => {
@@ -118,8 +120,9 @@ pub(crate) fn act_session<L: Ledger>(
         return Ok(false);
     }
     let turn = calls.turns.wake(number)?;
-    let done = act_at(&mut calls.list[i], tick, items, moments);
-    calls.turns.note(turn, acts_from(&calls.list[i]));
+    let call = &mut calls.list[i];
+    let done = act_at(call, tick, items, moments);
+    calls.turns.note(turn, acts_from(call));
     Ok(done)
 }
 
@@ -143,8 +146,9 @@ pub(crate) fn catch_session_up<L: Ledger>(
 {
     if let Some(i) = find(&calls.list, number) {
         let turn = calls.turns.wake(number)?;
-        catch_waking_up(&mut calls.list[i], tick, items, moments);
-        calls.turns.note(turn, acts_from(&calls.list[i]));
+        let call = &mut calls.list[i];
+        catch_waking_up(call, tick, items, moments);
+        calls.turns.note(turn, acts_from(call));
     }
     Ok(())
 }

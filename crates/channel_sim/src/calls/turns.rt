@@ -9,6 +9,7 @@ ghost use Rattle.channel_sim.specs.inner.Turns.{HasTurn, IsAmong, IsBelow, IsGap
 use super::call::{acts_from, sleeps};
 use super::{Call, find};
 use std::alloc::{AllocError, Global};
+use std::collections::VecDeque;
 use std::marker::Model;
 
 /// Before this tick the session of this call does nothing.
@@ -78,12 +79,17 @@ impl Turns {
         }
     }
 
-    /// This call has no turn any more.
+    /// This call has no turn any more, or one that never comes, which is left out once turns are renewed: so no other
+    /// moves.
     pub(super) fn forget(&mut self, call: u32)
         ensures { OthersStay call self.old self.new }
     {
         if let Ok(place) = turn_place(&self.list, call) {
-            self.list.remove(place);
+            if place + 1 == self.list.len() {
+                self.list.remove(place);
+            } else {
+                self.list[place].tick = u64::MAX;
+            }
         }
     }
 
@@ -110,16 +116,19 @@ impl Turns {
 
     /// Each turn is where the session of its call acts next, and those of sessions that are settled, or of calls that
     /// are gone, are left out.
-    pub(super) fn renew(&mut self, calls: &[Call])
-        requires { AreAbove 0 (numbers calls.now) }
-        ensures { AllByRecursion (IsListed self.old) calls.now → AllByRecursion (IsWatched self.new) calls.now }
+    pub(super) fn renew(&mut self, calls: &VecDeque<Call>)
+        requires { AreAbove 0 (numbers calls.now.items) }
+        ensures { AllByRecursion (IsListed self.old) calls.now.items →
+            AllByRecursion (IsWatched self.new) calls.now.items }
     {
-        renew_each(&mut self.list, calls);
+        if !renew_each(&mut self.list, calls) {
+            return;
+        }
         self.list.retain(
             |turn: &Turn| -> bool
-                requires { AreAbove 0 (numbers calls.now) }
+                requires { AreAbove 0 (numbers calls.now.items) }
                 ensures { result ≡ false →
-                    AllByRecursion (λ k. k.number ≡ turn.now.call → Sleeps k) calls.entry.now }
+                    AllByRecursion (λ k. k.number ≡ turn.now.call → Sleeps k) calls.entry.now.items }
             { is_awake(calls, turn.call) },
         );
     }
@@ -194,23 +203,27 @@ fn first_by(turns: &[Turn], tick: u64) -> Option<u32>
     None
 }
 
-/// Each of these turns is where the session of its call acts next, if that isn't settled.
-fn renew_each(turns: &mut [Turn], calls: &[Call])
-    requires { AreAbove 0 (numbers calls.now) }
+/// Each of these turns is where the session of its call acts next, if that is there: whether one of them never comes.
+fn renew_each(turns: &mut [Turn], calls: &VecDeque<Call>) -> bool
+    requires { AreAbove 0 (numbers calls.now.items) }
     ensures same { calls_of turns.new ≡ calls_of turns.old }
-    ensures watched { AllByRecursion (IsListed turns.old) calls.now → AllByRecursion (IsWatched turns.new) calls.now }
+    ensures watched { AllByRecursion (IsListed turns.old) calls.now.items →
+        AllByRecursion (IsWatched turns.new) calls.now.items }
 {
+    let mut never = false;
     for turn in turns {
         if let Some(i) = find(calls, turn.call) {
             turn.tick = acts_from(&calls[i]);
         }
+        never |= turn.tick == u64::MAX;
     }
+    never
 }
 
 /// Whether there is a call of this number, and its session isn't settled.
-fn is_awake(calls: &[Call], call: u32) -> bool
-    requires { AreAbove 0 (numbers calls.now) }
-    ensures { result ≡ false → AllByRecursion (λ k. k.number ≡ call → Sleeps k) calls.now }
+fn is_awake(calls: &VecDeque<Call>, call: u32) -> bool
+    requires { AreAbove 0 (numbers calls.now.items) }
+    ensures { result ≡ false → AllByRecursion (λ k. k.number ≡ call → Sleeps k) calls.now.items }
 {
     match find(calls, call) {
         Some(i) => !sleeps(&calls[i]),

@@ -1,22 +1,17 @@
-use Rattle.std.proofs.Common.{rules, ◌<◌, IfSome, length, sym, subst, ◌∙◌}
-use Rattle.std.proofs.lemmas.List.Sorted.{answers_always}
-use Rattle.channel_sim.specs.declared.calls.call.Call.{Call}
-use Rattle.channel_sim.proofs.PlaceLemmas.{found_place, searched_place, searched_within}
+use Rattle.std.proofs.Common.{◌≡◌, ◌<◌, ◌-◌, get_or, length, refl, subst, sym, arith}
+use Rattle.std.specs.VecDeque.{deque_len}
+use Rattle.channel_sim.proofs.PlaceLemmas.{found_place}
 use Rattle.channel_sim.proofs.calls.find.Goals as goal
 
-pub returns-then-calls-place-clause-place : goal.returns-then-calls-place-clause-place
-returns-then-calls-place-clause-place c =
-    let place = c.likely_place-place.result in
-    let inside : place < length c.args.calls.now = c.if-place-calls.true in
-    λ above. sym (found_place 0 c.args.number c.args.calls.now place c.index-calls-place.result above inside c.if-calls-place.true)
-
-pub returns-clause-place : goal.returns-clause-place
-returns-clause-place c =
+pub returns-in-Some-clause-place : goal.returns-in-Some-clause-place
+returns-in-Some-clause-place c =
     λ above.
-    let facts = c.binary_search_by_key.ensures in
-    let by_key = facts.position (λ (x : Call). x.number) (answers_always _ _ _ (λ f a r g called. search rules)) in
-    c.ok.ensures.value ∙ searched_place c.args.number c.args.calls.now c.binary_search_by_key.result above facts.bound by_key
-
-pub returns-clause-within : goal.returns-clause-within
-returns-clause-within c =
-    subst (λ o. IfSome o (λ i. i < length c.args.calls.now)) (sym c.ok.ensures.value) (searched_within (length c.args.calls.now) c.binary_search_by_key.result c.binary_search_by_key.ensures.bound)
+    let calls = c.args.calls.now in
+    let xs = calls.items in
+    let x = c.in-Some.newest.now in
+    let at = c.len.result - 1 in
+    let some : 0 < deque_len calls = c.in-Some.ensures.variant.0 refl in
+    let long = calls.ok.0 in
+    let inside : at < length xs = omega (arith, some, long, c.len.ensures) in
+    let value : x ≡ get_or xs at x = subst (λ n. x ≡ get_or xs (n - 1) x) (sym c.len.ensures) c.in-Some.ensures.lookup in
+    sym (found_place 0 c.args.number xs at x above inside (subst (λ k. k.number ≡ c.args.number) value c.if-newest-number.true))

@@ -1,4 +1,4 @@
-use Rattle.std.proofs.Common.{◌≡◌, ◌<◌, get_or, length, map, ap, sym, ◌∙◌, subst, arith}
+use Rattle.std.proofs.Common.{◌≡◌, ◌<◌, get_or, length, map, ap, sym, ◌∙◌, subst, refl}
 use Rattle.std.proofs.Math.ListN.{set}
 use Rattle.trace_model.specs.History.{Sent}
 use Rattle.channel_sim.specs.World.{carries}
@@ -28,8 +28,8 @@ invariant_of-calls-in-Some c =
     let i = c.in-Some.i in
     let d = c.index_mut.result.now in
     let frame = c.args.frame.now in
-    let inside : i < length xs = omega (arith, c.in-Some.ensures.within, ap length c.deref.ensures.value) in
-    let number = found_number c.args.number c.deref.result.now xs c.find.result i d c.deref.ensures.value c.calls.invariant.numbers c.find.ensures.place c.in-Some.is inside in
+    let inside : i < length xs = c.in-Some.ensures.within in
+    let number = found_number c.args.number xs xs c.find.result i d refl c.calls.invariant.numbers c.find.ensures.place c.in-Some.is inside in
     let list : now.list.items ≡ xs = elim c.match-end.branch [ in-Vehicle+in_ok-note-in-Vehicle w ↦ ap (λ z. z.list.items) w.calls-inside-is | in-Point+in_ok-note-in-Point w ↦ ap (λ z. z.list.items) w.calls-inside-is ] in
     let stands : CallsStand now.turns now.up now.down xs =
     elim c.match-end.branch [
@@ -65,7 +65,7 @@ returns-after-end c =
     let now = c.match-end.calls-inside in
     let i = c.in-Some.i in
     let list : now.list.items ≡ xs = elim c.match-end.branch [ in-Vehicle+in_ok-note-in-Vehicle w ↦ ap (λ z. z.list.items) w.calls-inside-is | in-Point+in_ok-note-in-Point w ↦ ap (λ z. z.list.items) w.calls-inside-is ] in
-    let place = found_at floor clock c.args.number c.deref.result.now xs ks _ c.deref.ensures.value c.in-Some.ensures.place h above in
+    let place = found_at floor clock c.args.number xs xs ks _ refl c.in-Some.ensures.place h above in
     let sent : Sent = record { tick = c.args.tick; frame = c.args.frame.now } in
     let value = c.index_mut.ensures.value ∙ ap (λ zs. get_or zs i c.index_mut.result.now) list in
     on_ok c.push.result
@@ -80,6 +80,6 @@ pub returns-in-None : goal.returns-in-None
 returns-in-None c =
     rw (← c.calls.view_is) (
     λ floor clock ks h above.
-    let place = found_at floor clock c.args.number c.deref.result.now c.calls.inside.list.items ks _ c.deref.ensures.value c.in-None.ensures.place h above in
+    let place = found_at floor clock c.args.number c.calls.inside.list.items c.calls.inside.list.items ks _ refl c.in-None.ensures.place h above in
     posted_elsewhere floor clock c.args.tick c.args.number c.args.end c.args.frame.now c.calls.inside.list.items ks h place
     )

@@ -9,15 +9,15 @@ use Rattle.channel_sim.proofs.calls.sent_frame.Goals as goal
 pub returns-in-Some : goal.returns-in-Some
 returns-in-Some c =
     λ floor clock ks h above.
-    let xs = c.args.calls.now in
+    let xs = c.args.calls.now.items in
     let place = found_at floor clock c.args.number xs xs ks _ refl c.in-Some.ensures.place h above in
-    let sent = sent_at floor clock c.args.number xs ks c.in-Some.i c.index-calls-i.result h place in
-    c.frame.ensures ∙ ap (λ (ss : List Sent). option_map (λ s. s.frame) (slice_get ss c.args.place)) (either c.args.up _ _ _ _ (ap (λ k. k.up) c.index-calls-i.is ∙ sym sent.0) (ap (λ k. k.down) c.index-calls-i.is ∙ sym sent.1))
+    let sent = sent_at floor clock c.args.number xs ks c.in-Some.i c.index.result.now h place in
+    c.frame.ensures ∙ ap (λ (ss : List Sent). option_map (λ s. s.frame) (slice_get ss c.args.place)) (either c.args.up _ _ _ _ (ap (λ k. k.up) c.index.ensures ∙ sym sent.0) (ap (λ k. k.down) c.index.ensures ∙ sym sent.1))
 
 pub returns-in-None : goal.returns-in-None
 returns-in-None c =
     λ floor clock ks h above.
-    let xs = c.args.calls.now in
+    let xs = c.args.calls.now.items in
     let place = found_at floor clock c.args.number xs xs ks _ refl c.in-None.ensures.place h above in
     let none = no_call_of c.args.number ks place in
     ap (λ (ss : List Sent). option_map (λ s. s.frame) (slice_get ss c.args.place))

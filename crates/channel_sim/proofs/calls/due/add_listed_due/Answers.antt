@@ -20,17 +20,17 @@ loop-number-preserved c =
     let numbers = c.args.numbers.now in
     let i = c.loop-number.number-index in
     let n = get_or numbers i 0 in
-    let xs = c.args.calls.now in
+    let xs = c.args.calls.now.items in
     let at = c.args.tick + suc d in
     let old = map due_of c.args.due.now.items in
     let place = found_at floor clock n xs xs ks _ refl c.find.ensures.place h above in
     let grown : map due_of c.match-find.due.items ≡ map due_of c.loop-number.due.items ++ due_in (sent_way up) (suc d) at (alone (call_of n ks)) =
     elim c.match-find.branch [
       | in-Some+in_ok-add_due w ↦ (
-          let found = call_at floor clock n xs ks w.in-Some.i w.index-calls-i.result h (place ∙ w.in-Some.is) in
+          let found = call_at floor clock n xs ks w.in-Some.i w.index.result.now h (place ∙ w.in-Some.is) in
           let k = found.0 in
-          let lags : CallLags floor (clock k.number) w.index-calls-i.result k = subst (λ x. CallLags floor (clock k.number) x k) (sym w.index-calls-i.is) found.2 in
-          let way = w.sends.ensures ∙ way_kept up floor (clock k.number) w.index-calls-i.result k lags in
+          let lags : CallLags floor (clock k.number) w.index.result.now k = subst (λ x. CallLags floor (clock k.number) x k) (sym w.index.ensures) found.2 in
+          let way = w.sends.ensures ∙ way_kept up floor (clock k.number) w.index.result.now k lags in
           let rise = subst (λ ss. AreFrom 0 (ticks_of ss)) (sym way) (way_rises up now k (found_has (CallInTime now) n ks k found.1 in_time)) in
           ap (λ v. map due_of v.items) w.due-is
           ∙ w.in_ok-add_due.ensures (suc d) rise
@@ -57,4 +57,4 @@ returns c =
     let past : length numbers ≤ i = c.loop-number-test.false in
     c.loop-number.invariant d floor now clock ks h above in_time
     ∙ ap (λ ns. old ++ due_listed (sent_way up) d (c.args.tick + suc d) ns ks) (take_all i numbers past)
-    ∙ ap (λ z. old ++ z) (all_listed (sent_way up) d c.args.tick 0 ks numbers above rise (listed_kept up floor clock c.args.tick numbers c.args.calls.now ks h listed))
+    ∙ ap (λ z. old ++ z) (all_listed (sent_way up) d c.args.tick 0 ks numbers above rise (listed_kept up floor clock c.args.tick numbers c.args.calls.now.items ks h listed))

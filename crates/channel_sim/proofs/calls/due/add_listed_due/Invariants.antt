@@ -10,5 +10,5 @@ use Rattle.channel_sim.proofs.calls.due.add_listed_due.Given as goal
 -- the frames of the calls of the numbers so far stand behind those that were there
 abbrev pub invariant-loop-number : goal.invariant-loop-number
 invariant-loop-number l =
-    (d : ℕ) (floor : LeastPassed) (now : ℕ) (clock : ℕ → ℕ) (ks : List Call) → CallsLag floor clock l.calls ks → AreAbove 0 (numbers_of ks) → AllByRecursion (CallInTime now) ks →
+    (d : ℕ) (floor : LeastPassed) (now : ℕ) (clock : ℕ → ℕ) (ks : List Call) → CallsLag floor clock l.calls.items ks → AreAbove 0 (numbers_of ks) → AllByRecursion (CallInTime now) ks →
     map due_of l.due.items ≡ map due_of l.initial.due.items ++ due_listed (sent_way l.up) d (l.tick + suc d) (take l.number-index l.numbers) ks

@@ -11,10 +11,10 @@ use Rattle.channel_sim.proofs.calls.passing.pass_listed.Given as goal
 abbrev pub invariant-loop-turn : goal.invariant-loop-turn
 invariant-loop-turn g l =
     record {
-      same : map bare l.calls ≡ map bare l.initial.calls;
-      listed : AllByRecursion (IsListed l.turns) l.initial.calls → AllByRecursion (IsListed l.turns) l.calls;
-      lags : (floor : LeastPassed) (ks : List Call) → CallsLag floor (λ c. l.tick) l.initial.calls ks → CallsLag floor (λ c. l.tick) l.calls ks;
-      reached : AreReached l.tick (calls_of (take l.turn-index l.turns)) l.calls;
-      passes : (floor : LeastPassed) (ks : List Call) → CallsLag floor (λ c. l.tick) l.initial.calls ks → l.tick < floor.waking + 2 ^ 32 →
+      same : map bare l.calls.items ≡ map bare l.initial.calls.items;
+      listed : AllByRecursion (IsListed l.turns) l.initial.calls.items → AllByRecursion (IsListed l.turns) l.calls.items;
+      lags : (floor : LeastPassed) (ks : List Call) → CallsLag floor (λ c. l.tick) l.initial.calls.items ks → CallsLag floor (λ c. l.tick) l.calls.items ks;
+      reached : AreReached l.tick (calls_of (take l.turn-index l.turns)) l.calls.items;
+      passes : (floor : LeastPassed) (ks : List Call) → CallsLag floor (λ c. l.tick) l.initial.calls.items ks → l.tick < floor.waking + 2 ^ 32 →
           l.moments ≤ l.initial.moments + turn_count (calls_of (take l.turn-index l.turns)) ks;
     }

@@ -1,17 +1,7 @@
-use Rattle.std.proofs.Common.{rules, of_calls, ◌-◌, ◌<◌, ◌≤◌, get_or, leb, length, subst, arith}
-use Rattle.std.proofs.lemmas.List.Sorted.{IsPartitionPoint-from_clause, IsPartitionedBy-leb}
-use Rattle.std.specs.List.Sorted.{IsPartitionedBy}
+use Rattle.std.proofs.Common.{◌-◌, ◌<◌, ◌≤◌, get_or, length, subst, arith}
 use Rattle.channel_sim.specs.declared.calls.sendings.Sending.{Sending}
-use Rattle.channel_sim.proofs.TickLemmas.{never_fall, split_behind, behind_all, up_to_last}
+use Rattle.channel_sim.proofs.TickLemmas.{behind_all, up_to_last}
 use Rattle.channel_sim.proofs.calls.sendings.place_behind.Goals as goal
-
-pub returns-in-Some-clause-behind : goal.returns-in-Some-clause-behind
-returns-in-Some-clause-behind c =
-    λ rise.
-    let fs = c.args.sendings.now in
-    let ordered : IsPartitionedBy (λ (s : Sending). leb s.tick c.args.tick) fs = IsPartitionedBy-leb (λ (s : Sending). s.tick) fs c.args.tick (never_fall (λ (s : Sending). s.tick) 0 fs rise) in
-    split_behind (λ (s : Sending). s.tick) c.args.tick c.partition_point.result fs
-    (IsPartitionPoint-from_clause (λ (s : Sending). leb s.tick c.args.tick) fs c.partition_point.result c.partition_point.ensures.partitioned ordered (λ a r f k. search (rules, of_calls)))
 
 pub returns-in_default-clause-behind : goal.returns-in_default-clause-behind
 returns-in_default-clause-behind c =

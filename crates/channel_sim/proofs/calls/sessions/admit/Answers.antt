@@ -1,4 +1,4 @@
-use Rattle.std.proofs.Common.{◌≡◌, ◌<◌, get_or, length, ap, arith, Some, sym, ◌∙◌, subst}
+use Rattle.std.proofs.Common.{◌≡◌, ◌<◌, get_or, length, refl, ap, Some, sym, ◌∙◌, subst}
 use Rattle.std.proofs.Math.ListN.{set}
 use Rattle.channel_sim.specs.declared.calls.call.Call as kept
 use Rattle.channel_sim.specs.World.{seated}
@@ -6,7 +6,7 @@ use Rattle.channel_sim.specs.Lag.{CallsLag, level}
 use Rattle.channel_sim.proofs.CallsLemmas.{found_at, none_of, seated_nowhere}
 use Rattle.channel_sim.proofs.ChangeLemmas.{admitted_at}
 use Rattle.channel_sim.specs.inner.Turns.{OthersStay}
-use Rattle.channel_sim.proofs.BesideLemmas.{found_number, noted_watched, stand_set, stay_both, written_at}
+use Rattle.channel_sim.proofs.BesideLemmas.{found_number, noted_watched, stand_set, stay_both}
 use Rattle.channel_sim.proofs.calls.sessions.admit.Goals as goal
 
 pub returns-in_ok-turn : goal.returns-in_ok-turn
@@ -16,7 +16,7 @@ returns-in_ok-turn c =
     let tick = c.args.tick in
     let floor = level settled tick in
     let xs = c.calls.inside.list.items in
-    let place = found_at floor (λ e. tick) c.args.number c.deref.result.now xs ks _ c.deref.ensures.value c.in-Some.ensures.place h above in
+    let place = found_at floor (λ e. tick) c.args.number xs xs ks _ refl c.in-Some.ensures.place h above in
     subst (λ o. CallsLag floor (λ e. tick) (set xs c.in-Some.i (record c.index_mut-call.result.now { session = o; passed = tick })) (seated c.args.number (Some s) ks)) (sym c.of-call.ensures)
     (subst (λ x. CallsLag floor (λ e. tick) (set xs c.in-Some.i (record x { session = Some c.args.session; passed = tick })) (seated c.args.number (Some s) ks)) (sym c.index_mut-call.ensures.value)
     (admitted_at settled tick c.args.number s c.args.session xs ks c.in-Some.i c.index_mut-call.result.now h place stands live))
@@ -29,7 +29,7 @@ returns-in_default c =
     let tick = c.args.tick in
     let floor = level settled tick in
     let xs = c.calls.inside.list.items in
-    let place = found_at floor (λ e. tick) c.args.number c.deref.result.now xs ks c.find.result c.deref.ensures.value c.find.ensures.place h above in
+    let place = found_at floor (λ e. tick) c.args.number xs xs ks c.find.result refl c.find.ensures.place h above in
     subst (CallsLag floor (λ e. tick) xs) (sym (seated_nowhere c.args.number (Some s) ks (place ∙ none_of c.find.result c.in_default.not-Some))) h
     )
 
@@ -40,13 +40,12 @@ invariant_of-calls-in-Some c =
     let i = c.in-Some.i in
     let x = c.index_mut-call.result.now in
     let y : kept.Call = record { passed = c.args.tick; session = c.of-call.result; number = x.number; up = x.up; down = x.down } in
-    let turn = c.in_ok-turn.turn in
-    let inside : i < length xs = omega (arith, c.in-Some.ensures.within, ap length c.deref.ensures.value) in
-    let number = found_number c.args.number c.deref.result.now xs c.find.result i x c.deref.ensures.value h.numbers c.find.ensures.place c.in-Some.is inside in
+    let inside : i < length xs = c.in-Some.ensures.within in
+    let number = found_number c.args.number xs xs c.find.result i x refl h.numbers c.find.ensures.place c.in-Some.is inside in
     let value : x ≡ get_or xs i x = c.index_mut-call.ensures.value in
     let mine : y.number ≡ (get_or xs i x).number = ap (λ z. z.number) value in
     let woken = c.in_ok-turn.ensures.place in
     let stay = stay_both c.args.number c.calls.inside.turns c.wake.new.self c.note.new.self c.in_ok-turn.ensures.others (c.note.ensures.others c.args.number woken) in
-    let one = noted_watched c.note.new.self c.args.number c.acts_from.result y c.index.result.now (written_at xs i c.index.result.now y c.index.result.now inside c.index.ensures) (mine ∙ number) (c.note.ensures.this c.args.number woken) c.acts_from.ensures in
+    let one = noted_watched c.note.new.self c.args.number c.acts_from.result y (mine ∙ number) (c.note.ensures.this c.args.number woken) c.acts_from.ensures in
     stand_set c.calls.inside.turns c.note.new.self c.calls.inside.up c.calls.inside.down xs i x y inside mine (ap (λ z. z.up) value) (ap (λ z. z.down) value)
     (subst (λ n. OthersStay n c.calls.inside.turns c.note.new.self) (sym number) stay) one h

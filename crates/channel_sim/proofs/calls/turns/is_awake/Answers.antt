@@ -10,9 +10,9 @@ was_not false e = cc
 pub returns-in-Some : goal.returns-in-Some
 returns-in-Some c =
     λ no.
-    at_place Sleeps 0 c.args.call c.args.calls.now c.in-Some.i c.index-calls-i.result c.requires (sym (c.find.ensures.place c.requires) ∙ c.in-Some.is)
-    (subst Sleeps c.index-calls-i.is (c.sleeps.ensures.0 (was_not c.sleeps.result no)))
+    at_place Sleeps 0 c.args.call c.args.calls.now.items c.in-Some.i c.index.result.now c.requires (sym (c.find.ensures.place c.requires) ∙ c.in-Some.is)
+    (subst Sleeps c.index.ensures (c.sleeps.ensures.0 (was_not c.sleeps.result no)))
 
 pub returns-in-None : goal.returns-in-None
 returns-in-None c =
-    λ no. no_place Sleeps c.args.call c.args.calls.now (sym (c.find.ensures.place c.requires) ∙ c.in-None.is)
+    λ no. no_place Sleeps c.args.call c.args.calls.now.items (sym (c.find.ensures.place c.requires) ∙ c.in-None.is)

@@ -6,21 +6,21 @@ use Rattle.channel_sim.proofs.calls.turns.renew_each.Goals as goal
 
 pub loop-turn-preserved : goal.loop-turn-preserved
 loop-turn-preserved c =
-    let calls = c.args.calls.now in
-    let more = renewed_more calls c.args.turns.now c.loop-turn.turn-items c.match-find.turn-items c.loop-turn.turn-index in
+    let calls = c.args.calls.now.items in
+    let more = renewed_more calls c.args.turns.now c.loop-turn.turn-items c.loop-turn.turn-index in
     let place = sym (c.find.ensures.place c.requires) in
     elim c.match-find.branch [
       | in-Some w ↦
-          more _ _ (omega arith) w.turn-items-is refl c.loop-turn.invariant.0 c.loop-turn.invariant.1
-          (at_place (WaitsUntil w.acts_from-turn.result) 0 _ calls w.in-Some.i w.index-calls-i.result c.requires (place ∙ w.in-Some.is)
-          (subst (WaitsUntil w.acts_from-turn.result) w.index-calls-i.is w.acts_from-turn.ensures))
+          more _ _ _ (omega arith) w.turn-is refl c.loop-turn.invariant.0 c.loop-turn.invariant.1
+          (at_place (WaitsUntil w.acts_from-turn.result) 0 _ calls w.in-Some.i w.index.result.now c.requires (place ∙ w.in-Some.is)
+          (subst (WaitsUntil w.acts_from-turn.result) w.index.ensures w.acts_from-turn.ensures))
       | in_default w ↦
-          more _ _ (omega arith) w.turn-items-is refl c.loop-turn.invariant.0 c.loop-turn.invariant.1
+          more _ _ _ (omega arith) w.turn-is refl c.loop-turn.invariant.0 c.loop-turn.invariant.1
           (no_place (WaitsUntil _) _ calls (place ∙ w.in_default.is))
     ]
 
 pub returns-clause-watched : goal.returns-clause-watched
 returns-clause-watched c =
     λ listed.
-    renewed c.args.calls.now c.args.turns.now c.loop-turn.turn-items c.loop-turn.invariant.0
-    (all_passed (Holds c.args.calls.now) c.loop-turn.turn-items c.loop-turn.turn-index (omega arith) c.loop-turn.invariant.1) listed
+    renewed c.args.calls.now.items c.args.turns.now c.loop-turn.turn-items c.loop-turn.invariant.0
+    (all_passed (Holds c.args.calls.now.items) c.loop-turn.turn-items c.loop-turn.turn-index (omega arith) c.loop-turn.invariant.1) listed

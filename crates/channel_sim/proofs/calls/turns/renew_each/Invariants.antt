@@ -6,4 +6,4 @@ use Rattle.channel_sim.proofs.calls.turns.renew_each.Given as goal
 
 -- the calls are as before, and the turns so far hold
 abbrev pub invariant-loop-turn : goal.invariant-loop-turn
-invariant-loop-turn l = (calls_of l.turn-items ≡ calls_of l.fn.turns) × AllByRecursion (Holds l.calls) (take l.turn-index l.turn-items)
+invariant-loop-turn l = (calls_of l.turn-items ≡ calls_of l.fn.turns) × AllByRecursion (Holds l.calls.items) (take l.turn-index l.turn-items)

@@ -32,7 +32,7 @@ returns-in_err-did-clause-step g c =
     let row = vehicle.vehicle_row w.vehicle (e (w.drawn + 1)) in
     let stands : IvsStandsFor c.hear_into.new.self row.new = subst (λ h. IvsStandsFor c.hear_into.new.self (vehicle.vehicle_row w.vehicle h).new) heard (c.hear_into.ensures.stands w.vehicle is) in
     let ready = subst (λ n. IsReady kept.tick (level settled kept.tick) (λ d. kept.tick) moved (lines.with_call w) row.new (lines.with_call w).calls (Some n)) (ap (λ n. n + 1) s.drawn)
-    (arrival_ready settled kept moved w row.new s out refl (c.in_ok-add_call.ensures (next_above settled kept w s)) stands) in
+    (arrival_ready settled kept moved w row.new s out refl (c.in_ok-add_call.ensures.added (next_above settled kept w s)) stands) in
     let part = c.in_err-did.ensures.step kept.tick (level settled kept.tick) (λ d. kept.tick) (lines.with_call w) row.new (lines.with_call w).calls ready in
     let items = c.as_slice.ensures.value ∙ c.hear_into.ensures.gives w.vehicle is ∙ ap (λ h. (vehicle.vehicle_row w.vehicle h).items) heard in
     rw failed.1 (g.met.H.Listener.longer _ _ _ _ (subst (λ ns. g.H.Listener.partly c.args.to.now c.did.new.to (told w.tick ns)) items part))
@@ -48,7 +48,7 @@ returns-in_err-admit-clause-step g c =
     let row = vehicle.vehicle_row w.vehicle (e (w.drawn + 1)) in
     let stands : IvsStandsFor c.hear_into.new.self row.new = subst (λ h. IvsStandsFor c.hear_into.new.self (vehicle.vehicle_row w.vehicle h).new) heard (c.hear_into.ensures.stands w.vehicle is) in
     let ready = subst (λ n. IsReady kept.tick (level settled kept.tick) clock moved (lines.with_call w) row.new (lines.with_call w).calls (Some n)) (ap (λ n. n + 1) s.drawn)
-    (arrival_ready settled kept moved w row.new s out refl (c.in_ok-add_call.ensures (next_above settled kept w s)) stands) in
+    (arrival_ready settled kept moved w row.new s out refl (c.in_ok-add_call.ensures.added (next_above settled kept w s)) stands) in
     let items = c.as_slice.ensures.value ∙ c.hear_into.ensures.gives w.vehicle is ∙ ap (λ h. (vehicle.vehicle_row w.vehicle h).items) heard in
     let did = subst (λ ns. g.H.Listener.grew c.args.to.now c.did.new.to (told w.tick ns)) items
     (c.in_ok-did.ensures.step kept.tick (level settled kept.tick) clock (lines.with_call w) row.new (lines.with_call w).calls ready).0 in
@@ -65,7 +65,7 @@ returns-clause-step g c =
     let row = vehicle.vehicle_row w.vehicle (e (w.drawn + 1)) in
     let stands : IvsStandsFor c.hear_into.new.self row.new = subst (λ h. IvsStandsFor c.hear_into.new.self (vehicle.vehicle_row w.vehicle h).new) heard (c.hear_into.ensures.stands w.vehicle is) in
     let ready = subst (λ n. IsReady kept.tick (level settled kept.tick) clock moved (lines.with_call w) row.new (lines.with_call w).calls (Some n)) (ap (λ n. n + 1) s.drawn)
-    (arrival_ready settled kept moved w row.new s out refl (c.in_ok-add_call.ensures (next_above settled kept w s)) stands) in
+    (arrival_ready settled kept moved w row.new s out refl (c.in_ok-add_call.ensures.added (next_above settled kept w s)) stands) in
     let items = c.as_slice.ensures.value ∙ c.hear_into.ensures.gives w.vehicle is ∙ ap (λ h. (vehicle.vehicle_row w.vehicle h).items) heard in
     let first : model.Step = model.vehicle_did (lines.with_call w) row in
     let did = subst (λ ns. g.H.Listener.grew c.args.to.now c.did.new.to (told w.tick ns) × StandsAt kept.tick (level settled kept.tick) clock c.did.new.self (model.did (lines.with_call w) ns row.new (lines.with_call w).calls).world) items
