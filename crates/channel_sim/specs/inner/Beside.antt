@@ -22,7 +22,7 @@ pub record CallsStand (turns : List Turn) (up down : SentSince) (calls : List Ca
 abbrev pub Waits : ℕ → Call → Type 0
 Waits tick k = DueLater (tick - k.passed) k.session
 
--- a call with one of these numbers waits up to this tick, where it wasn't passed so far
+-- a call with one of these numbers waits up to this tick, where it wasn't passed further
 abbrev pub WaitsBetween : (from : ℕ) (to : Option ℕ) (tick : ℕ) → Call → Type 0
 WaitsBetween from to tick k = from ≤ k.number → IsBelow k.number to → k.passed ≤ tick → Waits tick k
 
