@@ -327,6 +327,11 @@ pub ends_more : (n few most m before after : ℕ) → before ≤ m + n → after
     → after ≤ m + (n + most)
 ends_more n few most m before after first second fall = omega arith
 
+-- where no session is there, nothing was passed
+pub unheard_more : (o : Option Point) (old new more : ℕ) → is_some o ≡ false → new ≤ old + once_if o → new ≤ old + more
+unheard_more None old new more gone h = let none : new ≤ old + 0 = h in omega (arith, none)
+unheard_more (Some s) old new more gone h = cc
+
 -- a frame handed over
 
 pub handed_up_more : (d : Due) (w : World) (old mid new : ℕ)

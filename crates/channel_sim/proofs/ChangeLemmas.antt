@@ -117,7 +117,3 @@ same_lengths floor clock [] [] h = refl
 same_lengths floor clock [] (k ∷ ks) h = absurd h
 same_lengths floor clock (x ∷ xs) [] h = absurd h
 same_lengths floor clock (x ∷ xs) (k ∷ ks) h = ap suc (same_lengths floor clock xs ks h.1)
-
-pub either : {A : Type 0} (b : Bool) (x y x' y' : A) → x ≡ x' → y ≡ y' → (if b then x else y) ≡ (if b then x' else y')
-either true x y x' y' e f = e
-either false x y x' y' e f = f

@@ -1,5 +1,5 @@
 -- Frames handed over.
-use Rattle.std.proofs.Common.{◌≡◌, ℕ, ◌-◌, ◌≤◌, if◌then◌else◌, Bool, true, false, Option, Some, None, Result, Ok, Err, List, [], ◌∷◌, slice_get, refl, ap, sym, ◌∙◌, subst, arith}
+use Rattle.std.proofs.Common.{◌≡◌, ℕ, if◌then◌else◌, Bool, true, false, Option, Some, None, Result, Ok, Err, List, [], ◌∷◌, slice_get, refl, ap, sym, ◌∙◌, subst, arith}
 use Rattle.std.specs.Option.{option_map}
 use Rattle.link_frames.specs.declared.frame.Frame.{Frame}
 use Rattle.ivs_machine.specs.VehicleRows as vehicle
@@ -9,7 +9,7 @@ use Rattle.trace_model.specs.History.{Sent}
 use Rattle.channel_sim.specs.declared.channel.Channel as kept_channel
 use Rattle.channel_sim.specs.World.{World, Step, Session, InCall, Hears, Due, call_of, quiet_step, one_handed, performs, settled, point_is_in, vehicle_is_in, hands_up, hands_down}
 use Rattle.channel_sim.specs.Lines.{HandsUp, HandsDown, hands_one, or_nothing, sent_up, sent_down}
-use Rattle.channel_sim.specs.Lag.{LeastPassed, level, VehicleLags, CallsLag, StandsAt, StandsNow, CameAt, CameNow}
+use Rattle.channel_sim.specs.Lag.{LeastPassed, level, CallsLag, StandsAt, StandsNow, CameAt, CameNow}
 use Rattle.channel_sim.proofs.LineLemmas.{one_deed, in_call_performs}
 use Rattle.channel_sim.proofs.SessionLemmas.{no_session_step}
 
@@ -75,21 +75,6 @@ down_line c place w frame e = at (vehicle_is_in c w) refl (slice_get (sent_down 
         let d : Due = record { call = c; frame = s.frame } in
         alike_step (or_nothing (HandsDown d ∷ []) w) (hands_down d w) (performs (Hears (vehicle.Arrives frame)) w) (one_deed (HandsDown d) w)
         (subst (λ g. Alike (hands_down d w) (performs (Hears (vehicle.Arrives g)) w)) (sym same) (down_alike d w f))
-
--- what is kept with other calls that stand for the same
-pub with_calls : (ahead : ℕ) (floor : LeastPassed) (clock : ℕ → ℕ) (kept moved : kept_channel.Channel) (w : World) → StandsAt ahead floor clock kept w → moved ≡ record kept { calls = moved.calls } → CallsLag floor clock moved.calls w.calls → StandsAt ahead floor clock moved w
-with_calls ahead floor clock kept moved w s same calls =
-    record {
-      tick = s.tick ∙ sym (ap (λ x. x.tick) same);
-      drawn = s.drawn ∙ sym (ap (λ x. x.drawn) same);
-      up_flow = s.up_flow ∙ sym (ap (λ x. x.up_flow) same);
-      down_flow = s.down_flow ∙ sym (ap (λ x. x.down_flow) same);
-      passed = subst (λ n. n ≤ ahead) (sym (ap (λ x. x.passed) same)) s.passed;
-      from = subst (λ n. floor.waking ≤ n) (sym (ap (λ x. x.passed) same)) s.from;
-      vehicle = subst (λ x. VehicleLags (ahead - x.passed) x.vehicle w.vehicle) (sym same) s.vehicle;
-      calls = calls;
-      tidy = s.tidy;
-    }
 
 -- all ends were caught up
 pub caught_all : (floor : LeastPassed) (settled : ℕ) (kept moved : kept_channel.Channel) (w : World) → StandsAt kept.tick floor (λ c. kept.tick) kept w → moved ≡ record kept { calls = moved.calls } → kept.passed ≡ kept.tick → CallsLag (level settled kept.tick) (λ c. kept.tick) moved.calls w.calls → StandsNow settled moved w

@@ -1,5 +1,5 @@
 -- A vehicle that lags, and a vehicle that did something.
-use Rattle.std.proofs.Common.{◌≡◌, ℕ, ◌-◌, ◌<◌, ◌||◌, Bool, true, false, Option, Some, None, IfSome, List, [], ◌∷◌, refl, ap, sym, ◌∙◌, subst, arith, not}
+use Rattle.std.proofs.Common.{◌≡◌, ℕ, ◌-◌, ◌<◌, ◌≤◌, ◌||◌, Bool, true, false, Option, Some, None, IfSome, List, [], ◌∷◌, refl, ap, sym, ◌∙◌, subst, arith, not}
 use lib.Dec.{eqb}
 use Rattle.std.specs.List.{AllByRecursion}
 use Rattle.std.specs.Option.{is_some, option_eq}
@@ -67,6 +67,31 @@ vehicle_ready ahead floor clock kept w new v call s caught stands e =
       passed = s.passed;
       from = s.from;
       vehicle = vehicle_stands_now (ahead - kept.passed) new v (omega arith) stands;
+      calls = s.calls;
+      numbers = s.tidy.numbers;
+      below = s.tidy.below;
+      others = subst (λ c. AllByRecursion (OtherHasLeg (vehicle_call v) c) w.calls) (sym e) (legs_others (vehicle_call w.vehicle) (vehicle_call v) w.calls s.tidy.legs);
+      frames = s.tidy.frames;
+    }
+
+-- a vehicle that lagged was passed up to the tick, and did this
+pub vehicle_reached : (ahead : ℕ) (floor : LeastPassed) (clock : ℕ → ℕ) (kept : kept_channel.Channel) (w : World) (new : Ivs) (v : Vehicle) (call : Option ℕ)
+    → StandsAt ahead floor clock kept w
+    → ahead ≡ kept.tick
+    → IvsStandsFor new v
+    → call ≡ vehicle_call w.vehicle
+    → IsReady ahead floor clock (record kept { vehicle = new; passed = kept.tick }) w v w.calls call
+vehicle_reached ahead floor clock kept w new v call s now stands e =
+    let low : floor.waking ≤ kept.passed = s.from in
+    let high : kept.passed ≤ ahead = s.passed in
+    record {
+      tick = s.tick;
+      drawn = s.drawn;
+      up_flow = s.up_flow;
+      down_flow = s.down_flow;
+      passed = omega (arith, now);
+      from = omega (arith, low, high, now);
+      vehicle = vehicle_stands_now (ahead - kept.tick) new v (omega (arith, now)) stands;
       calls = s.calls;
       numbers = s.tidy.numbers;
       below = s.tidy.below;

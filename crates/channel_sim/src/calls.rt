@@ -32,7 +32,9 @@ pub(crate) use due::{all_due, call_due};
 use link_frames::{End, Frame, Note};
 pub(crate) use passing::catch_up;
 use sendings::Sendings;
-pub(crate) use sessions::{act_session, admit, catch_session_up, has_session, hear_session};
+pub(crate) use sessions::{
+    act_session, admit, has_session, hear_session, heard_frame, reach_session,
+};
 use std::alloc::{AllocError, Global};
 use std::collections::VecDeque;
 use std::marker::Model;
@@ -257,20 +259,14 @@ pub(crate) fn drop_without_session(calls: &mut Calls, number: u32)
     }
 }
 
-/// The frame sent up, or down, in a call at this place, from 0.
-pub(crate) fn sent_frame(
-    calls: &VecDeque<Call>,
-    up: bool,
-    number: u32,
-    place: usize,
-) -> Option<&KeptFrame>
+/// The frame sent down in a call at this place, from 0.
+pub(crate) fn sent_frame(calls: &VecDeque<Call>, number: u32, place: usize) -> Option<&KeptFrame>
     ensures { (floor : LeastPassed) (clock : ℕ → ℕ) (ks : List model.Call) → CallsLag floor clock calls.now.items ks →
         AreAbove 0 (numbers_of ks) → option_map (λ f. full f.now) result ≡
-        option_map (λ s. s.frame) (slice_get (if up then lines.sent_up (model.call_of number ks)
-        else lines.sent_down (model.call_of number ks)) place) }
+        option_map (λ s. s.frame) (slice_get (lines.sent_down (model.call_of number ks)) place) }
 {
     match find(calls, number) {
-        Some(i) => calls[i].frame(up, place),
+        Some(i) => calls[i].frame(false, place),
         None => None,
     }
 }

@@ -11,6 +11,7 @@ ghost use Rattle.ivs_machine.specs.Vehicle.{Vehicle};
 ghost use Rattle.ivs_machine.specs.VehicleRows as vehicle;
 
 use crate::vehicle::KeptVehicle;
+use ivs_machine::Ivs;
 use link_frames::{Items, Steps};
 use psap_machine::Session;
 use std::sync::ledger::Ledger;
@@ -126,8 +127,8 @@ pub(crate) fn due_at(session: &Session, lag: u64) -> Option<u32>
 }
 
 /// Passes the vehicle by ticks in which it does nothing. `items` is room.
-pub(crate) fn pass_vehicle_quietly<L: Ledger>(
-    ivs: &mut KeptVehicle,
+fn pass_vehicle_quietly<L: Ledger>(
+    ivs: &mut Ivs,
     lag: u64,
     items: &mut Items,
     moments: &mut Steps<L>,
@@ -144,6 +145,37 @@ pub(crate) fn pass_vehicle_quietly<L: Ledger>(
         }
         ivs.pass_into(n, moments, items);
         left -= u64::from(n);
+    }
+}
+
+/// Fewer ticks than these one pass takes, where this many are due.
+fn ticks_below(due: Option<u32>) -> u64
+    ensures due { IfSome due (λ d. result ≤ d) }
+    ensures most { result ≤ 2 ^ 32 }
+{
+    match due {
+        Some(ticks) => u64::from(ticks),
+        None => u64::from(u32::MAX) + 1,
+    }
+}
+
+/// Passes the vehicle by ticks in which it does nothing; what is due at it is known. `items` is room.
+pub(crate) fn pass_vehicle_known<L: Ledger>(
+    ivs: &mut Ivs,
+    lag: u64,
+    due: Option<u32>,
+    items: &mut Items,
+    moments: &mut Steps<L>,
+)
+    requires { (v : Vehicle) → IvsStandsFor ivs.old v → due ≡ vehicle.due_of v }
+    ensures lags { (v : Vehicle) → VehicleLags lag ivs.old v → VehicleLags 0 ivs.new v }
+    ensures passes { (v : Vehicle) → VehicleLags lag ivs.old v → lag < 2 ^ 32 → moments.new ≤ moments.old + 1 }
+    ensures still { lag ≡ 0 → moments.new ≡ moments.old }
+{
+    if 0 < lag && lag < ticks_below(due) {
+        ivs.pass_into(lag as u32, moments, items);
+    } else {
+        pass_vehicle_quietly(ivs, lag, items, moments);
     }
 }
 

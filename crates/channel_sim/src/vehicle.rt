@@ -1,11 +1,13 @@
 //! The vehicle, with what is due at it.
 
-ghost use Rattle.std.specs.Prelude.{◌≡◌, ◌≤◌, ◌+◌, IfSome};
+ghost use Rattle.std.specs.Prelude.{◌≡◌, ◌≤◌, ◌<◌, ◌+◌, ◌^◌, IfSome};
 ghost use Rattle.ivs_machine.specs.IvsStands.{IvsStandsFor};
 ghost use Rattle.ivs_machine.specs.Vehicle.{Vehicle, vehicle_call, is_dialling, is_reachable};
 ghost use Rattle.ivs_machine.specs.VehicleRows as vehicle;
 ghost use Rattle.link_frames.specs.Does.{Does};
+ghost use Rattle.channel_sim.specs.Lag.{VehicleLags};
 
+use crate::quiet::pass_vehicle_known;
 use ivs_machine::{Ivs, VehicleEvent};
 use link_frames::{Items, Steps};
 use std::marker::Model;
@@ -55,6 +57,44 @@ impl KeptVehicle {
         ensures { Does IvsStandsFor IvsStandsFor self.old self.new items.new.items
             (λ v. vehicle.vehicle_row v (vehicle.heard event.now)) }
     {
+        self.ivs.hear_into(event, items);
+        self.due = self.ivs.due();
+    }
+
+    /// The vehicle is passed by ticks in which it does nothing. `items` is room.
+    pub(crate) fn pass_quietly<L: Ledger>(
+        &mut self,
+        lag: u64,
+        items: &mut Items,
+        moments: &mut Steps<L>,
+    )
+        ensures lags { (v : Vehicle) → VehicleLags lag self.old v → VehicleLags 0 self.new v }
+        ensures passes { (v : Vehicle) → VehicleLags lag self.old v → lag < 2 ^ 32 → moments.new ≤ moments.old + 1 }
+        ensures still { lag ≡ 0 → moments.new ≡ moments.old }
+    {
+        if lag == 0 {
+            return;
+        }
+        pass_vehicle_known(&mut self.ivs, lag, self.due, items, moments);
+        self.due = self.ivs.due();
+    }
+
+    /// The vehicle is passed by ticks in which it does nothing, and hears this. Its items stand in `items`.
+    pub(crate) fn reach_into<L: Ledger>(
+        &mut self,
+        lag: u64,
+        event: &VehicleEvent<'_>,
+        items: &mut Items,
+        moments: &mut Steps<L>,
+    )
+        ensures gives { (v : Vehicle) → VehicleLags lag self.old v →
+            items.new.items ≡ (vehicle.vehicle_row v (vehicle.heard event.now)).items }
+        ensures stands { (v : Vehicle) → VehicleLags lag self.old v →
+            IvsStandsFor self.new (vehicle.vehicle_row v (vehicle.heard event.now)).new }
+        ensures passes { (v : Vehicle) → VehicleLags lag self.old v → lag < 2 ^ 32 → moments.new ≤ moments.old + 1 }
+        ensures still { lag ≡ 0 → moments.new ≡ moments.old }
+    {
+        pass_vehicle_known(&mut self.ivs, lag, self.due, items, moments);
         self.ivs.hear_into(event, items);
         self.due = self.ivs.due();
     }

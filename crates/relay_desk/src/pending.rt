@@ -112,6 +112,13 @@ impl Pending {
         self.first
     }
 
+    /// For how many turns of the n-th tick from now room is made: so many come, where no turn comes before.
+    pub(crate) fn turns_in(&self, n: u8) -> usize
+        requires { n ≤ resend_after }
+    {
+        self.counts[((self.phase + n) % 10) as usize]
+    }
+
     /// What the n-th tick from now brings for the desk request at this place, where no turn comes before.
     pub(crate) fn turn(&self, place: usize, n: u8) -> Turn
         requires within { place < length self.now }

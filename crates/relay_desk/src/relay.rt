@@ -311,7 +311,7 @@ impl Relay {
         ensures again { IfOk result (λ turns. turns.again.items
             ≡ turn_places n 0 self.now.sets.items self.now.pending) }
     {
-        let mut turns = Turns::new(alloc);
+        let mut turns = Turns::with_room(alloc, self.pending.turns_in(n))?;
         for place in self.pending.first()..self.sets.len() {
             turns.add(self.pending.turn(place, n), place as u32, &self.sets[place])?;
         }

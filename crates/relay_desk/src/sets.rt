@@ -1,6 +1,6 @@
 //! The sets that a desk knows of, and the items and messages that they bring.
 
-ghost use Rattle.std.specs.Prelude.{◌≡◌, ◌<◌, ◌+◌, ◌^◌, ◌++◌, ◌∷◌, [], OnOk};
+ghost use Rattle.std.specs.Prelude.{◌≡◌, ◌<◌, ◌+◌, ◌^◌, ◌++◌, ◌∷◌, [], IfOk, OnOk};
 ghost use Rattle.relay_desk.specs.Desk.{sent_forth, shown_there, turn_item};
 ghost use Rattle.relay_desk.specs.Requests.{message_of};
 ghost use Rattle.relay_desk.specs.inner.Sets.{turn_place};
@@ -60,15 +60,16 @@ pub(crate) struct Turns {
 }
 
 impl Turns {
-    /// None yet.
-    pub(crate) fn new(alloc: Global) -> Turns
-        ensures notes { result.notes.items ≡ [] }
-        ensures again { result.again.items ≡ [] }
+    /// None yet, with room for so many: where they are many, one that grew would be copied, or be new to the system,
+    /// again and again.
+    pub(crate) fn with_room(alloc: Global, count: usize) -> Result<Turns, AllocError>
+        ensures notes { IfOk result (λ turns. turns.notes.items ≡ []) }
+        ensures again { IfOk result (λ turns. turns.again.items ≡ []) }
     {
-        Turns {
-            notes: Vec::new(alloc),
-            again: Vec::new(alloc),
-        }
+        Ok(Turns {
+            notes: Vec::with_capacity(alloc, count)?,
+            again: Vec::with_capacity(alloc, count)?,
+        })
     }
 
     /// The desk request whose set stands at this place has its turn.

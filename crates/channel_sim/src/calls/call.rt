@@ -120,7 +120,8 @@ pub(super) fn hear_call(
     }
 }
 
-/// Passes a call's session up to a tick, up to which it does nothing. `items` is room.
+/// Passes a call's session up to a tick, up to which it does nothing. For how many ticks it does nothing then is left
+/// open: `look_ahead` works it out. `items` is room.
 fn catch_up<L: Ledger>(call: &mut Call, tick: u64, items: &mut Items, moments: &mut Steps<L>)
     ensures same { call.new ≡ record call.old { session = call.new.session; passed = tick } }
     ensures caught { (floor : LeastPassed) (k : model.Call) → CallLags floor tick call.old k →
@@ -132,13 +133,23 @@ fn catch_up<L: Ledger>(call: &mut Call, tick: u64, items: &mut Items, moments: &
     if lag > 0 {
         if let Some(session) = &mut call.session.session {
             pass_known(session, lag, call.session.quiet, items, moments);
-            call.session.quiet = quiet_ticks(session);
+            call.session.quiet = 0;
         }
     }
     call.passed = tick;
 }
 
-/// The same, but a session that is settled stays as it is. `items` is room.
+/// Works out for how many ticks the session of this call, if it is there, does nothing.
+fn look_ahead(call: &mut Call)
+    ensures { call.new ≡ call.old }
+{
+    if let Some(session) = &call.session.session {
+        call.session.quiet = quiet_ticks(session);
+    }
+}
+
+/// Passes a call's session up to a tick, up to which it does nothing, but one that is settled stays as it is. `items` is
+/// room.
 pub(super) fn catch_waking_up<L: Ledger>(
     call: &mut Call,
     tick: u64,
@@ -156,7 +167,29 @@ pub(super) fn catch_waking_up<L: Ledger>(
 {
     if !sleeps(call) {
         catch_up(call, tick, items, moments);
+        look_ahead(call);
     }
+}
+
+/// The same, where the session hears something next: what comes behind that is worked out then.
+pub(super) fn reach_up<L: Ledger>(
+    call: &mut Call,
+    tick: u64,
+    items: &mut Items,
+    moments: &mut Steps<L>,
+)
+    ensures same { call.new ≡ record call.old { session = call.new.session; passed = call.new.passed } }
+    ensures reached { IsUpTo tick call.new }
+    ensures caught { (floor : LeastPassed) (k : model.Call) → CallLags floor tick call.old k →
+        CallLags floor tick call.new k }
+    ensures passes { (floor : LeastPassed) (k : model.Call) → CallLags floor tick call.old k →
+        tick < floor.waking + 2 ^ 32 →
+        moments.new ≤ moments.old + once_if k.session }
+{
+    if sleeps(call) {
+        return;
+    }
+    catch_up(call, tick, items, moments);
 }
 
 /// Whether the session of this call, if it is there, is settled.
@@ -218,6 +251,7 @@ pub(super) fn pass_up<L: Ledger>(
         rest_up(call, tick, moments);
     } else {
         catch_up(call, tick, items, moments);
+        look_ahead(call);
     }
 }
 

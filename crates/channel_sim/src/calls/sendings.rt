@@ -14,7 +14,7 @@ use std::marker::Model;
 const LONGEST_DELAY: u64 = 1000;
 
 /// In so few sendings no old ones are looked for.
-const FEW: usize = 64;
+const FEW: usize = 256;
 
 /// A call in which a frame was sent at a tick.
 #[derive(Clone, Copy)]

@@ -1,20 +1,23 @@
 //! The session of the call of a number, among calls.
 
-ghost use Rattle.std.specs.Prelude.{◌≡◌, ◌≤◌, ◌<◌, ◌-◌, ◌+◌, ℕ, List, [], false, Some, None, OnOk, OnErr, IfOk, length, ◌^◌};
-ghost use Rattle.std.specs.Option.{is_some};
+ghost use Rattle.std.specs.Prelude.{◌≡◌, ◌≤◌, ◌<◌, ◌-◌, ◌+◌, ℕ, List, [], true, false, Some, None, OnOk, OnErr, IfOk, length, slice_get, if◌then◌else◌, ◌^◌};
+ghost use Rattle.std.specs.Option.{is_some, option_map};
 ghost use Rattle.psap_machine.specs.Point.{Point};
 ghost use Rattle.trace_fit.specs.Seats.{left_by};
 ghost use Rattle.psap_machine.specs.PointRows as point;
 ghost use Rattle.psap_machine.specs.SessionStands.{SessionStandsFor};
+ghost use Rattle.channel_sim.specs.Handing.{full};
+ghost use Rattle.channel_sim.specs.Lines as lines;
 ghost use Rattle.channel_sim.specs.World as model;
 ghost use Rattle.channel_sim.specs.inner.Acts.{SessionDid, IsCaught};
 ghost use Rattle.channel_sim.specs.Lag.{LeastPassed, AreSameBut, CallsLag, level};
 ghost use Rattle.channel_sim.specs.Tidy.{AreAbove, numbers_of};
 ghost use Rattle.channel_sim.specs.inner.Passes.{once_if};
 
-use super::call::{act_at, acts_from, catch_waking_up, hear_call, waits};
+use super::call::{act_at, acts_from, hear_call, reach_up, waits};
 use super::seat::Seat;
 use super::{Call, Calls, find};
+use crate::kept::KeptFrame;
 use link_frames::{Items, Steps, Why, no_items};
 use psap_machine::{PointEvent, Session};
 use std::alloc::AllocError;
@@ -30,6 +33,21 @@ pub(crate) fn has_session(calls: &VecDeque<Call>, number: u32) -> bool
     match find(calls, number) {
         Some(i) => calls[i].session.is_some(),
         None => false,
+    }
+}
+
+/// The frame sent up in a call at this place, from 0, if the session is there to hear it.
+pub(crate) fn heard_frame(calls: &VecDeque<Call>, number: u32, place: usize) -> Option<&KeptFrame>
+    ensures { (floor : LeastPassed) (clock : ℕ → ℕ) (ks : List model.Call) → CallsLag floor clock calls.now.items ks →
+        AreAbove 0 (numbers_of ks) → option_map (λ f. full f.now) result ≡
+        option_map (λ s. s.frame) (if is_some (model.session_of number ks)
+        then slice_get (lines.sent_up (model.call_of number ks)) place else None) }
+{
+    let call = &calls[find(calls, number)?];
+    if call.session.is_some() {
+        call.frame(true, place)
+    } else {
+        None
     }
 }
 
@@ -126,29 +144,40 @@ pub(crate) fn act_session<L: Ledger>(
     Ok(done)
 }
 
-/// Passes the session of a call up to this tick, up to which it does nothing; one that is settled stays as it is.
-/// `items` is room.
-pub(crate) fn catch_session_up<L: Ledger>(
+/// The session of a call is passed up to this tick, up to which it does nothing, and hears this, and one that is over is
+/// gone: whether it is there. Its items stand in `items`.
+pub(crate) fn reach_session<L: Ledger>(
     calls: &mut Calls,
     number: u32,
     tick: u64,
+    event: &PointEvent<'_>,
     items: &mut Items,
     moments: &mut Steps<L>,
-) -> Result<(), AllocError>
-    ensures lags { (floor : LeastPassed) (ks : List model.Call) → CallsLag floor (λ c. tick) calls.old ks →
-        AreAbove 0 (numbers_of ks) → OnOk result (CallsLag floor (λ c. tick) calls.new ks) }
-    ensures caught { (floor : LeastPassed) (ks : List model.Call) → CallsLag floor (λ c. tick) calls.old ks →
-        AreAbove 0 (numbers_of ks) → OnOk result (IsCaught (λ c. tick) number calls.new) }
+) -> Result<bool, AllocError>
+    ensures variant { (floor : LeastPassed) (ks : List model.Call) → CallsLag floor (λ c. tick) calls.old ks →
+        AreAbove 0 (numbers_of ks) →
+        IfOk result (λ there. there ≡ is_some (model.session_of number ks)) }
+    ensures did { (floor : LeastPassed) (ks : List model.Call) → CallsLag floor (λ c. tick) calls.old ks →
+        AreAbove 0 (numbers_of ks) → floor.waking ≤ tick →
+        IfOk result (λ there. SessionDid floor (λ c. tick) there items.new.items calls.new number
+        (λ s. point.point_row s (point.heard event.now)) ks) }
     ensures passes { (floor : LeastPassed) (ks : List model.Call) → CallsLag floor (λ c. tick) calls.old ks →
         AreAbove 0 (numbers_of ks) → tick < floor.waking + 2 ^ 32 → moments.new ≤ moments.old + once_if
         (model.session_of number ks) }
     ensures err { OnErr result (moments.new ≡ moments.old) }
 {
-    if let Some(i) = find(&calls.list, number) {
-        let turn = calls.turns.wake(number)?;
-        let call = &mut calls.list[i];
-        catch_waking_up(call, tick, items, moments);
-        calls.turns.note(turn, acts_from(call));
+    match find(&calls.list, number) {
+        Some(i) => {
+            let turn = calls.turns.wake(number)?;
+            let call = &mut calls.list[i];
+            reach_up(call, tick, items, moments);
+            let there = hear_call(call, tick, event, items);
+            calls.turns.note(turn, acts_from(call));
+            Ok(there)
+        }
+        None => {
+            no_items(items);
+            Ok(false)
+        }
     }
-    Ok(())
 }

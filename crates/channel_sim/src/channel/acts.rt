@@ -155,6 +155,34 @@ impl Channel {
         self.settles(alloc, items, &mut given.other, call, to, moments)
     }
 
+    /// The vehicle is passed up to this tick, up to which it does nothing, and hears this, and then comes what follows
+    /// from it.
+    pub(super) fn vehicle_reaches<H: Listener, L: Ledger>(
+        &mut self,
+        alloc: Global,
+        event: &VehicleEvent<'_>,
+        given: &mut Given,
+        to: &mut H,
+        moments: &mut Steps<L>,
+    ) -> Result<(), SimFault>
+        ensures step { (ahead : ℕ) (floor : LeastPassed) (clock : ℕ → ℕ) (w : model.World) →
+            StandsAt ahead floor clock self.old w → ahead ≡ self.old.tick →
+            CameAt (H.grew to.old to.new) (H.partly to.old to.new) result ahead floor clock self.new
+            (model.performs (model.Hears (vehicle.heard event.now)) w) }
+        ensures tick { self.new.tick ≡ self.old.tick }
+        ensures faults { CountsFaults result (H.faults to.old) (H.faults to.new) }
+        ensures passes { (ahead : ℕ) (floor : LeastPassed) (clock : ℕ → ℕ) (w : model.World) →
+            StandsAt ahead floor clock self.old w → ahead ≡ self.old.tick →
+            self.old.tick < floor.waking + 2 ^ 32 → moments.new ≤ moments.old + 1 }
+    {
+        let call = self.vehicle.call();
+        let lag = self.tick.saturating_sub(self.passed);
+        self.vehicle.reach_into(lag, event, &mut given.own, moments);
+        self.passed = self.tick;
+        let items = given.own.as_slice();
+        self.settles(alloc, items, &mut given.other, call, to, moments)
+    }
+
     /// The session of a call is let go, if it is there.
     fn session_released<H: Listener>(
         &mut self,

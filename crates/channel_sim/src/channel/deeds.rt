@@ -1,7 +1,9 @@
 //! What an event line has happen at this very tick.
 
 use super::Channel;
-use crate::calls::{add_call, admit, has_session, hear_session, list_numbers, sent_frame};
+use crate::calls::{
+    add_call, admit, has_session, hear_session, heard_frame, list_numbers, sent_frame,
+};
 use crate::fault::SimFault;
 use crate::kept::KeptFrame;
 use crate::room::{Given, Room};
@@ -262,10 +264,7 @@ impl Channel {
             option_map (λ s. s.frame) (if model.point_is_in number w
             then slice_get (lines.sent_up (model.call_of number w.calls)) place else None) }
     {
-        if !has_session(self.calls.all(), number) {
-            return None;
-        }
-        sent_frame(self.calls.all(), true, number, place)
+        heard_frame(self.calls.all(), number, place)
     }
 
     /// The frame sent down in a call at this place, from 0, if the vehicle is in it.
@@ -277,7 +276,7 @@ impl Channel {
         if self.vehicle.call() != Some(number) {
             return None;
         }
-        sent_frame(self.calls.all(), false, number, place)
+        sent_frame(self.calls.all(), number, place)
     }
 
     /// Hands a frame sent up in a call to the point.

@@ -1,7 +1,7 @@
 //! What the flows hand over at a tick.
 
 use super::Channel;
-use crate::calls::{Due, all_due, call_due, catch_session_up, find};
+use crate::calls::{Due, all_due, call_due, find, reach_session};
 use crate::fault::SimFault;
 use crate::kept::KeptFrame;
 use crate::room::{Given, Near, Room};
@@ -93,9 +93,20 @@ impl Channel {
             self.old.tick < floor.waking + 2 ^ 32 → moments.new ≤ moments.old +
             passes_of (model.hands_up (record { call = number; frame = full frame.now }) w) }
     {
-        catch_session_up(&mut self.calls, number, self.tick, &mut given.own, moments)?;
         let event = PointEvent::Frame(frame.lend());
-        self.session_performs(alloc, number, &event, given, to, moments)
+        if reach_session(
+            &mut self.calls,
+            number,
+            self.tick,
+            &event,
+            &mut given.own,
+            moments,
+        )? {
+            let items = given.own.as_slice();
+            self.settles(alloc, items, &mut given.other, Some(number), to, moments)
+        } else {
+            Ok(())
+        }
     }
 
     /// Hands a frame to the vehicle, if it is in this call.
@@ -124,9 +135,8 @@ impl Channel {
         if self.vehicle.call() != Some(number) {
             return Ok(());
         }
-        self.catch_vehicle_up(&mut given.own, moments);
         let event = VehicleEvent::Frame(frame.lend());
-        self.vehicle_performs(alloc, &event, given, to, moments)
+        self.vehicle_reaches(alloc, &event, given, to, moments)
     }
 
     /// Hands a frame that is due to the point's session of its call, or to the vehicle, if that end is in this call.

@@ -4,7 +4,7 @@ ghost use Rattle.std.specs.Prelude.{◌≡◌, ◌≤◌, ◌+◌, ◌-◌, ◌^
 use super::{Channel, Passing};
 use crate::calls::{act_session, catch_up};
 use crate::fault::SimFault;
-use crate::quiet::{pass_vehicle_quietly, vehicle_due_at};
+use crate::quiet::vehicle_due_at;
 use crate::room::{Given, Nears, Room};
 use link_frames::{Items, Steps};
 use std::alloc::Global;
@@ -64,12 +64,8 @@ impl Channel {
             ahead ≡ self.old.tick → self.old.tick < floor.waking + 2 ^ 32 → moments.new ≤ moments.old + 1 }
         ensures still { self.old.passed ≡ self.old.tick → moments.new ≡ moments.old }
     {
-        pass_vehicle_quietly(
-            &mut self.vehicle,
-            self.tick.saturating_sub(self.passed),
-            items,
-            moments,
-        );
+        let lag = self.tick.saturating_sub(self.passed);
+        self.vehicle.pass_quietly(lag, items, moments);
         self.passed = self.tick;
     }
 

@@ -1,9 +1,9 @@
-use Rattle.std.proofs.Common.{◌≡◌, [], None, if◌then◌else◌, true, false, List, refl, ap, sym, ◌∙◌, slice_get}
+use Rattle.std.proofs.Common.{List, refl, ap, sym, ◌∙◌, slice_get}
 use Rattle.std.specs.Option.{option_map}
 use Rattle.trace_model.specs.History.{Sent}
 use Rattle.channel_sim.specs.Lines as lines
 use Rattle.channel_sim.proofs.CallsLemmas.{found_at}
-use Rattle.channel_sim.proofs.ChangeLemmas.{sent_at, no_call_of, either}
+use Rattle.channel_sim.proofs.ChangeLemmas.{sent_at, no_call_of}
 use Rattle.channel_sim.proofs.calls.sent_frame.Goals as goal
 
 pub returns-in-Some : goal.returns-in-Some
@@ -12,13 +12,11 @@ returns-in-Some c =
     let xs = c.args.calls.now.items in
     let place = found_at floor clock c.args.number xs xs ks _ refl c.in-Some.ensures.place h above in
     let sent = sent_at floor clock c.args.number xs ks c.in-Some.i c.index.result.now h place in
-    c.frame.ensures ∙ ap (λ (ss : List Sent). option_map (λ s. s.frame) (slice_get ss c.args.place)) (either c.args.up _ _ _ _ (ap (λ k. k.up) c.index.ensures ∙ sym sent.0) (ap (λ k. k.down) c.index.ensures ∙ sym sent.1))
+    c.frame.ensures ∙ ap (λ (ss : List Sent). option_map (λ s. s.frame) (slice_get ss c.args.place)) (ap (λ k. k.down) c.index.ensures ∙ sym sent.1)
 
 pub returns-in-None : goal.returns-in-None
 returns-in-None c =
     λ floor clock ks h above.
     let xs = c.args.calls.now.items in
     let place = found_at floor clock c.args.number xs xs ks _ refl c.in-None.ensures.place h above in
-    let none = no_call_of c.args.number ks place in
-    ap (λ (ss : List Sent). option_map (λ s. s.frame) (slice_get ss c.args.place))
-    (sym (ap (λ k. if c.args.up then lines.sent_up k else lines.sent_down k) none ∙ elim c.args.up as (λ b. (if b then lines.sent_up None else lines.sent_down None) ≡ []) [ true ↦ refl | false ↦ refl ]))
+    ap (λ (ss : List Sent). option_map (λ s. s.frame) (slice_get ss c.args.place)) (sym (ap lines.sent_down (no_call_of c.args.number ks place)))

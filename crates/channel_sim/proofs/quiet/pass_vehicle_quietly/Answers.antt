@@ -8,7 +8,7 @@ pub returns-then-n-eq0-clause-lags : goal.returns-then-n-eq0-clause-lags
 returns-then-n-eq0-clause-lags g c =
     λ v lags.
     let h = c.loop-left.invariant.lags v lags in
-    let some : IfSome c.due.result (λ d. 0 < d) = subst (λ o. IfSome o (λ d. 0 < d)) (sym (c.due.ensures h.was h.stands)) (some_later c.loop-left.left (due_of h.was) h.quiet) in
+    let some : IfSome c.due.result (λ d. 0 < d) = subst (λ o. IfSome o (λ d. 0 < d)) (sym (c.due.ensures.value h.was h.stands)) (some_later c.loop-left.left (due_of h.was) h.quiet) in
     let positive : 0 < c.ticks_at_once-n.result = c.ticks_at_once-n.ensures.some c.loop-left-test.true some in
     absurd (omega (arith, c.if-n-eq0.true))
 
@@ -25,7 +25,7 @@ loop-left-preserved g c =
       once =
           λ v lags small.
           let h = c.loop-left.invariant.lags v lags in
-          let far : IfSome c.due.result (λ d. c.loop-left.left ≤ d) = subst (λ o. IfSome o (λ d. c.loop-left.left ≤ d)) (sym (c.due.ensures h.was h.stands)) (due_above c.loop-left.left (due_of h.was) h.quiet) in
+          let far : IfSome c.due.result (λ d. c.loop-left.left ≤ d) = subst (λ o. IfSome o (λ d. c.loop-left.left ≤ d)) (sym (c.due.ensures.value h.was h.stands)) (due_above c.loop-left.left (due_of h.was) h.quiet) in
           let whole : c.ticks_at_once-n.result ≡ c.loop-left.left = c.ticks_at_once-n.ensures.whole (omega (arith, c.loop-left.invariant.within, small)) far in
           let none = (c.loop-left.invariant.once v lags small).1 c.loop-left-test.true in
           (omega (arith, none, c.pass_into.ensures.moments), λ left. absurd (omega (arith, left, whole, c.from-left.ensures)));

@@ -5,6 +5,6 @@ pub loop-place-init : goal.loop-place-init
 loop-place-init c =
     let self = c.args.self.now in
     let first = c.first-place.result in (
-      rw c.new-turns.ensures.notes (first_items c.args.n first self.sets.items self.pending c.first-place.ensures.front),
-      rw c.new-turns.ensures.again (first_places c.args.n first self.sets.items self.pending c.first-place.ensures.front),
+      rw c.in_ok-turns.ensures.notes (first_items c.args.n first self.sets.items self.pending c.first-place.ensures.front),
+      rw c.in_ok-turns.ensures.again (first_places c.args.n first self.sets.items self.pending c.first-place.ensures.front),
     )
