@@ -33,7 +33,7 @@ test:
 	.ci/run
 
 bench: build
-	bench/run.py $(PROGRAM)
+	bench/run.py $(PROGRAM) $(BEFORE)
 	bench/passes.py $(PROGRAM)
 	bench/cache.py $(PROGRAM)
 	bench/refuse.py $(PROGRAM)

@@ -1,8 +1,9 @@
 #!/usr/bin/env python3
-"""run.py PROGRAM: how many sets of data `PROGRAM decode` reads and describes a second, in 4 MB of address space; how much
+"""run.py PROGRAM [BEFORE]: how many sets of data `PROGRAM decode` reads and describes a second, in 4 MB of address space; how much
 processor time that takes beside a plain program and beside decoders that asn1c generates from format2.asn1 and format1.asn1; what
 decoding alone takes of both; what encoding alone takes of both; with how many calls the text is written; and what `PROGRAM encode`, `PROGRAM run` and the
-other commands take beside the plain program; and what `PROGRAM floor` takes beside `PROGRAM run` over each vehicle's part. Parts that need a tool that isn't there are skipped in a line."""
+other commands take beside the plain program; and what `PROGRAM floor` takes beside `PROGRAM run` over each vehicle's part. BEFORE is another build of the program, whose `run` takes turns
+with those. Parts that need a tool that isn't there are skipped in a line."""
 import glob
 import os
 import re
@@ -17,7 +18,7 @@ PLAIN = os.path.join(HERE, "..", "..", "shared", "plain")
 CRATES = os.path.join(HERE, "..", "crates")
 COUNTS = (1_000, 120_000)
 MOST = COUNTS[-1]
-ROUNDS = 9
+ROUNDS = 15
 SAMPLES = 20
 ADDRESS_SPACE = 4 * 2**20
 MOST_OCTETS = 140
@@ -56,7 +57,6 @@ LIBRARY_DIGITS = [
 ]
 # the commands that read or write many of these digits, as in OTHERS
 DIGITS = [
-    *((["run"], "scripts.py", [kind], SCRIPTS[kind]) for kind in ("mixed", "calls", "flows", "one", "old", "asks", "callbacks")),
     *OTHERS[:3],
     (["frames"], "stream.py", [], 20_000),
 ]
@@ -91,8 +91,13 @@ def spent(command, path, preexec_fn=None):
 
 
 def least(commands, path, preexec_fn=None):
-    """The least processor time of each command in some rounds, which go over all commands in turn."""
-    rounds = [[spent(command, path, preexec_fn) for command in commands] for _ in range(ROUNDS)]
+    """The least processor time of each command in some rounds, which go over all commands in turn. Each round has copies of the programs
+    of its own: by where the system happens to lay a program's pages, one copy may take half as long again as another."""
+    rounds = []
+    for _ in range(ROUNDS):
+        with tempfile.TemporaryDirectory() as folder:
+            copies = [[shutil.copy(program, os.path.join(folder, str(place))), *words] for place, (program, *words) in enumerate(commands)]
+            rounds.append([spent(command, path, preexec_fn) for command in copies])
     return [min(times) for times in zip(*rounds)]
 
 
@@ -245,17 +250,19 @@ def same_text(commands, path):
     return len(text[0])
 
 
-def plays(program, plain, folder):
-    """The processor time of `run` over scripts of all kinds, beside the plain program's, and that of twice as much."""
-    commands = [[program, "run"]] + ([[plain, "run"]] if plain else [])
-    print("\nScripts: processor time of `ecall run` and of the plain program; then of twice as much, with what it is of both times before")
-    print(f"{'kind':>10} {'count':>8} {'trace':>10} {'ecall':>8} {'plain':>8} {'ratio':>6} {'doubled':>8} {'ratio':>6} {'plain':>6}")
+def plays(programs, folder):
+    """The processor time of `run` over scripts of all kinds, of each of these programs, and of twice as much."""
+    commands = [[program, "run"] for program in programs.values()]
+    print("\nScripts: processor time of `run`; what that of `ecall` is of each other's; then how many times as long twice as much takes, of each")
+    others = [name for name in programs if name != "ecall"]
+    heads = [*(f"{name:>8}" for name in programs), *(f"{'/ ' + name:>9}" for name in others), *(f"{'2 ' + name:>9}" for name in programs)]
+    print(f"{'kind':>10} {'count':>8} {'trace':>10} {' '.join(heads)}")
     for kind, count in SCRIPTS.items():
         path, double = write_script(folder, kind, count), write_script(folder, kind, 2 * count)
         size = same_text(commands, path)
         times, twice = least(commands, path), least(commands, double)
-        beside_plain = f"{times[1]:8.3f} {times[0] / times[1]:6.2f}" if plain else f"{'-':>8} {'-':>6}"
-        print(f"{kind:>10} {count:>8} {size:>10} {times[0]:8.3f} {beside_plain} {growth(times, twice)}")
+        cells = [f"{seconds:8.4f}" for seconds in times] + [f"{times[0] / seconds:9.2f}" for seconds in times[1:]]
+        print(f"{kind:>10} {count:>8} {size:>10} {' '.join(cells + [f'{more / once:9.2f}' for once, more in zip(times, twice)])}")
 
 
 def growth(times, twice):
@@ -465,7 +472,7 @@ def writes(program, path):
     print(f"\nCalls of `write` for {MOST} known sets: {rows[0][3]}")
 
 
-def main(program):
+def main(program, before=None):
     with tempfile.TemporaryDirectory() as folder:
         rates(program, folder)
         known = write_sets(folder, MOST, "known")
@@ -475,10 +482,11 @@ def main(program):
         older = attempt("generated codec of format 1", lambda here: generated_codec(here, "format1"), os.path.join(folder, "older"))
         # (the plain program knows format 2 alone)
         beside(program, None, older, write_sets(folder, MOST, "known", "format1"), "format 1")
-        encodes(program, plain, folder)
-        plays(program, plain, folder)
-        others(program, plain, folder)
         library = attempt("plain program with the library's digits", with_library_digits, os.path.join(folder, "library"))
+        encodes(program, plain, folder)
+        programs = {"ecall": program, "before": before, "plain": plain, "library": library}
+        plays({name: which for name, which in programs.items() if which}, folder)
+        others(program, plain, folder)
         if plain and library:
             beside_library_digits(program, plain, library, known, folder)
         relays(program, folder)
@@ -495,9 +503,9 @@ def main(program):
 
 
 if __name__ == "__main__":
-    if len(sys.argv) != 2:
+    if len(sys.argv) not in (2, 3):
         sys.exit(__doc__)
     try:
-        main(os.path.abspath(sys.argv[1]))
+        main(*map(os.path.abspath, sys.argv[1:]))
     except OSError as reason:
         sys.exit(f"{reason}: run it on the output of bench/sets.py to see why")
