@@ -92,7 +92,7 @@ def spent(command, path, preexec_fn=None):
 
 def least(commands, path, preexec_fn=None):
     """The least processor time of each command in some rounds, which go over all commands in turn. Each round has copies of the programs
-    of its own: by where the system happens to lay a program's pages, one copy may take half as long again as another."""
+    of its own: one copy may take half as long again as another, in each round the same, likely by where the system laid its pages."""
     rounds = []
     for _ in range(ROUNDS):
         with tempfile.TemporaryDirectory() as folder:
