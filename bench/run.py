@@ -23,7 +23,7 @@ SAMPLES = 20
 ADDRESS_SPACE = 4 * 2**20
 MOST_OCTETS = 140
 # the crates that encoder.txt stands on, each with those that it stands on in turn
-BELOW = {"call_io": "thiserror", "per_bits": "", "per_types": "per_bits", "msd_values": "per_bits call_io arrayvec hex itoa jiff jiff_core"}
+BELOW = {"call_io": "thiserror", "per_bits": "", "per_types": "per_bits", "msd_values": "per_bits call_io arrayvec hex itoa jiff_core"}
 BELOW |= {"msd_codec": "per_bits per_types msd_values arrayvec", "encoder": "per_bits msd_values msd_codec call_io arrayvec"}
 # those that modem.txt stands on
 MODEM_BELOW = {"per_bits": "", "link_frames": "arrayvec", "tone_link": "per_bits link_frames arrayvec thiserror", "modem": "link_frames tone_link arrayvec"}

@@ -3,15 +3,14 @@ ghost use Rattle.std.specs.Prelude.{◌≡◌, ◌+◌, ◌*◌, ◌/◌, ◌%�
 ghost use Rattle.msd_values.specs.inner.Clock.{IsCivilTime};
 ghost use Rattle.msd_values.specs.Civil.{two_digits, instant_text};
 
-use jiff::Timestamp;
-use jiff::civil::DateTime;
-use jiff::tz::Offset;
+use jiff_core::civil::DateTime;
+use jiff_core::{Offset, Timestamp};
 
 // The instant of so many seconds after 1970-01-01T00:00:00Z.
 fn instant_of(time: u32) -> Timestamp
     ensures { result.nanosecond ≡ pos time *ℤ pos 1_000_000_000 }
 {
-    Timestamp::from_second(i64::from(time)).unwrap()
+    Timestamp::from_nanosecond(i128::from(time) * 1_000_000_000).unwrap()
 }
 
 // The civil date and time of day in UTC, of the seconds since 1970-01-01T00:00:00Z.
@@ -30,18 +29,18 @@ fn two_digits(number: u8) -> [u8; 2]
 }
 
 #[tactic(auto, unfolding(crate::specs::Civil::instant_text))]
-/// The time as `YYYY-MM-DDThh:mm:ssZ`.
+/// The instant of so many seconds after 1970-01-01T00:00:00Z, as `YYYY-MM-DDThh:mm:ssZ`.
 pub fn instant_text(time: u32) -> [u8; 20]
     ensures { result ≡ instant_text time }
 {
     let civil = civil_time(time);
-    let century = two_digits((civil.year() / 100) as u8);
-    let year = two_digits((civil.year() % 100) as u8);
-    let month = two_digits(civil.month() as u8);
-    let day = two_digits(civil.day() as u8);
-    let hour = two_digits(civil.hour() as u8);
-    let minute = two_digits(civil.minute() as u8);
-    let second = two_digits(civil.second() as u8);
+    let century = two_digits((civil.date.year / 100) as u8);
+    let year = two_digits((civil.date.year % 100) as u8);
+    let month = two_digits(civil.date.month);
+    let day = two_digits(civil.date.day);
+    let hour = two_digits(civil.time.hour);
+    let minute = two_digits(civil.time.minute);
+    let second = two_digits(civil.time.second);
     [
         century[0], century[1], year[0], year[1], b'-', month[0], month[1], b'-', day[0], day[1],
         b'T', hour[0], hour[1], b':', minute[0], minute[1], b':', second[0], second[1], b'Z',

@@ -15,6 +15,7 @@ mod page;
 mod remarks;
 mod vin;
 
+pub use date::instant_text;
 pub use description::describe;
 pub use format::Format;
 pub use kind::{AddedKind, RootKind, VehicleKind};

@@ -3,7 +3,6 @@
 
 mod additions;
 mod bad;
-mod date;
 mod degrees;
 mod line;
 mod object;

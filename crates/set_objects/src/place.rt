@@ -3,10 +3,9 @@ ghost use Rattle.std.specs.Prelude.{◌≡◌, ◌++◌, ◌*◌, OnOk};
 ghost use Rattle.msd_values.specs.Civil.{instant_text};
 ghost use Rattle.set_objects.specs.Object.{angle_fields, heading_fields, latitude_fields, longitude_fields, passengers_field, position_fields, time_fields, turned_fields, way_field, way_fields, way_object};
 
-use crate::date::instant_text;
 use crate::degrees::put_degrees;
 use itoa::Buffer;
-use msd_values::{Delta, Msd};
+use msd_values::{Delta, Msd, instant_text};
 use std::alloc::AllocError;
 use view_lines::put_all;
 

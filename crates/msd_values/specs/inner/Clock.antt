@@ -1,4 +1,4 @@
--- What `jiff` shows of an instant, in terms of the civil date that a set's description has. Cited by the
+-- What `jiff_core` shows of an instant, in terms of the civil date that a set's description has. Cited by the
 -- function that asks it for the date.
 use Rattle.std.specs.Prelude.{◌≡◌, ℕ, ◌/◌, ◌%◌, pos}
 use Rattle.jiff_core.specs.declared.civil.datetime.DateTime.{DateTime}
