@@ -34,6 +34,7 @@ test:
 
 bench: build
 	bench/run.py $(PROGRAM) $(BEFORE)
+	bench/growth.py $(PROGRAM)
 	bench/passes.py $(PROGRAM)
 	bench/cache.py $(PROGRAM)
 	bench/refuse.py $(PROGRAM)
