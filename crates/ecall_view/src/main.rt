@@ -1,24 +1,15 @@
 //! The program `ecall_view`: sets of data and traces in JSON, one object for each line, for other tools; and reports on traces.
 #![tactic(auto)]
 
-mod ending;
-mod manner;
-mod pipe;
-mod program;
-mod sets;
-mod subject;
-
-use crate::ending::{Ending, complain};
-use crate::manner::manner_of;
-use crate::program::{REPORT, SETS, TRACE, command_line};
-use crate::sets::tell_files;
-use crate::subject::Subject;
 use clap::error::ErrorKind;
 use clap::{ArgMatches, Error};
 use std::env::{self, Env};
 use std::fs::Files;
 use std::io;
 use std::process::ExitCode;
+use view_commands::{
+    Ending, REPORT, SETS, Subject, TRACE, command_line, complain, manner_of, tell_files,
+};
 
 /// The words of the command line, the program's name first.
 fn words(rt: &(impl Env + AllocGlobal)) -> io::Result<Vec<String>> {
