@@ -1,15 +1,16 @@
 //! The program `ecall_view`: sets of data and traces in JSON, one object for each line, for other tools; and reports on traces.
 #![tactic(auto)]
 
+mod files;
+
+use crate::files::tell_files;
 use clap::error::ErrorKind;
 use clap::{ArgMatches, Error};
 use std::env::{self, Env};
 use std::fs::Files;
 use std::io;
 use std::process::ExitCode;
-use view_commands::{
-    Ending, REPORT, SETS, Subject, TRACE, command_line, complain, manner_of, tell_files,
-};
+use view_commands::{Ending, REPORT, SETS, Subject, TRACE, command_line, complain, manner_of};
 
 /// The words of the command line, the program's name first.
 fn words(rt: &(impl Env + AllocGlobal)) -> io::Result<Vec<String>> {

@@ -1,8 +1,9 @@
 //! How the program ends.
 ghost use Rattle.std.specs.Prelude.{◌≡◌};
-ghost use Rattle.view_commands.specs.Endings.{ending_code, worse};
+ghost use Rattle.view_commands.specs.Endings.{ending_code, ending_of, worse};
 
 use std::fmt::Display;
+use view_lines::Answer;
 
 /// How the program ends.
 #[derive(Clone, Copy, Debug, PartialEq, Eq)]
@@ -48,4 +49,19 @@ pub fn complain(rt: &impl Eprint, what: &str, why: &impl Display) -> Ending
 {
     let _ = eprintln!(rt; "ecall_view: {what}: {why}");
     Ending::Failed
+}
+
+/// Says what an answer comes to, and on standard error why it isn't the whole of what was asked for.
+pub fn tell_ending(rt: &impl Eprint, file: &str, answer: Answer, is_closed: bool) -> Ending
+    ensures { result ≡ ending_of answer is_closed }
+{
+    match answer {
+        Answer::Done => Ending::Done,
+        Answer::SomeRefused => Ending::Refused,
+        Answer::ReadFault => complain(rt, file, &"reading failed"),
+        Answer::WriteFault if is_closed => Ending::Done,
+        Answer::WriteFault => complain(rt, "standard output", &"writing failed"),
+        Answer::Memory => complain(rt, file, &"out of memory"),
+        Answer::TooLong => complain(rt, file, &"too many lines"),
+    }
 }

@@ -1,15 +1,10 @@
-//! The commands that tell the lines of files.
-ghost use Rattle.std.specs.Prelude.{◌≡◌};
-ghost use Rattle.view_commands.specs.Endings.{ending_of};
+//! The files that the words name, told one behind the other.
 
-use crate::ending::{Ending, complain};
-use crate::pipe::PipeWriter;
-use crate::program::FILES;
-use crate::subject::{Subject, tell_input};
 use call_io::{RealSink, RealSource, Sink};
 use clap::ArgMatches;
 use std::fs::{self, Files};
 use std::io::{self, Write};
+use view_commands::{Ending, FILES, PipeWriter, Subject, complain, tell_ending, tell_input};
 use view_lines::Answer;
 
 /// Tells one file, `-` being standard input.
@@ -28,24 +23,9 @@ fn tell_file(
     }
 }
 
-/// Says what an answer comes to, and on standard error why it isn't the whole of what was asked for.
-fn tell_ending(rt: &impl Eprint, file: &str, answer: Answer, is_closed: bool) -> Ending
-    ensures { result ≡ ending_of answer is_closed }
-{
-    match answer {
-        Answer::Done => Ending::Done,
-        Answer::SomeRefused => Ending::Refused,
-        Answer::ReadFault => complain(rt, file, &"reading failed"),
-        Answer::WriteFault if is_closed => Ending::Done,
-        Answer::WriteFault => complain(rt, "standard output", &"writing failed"),
-        Answer::Memory => complain(rt, file, &"out of memory"),
-        Answer::TooLong => complain(rt, file, &"too many lines"),
-    }
-}
-
 /// Tells the files that the words name, one behind the other. After a failed write it stops: nobody is
 /// there who could read what follows.
-pub fn tell_files(
+pub(crate) fn tell_files(
     rt: &(impl Files + Input + Print + Eprint + AllocGlobal),
     subject: Subject,
     words: &ArgMatches<'_>,
