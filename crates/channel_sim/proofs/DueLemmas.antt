@@ -1,5 +1,5 @@
 -- Frames that are due.
-use Rattle.std.proofs.Common.{◌≡◌, ℕ, zero, suc, ◌+◌, ◌<◌, ◌≤◌, ◌==◌, ltb, inl, inr, if◌then◌else◌, Bool, true, false, Option, Some, None, List, [], ◌∷◌, ◌++◌, length, get_or, slice_get, take, drop, refl, ap, sym, ◌∙◌, subst, arith, append-nil, append_assoc, add-one}
+use Rattle.std.proofs.Common.{◌≡◌, Result, Ok, Err, IfOk, IfSome, ℕ, zero, suc, ◌+◌, ◌<◌, ◌≤◌, ◌==◌, ltb, inl, inr, if◌then◌else◌, Bool, true, false, Option, Some, None, List, [], ◌∷◌, ◌++◌, length, get_or, slice_get, take, drop, refl, ap, sym, ◌∙◌, subst, arith, append-nil, append_assoc, add-one}
 use Rattle.std.specs.Option.{option_eq, option_map}
 use Rattle.std.proofs.lemmas.List.{take-append-drop}
 use lib.Dec.{eqb}
@@ -110,6 +110,32 @@ due_enough c delay t k u xs rise e over =
     ∙ ap (λ z. due_frames c delay (t + delay) (take k xs) ++ z) (sym (none_behind c delay t (drop k xs) (subst (AllByRecursion (λ x. t < x)) (sym (drop_ticks k xs)) (over_from 0 t k u (ticks_of xs) rise e over))))
     ∙ sym (frames_append c delay (t + delay) (take k xs) (drop k xs))
     ∙ ap (due_frames c delay (t + delay)) (take-append-drop k xs)
+
+-- what holds of one for each number holds of it for all
+pub one_each : {A E : Type 0} (P : A → ℕ → Type 0) (Q : A → Type 0) (r : Result (Option A) E) → ((d : ℕ) → IfOk r (λ o. IfSome o (λ a. P a d))) → ((a : A) → ((d : ℕ) → P a d) → Q a) → IfOk r (λ o. IfSome o Q)
+one_each P Q (Ok (Some a)) h f = f a h
+one_each P Q (Ok None) h f = h 0
+one_each P Q (Err e) h f = h 0
+
+-- where the frame at a place is the first of its tick, and the next one is not of it, it alone is due
+pub only_one : (c delay n t k : ℕ) (xs : List Sent) → AreFrom n (ticks_of xs) → AllByRecursion (λ u. u < t) (take k (ticks_of xs)) → slice_get (ticks_of xs) k ≡ Some t → (slice_get (ticks_of xs) (suc k) ≡ Some t → ⊥) → due_frames c delay (t + delay) xs ≡ due_by c (option_map (λ s. s.frame) (slice_get xs k))
+only_one c delay n t k [] rise low here next = cc
+only_one c delay n t zero (x ∷ xs) rise low here next =
+    let same : x.tick ≡ t = cc in
+    ap (λ b. if b then record { call = c; frame = x.frame } ∷ due_frames c delay (t + delay) xs else due_frames c delay (t + delay) xs) (eq-eqb (x.tick + delay) (t + delay) (ap (λ z. z + delay) same))
+    ∙ ap (λ z. record { call = c; frame = x.frame } ∷ z) (none_behind c delay t xs (over xs rise.1 next same))
+  where
+    over : (ys : List Sent) → AreFrom x.tick (ticks_of ys) → (slice_get (ticks_of ys) 0 ≡ Some t → ⊥) → x.tick ≡ t → AllByRecursion (λ u. t < u) (ticks_of ys)
+    over [] rise next same = tt
+    over (y ∷ ys) rise next same =
+        let other : y.tick ≡ t → ⊥ = λ e. next (ap Some e) in
+        let least : x.tick ≤ y.tick = rise.0 in
+        let above : t < y.tick = omega (arith, other) in
+        (above, all_over y.tick t (ticks_of ys) rise.1 above)
+only_one c delay n t (suc k) (x ∷ xs) rise low here next =
+    let below : x.tick < t = low.0 in
+    ap (λ b. if b then record { call = c; frame = x.frame } ∷ due_frames c delay (t + delay) xs else due_frames c delay (t + delay) xs) (ne_eqb (x.tick + delay) (t + delay) (λ e. omega arith))
+    ∙ only_one c delay x.tick t k xs rise.1 low.1 here next
 
 pub tick_there : (k : ℕ) (xs : List Sent) → k < length xs → (u : ℕ) × (slice_get (ticks_of xs) k ≡ Some u)
 tick_there k [] h = absurd (omega arith)

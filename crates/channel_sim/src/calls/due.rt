@@ -1,6 +1,6 @@
 //! The frames of calls that a flow hands over at a tick.
 
-ghost use Rattle.std.specs.Prelude.{◌≡◌, ◌<◌, ◌++◌, ◌∷◌, [], ◌-◌, ◌+◌, ℕ, suc, List, Option, true, Some, OnOk, map, if◌then◌else◌};
+ghost use Rattle.std.specs.Prelude.{◌≡◌, ◌<◌, ◌++◌, ◌∷◌, [], ◌-◌, ◌+◌, ℕ, suc, List, Option, true, Some, IfOk, IfSome, OnOk, slice_get, map, if◌then◌else◌};
 ghost use Rattle.std.specs.List.{AllByRecursion};
 ghost use Rattle.std.specs.Option.{option_map};
 ghost use Rattle.channel_sim.specs.World as model;
@@ -169,6 +169,74 @@ fn add_listed_due(
     Ok(())
 }
 
+/// Whether the frame at this place is the only one of its call that was sent at this tick; it stands in front of all that
+/// were sent later.
+fn is_only(sends: &Sends, tick: u64, place: usize) -> bool
+    ensures { result ≡ true → (number delay : ℕ) → AreFrom 0 (ticks_of sends.now) →
+        IsFirstFrom tick place (ticks_of sends.now) → model.due_frames number delay (tick + delay) sends.now ≡
+        due_by number (option_map (λ s. s.frame) (slice_get sends.now place)) }
+{
+    match place.checked_add(1) {
+        Some(next) => sends.tick(place) == Some(tick) && sends.tick(next) != Some(tick),
+        None => false,
+    }
+}
+
+/// The frame of a call that was sent at this tick, where it is the only one. `near` becomes the place behind it, where the
+/// next one is.
+#[inline]
+fn only_frame(
+    number: u32,
+    sends: &Sends,
+    tick: u64,
+    near: &mut usize,
+) -> Result<Option<Due>, AllocError>
+    ensures { (delay : ℕ) → AreFrom 0 (ticks_of sends.now) → IfOk result (λ one. IfSome one
+        (λ due. model.due_frames number delay (tick + delay) sends.now ≡ due_of due ∷ [])) }
+{
+    let place = first_from(sends, tick, *near);
+    let Some(frame) = sends.frame(place) else {
+        return Ok(None);
+    };
+    if !is_only(sends, tick, place) {
+        return Ok(None);
+    }
+    *near = place.saturating_add(1);
+    Ok(Some(Due {
+        call: number,
+        frame: frame.share()?,
+    }))
+}
+
+/// The frame of these calls that a flow up, or down, hands over now, where it is known to be the only one. So it is nearly
+/// always, and then nothing is listed.
+#[inline(always)]
+pub(crate) fn only_due(
+    calls: &Calls,
+    up: bool,
+    flow: u32,
+    now: u64,
+    near: &mut Near,
+) -> Result<Option<Due>, AllocError>
+    ensures { (floor : LeastPassed) (clock : ℕ → ℕ) (ks : List model.Call) → CallsLag floor clock calls.now ks →
+        AreAbove 0 (numbers_of ks) → AllByRecursion (CallInTime now) ks → IfOk result (λ one. IfSome one
+        (λ due. model.due_in (sent_way up) flow now ks ≡ due_of due ∷ [])) }
+{
+    let delay = u64::from(flow);
+    if flow == 0 || now < delay {
+        return Ok(None);
+    }
+    let sent = now - delay;
+    let Some(number) = calls.only_sent(up, sent, &mut near.sending) else {
+        return Ok(None);
+    };
+    let calls = calls.all();
+    match find(calls, number) {
+        Some(i) => only_frame(number, calls[i].sends(up), sent, &mut near.frame),
+        None => Ok(None),
+    }
+}
+
 /// Adds the frames of a call that a flow up, or down, hands over now.
 pub(crate) fn call_due(
     due: &mut Vec<Due>,
@@ -210,13 +278,13 @@ pub(crate) fn all_due(
     if flow == 0 || now < delay {
         return Ok(());
     }
-    let sent = now - delay;
-    if let Some(number) = calls.only_sent(up, sent, &mut near.sending) {
-        add_only_due(due, calls.all(), number, up, sent, &mut near.frame)?;
-    } else if calls.list_sent(up, sent, &mut near.sending, numbers)? {
-        add_listed_due(due, calls.all(), numbers, up, sent, &mut near.frame)?;
+    let tick = now - delay;
+    if let Some(number) = calls.only_sent(up, tick, &mut near.sending) {
+        add_only_due(due, calls.all(), number, up, tick, &mut near.frame)?;
+    } else if calls.list_sent(up, tick, &mut near.sending, numbers)? {
+        add_listed_due(due, calls.all(), numbers, up, tick, &mut near.frame)?;
     } else {
-        add_all_due(due, calls.all(), up, sent, &mut near.frame)?;
+        add_all_due(due, calls.all(), up, tick, &mut near.frame)?;
     }
     Ok(())
 }

@@ -1,7 +1,7 @@
 //! What the flows hand over at a tick.
 
 use super::Channel;
-use crate::calls::{Due, all_due, call_due, find, reach_session};
+use crate::calls::{Due, all_due, call_due, find, only_due, reach_session};
 use crate::fault::SimFault;
 use crate::kept::KeptFrame;
 use crate::room::{Given, Near, Room};
@@ -13,7 +13,7 @@ use std::sync::ledger::Ledger;
 use trace_model::Listener;
 
 impl Channel {
-    ghost use Rattle.std.specs.Prelude.{true, false, ◌≡◌, ◌+◌, ◌++◌, ◌<◌, ◌≤◌, ℕ, List, [], ◌∷◌, Some, None, map, OnOk, OnErr, IfOk, IfErr, ◌^◌, if◌then◌else◌};
+    ghost use Rattle.std.specs.Prelude.{true, false, ◌≡◌, ◌+◌, ◌++◌, ◌<◌, ◌≤◌, ℕ, List, [], ◌∷◌, Some, None, map, OnOk, OnErr, IfOk, IfErr, IfSome, ◌^◌, if◌then◌else◌};
     ghost use Rattle.channel_sim.specs.World as model;
     ghost use Rattle.channel_sim.specs.SimFault.{CountsFaults};
     ghost use Rattle.channel_sim.specs.inner.Acts.{flows_by};
@@ -50,6 +50,16 @@ impl Channel {
             numbers,
             near,
         )
+    }
+
+    /// The frame that the flow up, or down, hands over at this tick, where it is known to be the only one.
+    #[inline(always)]
+    fn only_due(&self, up: bool, near: &mut Near) -> Result<Option<Due>, AllocError>
+        ensures { (ahead : ℕ) (floor : LeastPassed) (w : model.World) → StandsAt ahead floor (λ c. ahead) self.now w →
+            IfOk result (λ one. IfSome one
+            (λ due. model.due_in (sent_way up) (flow_way up w) w.tick w.calls ≡ due_of due ∷ [])) }
+    {
+        only_due(&self.calls, up, self.flow(up), self.tick, near)
     }
 
     /// Adds the frames of a call that its flow up, or down, hands over at this tick.
@@ -198,9 +208,9 @@ impl Channel {
         Ok(())
     }
 
-    /// Hands over what was sent up, or down, so many ticks ago.
+    /// The same, by a list of it.
     #[inline(never)]
-    pub(super) fn flows<H: Listener, L: Ledger>(
+    fn flows_listed<H: Listener, L: Ledger>(
         &mut self,
         alloc: Global,
         up: bool,
@@ -224,5 +234,35 @@ impl Channel {
         self.list_due(up, &mut room.due, &mut room.numbers, &mut near)?;
         room.near.set(up, near);
         self.hand_each(alloc, up, &room.due, &mut room.given, to, moments)
+    }
+
+    /// Hands over what was sent up, or down, so many ticks ago.
+    #[inline(never)]
+    pub(super) fn flows<H: Listener, L: Ledger>(
+        &mut self,
+        alloc: Global,
+        up: bool,
+        room: &mut Room,
+        to: &mut H,
+        moments: &mut Steps<L>,
+    ) -> Result<(), SimFault>
+        ensures step { (ahead : ℕ) (floor : LeastPassed) (w : model.World) →
+            StandsAt ahead floor (λ c. ahead) self.old w →
+            ahead ≡ self.old.tick →
+            CameAt (H.grew to.old to.new) (H.partly to.old to.new) result ahead floor (λ c. ahead) self.new
+            (flows_by up w) }
+        ensures tick { self.new.tick ≡ self.old.tick }
+        ensures faults { CountsFaults result (H.faults to.old) (H.faults to.new) }
+        ensures passes { (ahead : ℕ) (floor : LeastPassed) (w : model.World) →
+            StandsAt ahead floor (λ c. ahead) self.old w →
+            ahead ≡ self.old.tick → self.old.tick < floor.waking + 2 ^ 32 →
+            moments.new ≤ moments.old + passes_of (flows_by up w) }
+    {
+        let mut near = room.near.at(up);
+        if let Some(due) = self.only_due(up, &mut near)? {
+            room.near.set(up, near);
+            return self.hand(alloc, up, &due, &mut room.given, to, moments);
+        }
+        self.flows_listed(alloc, up, room, to, moments)
     }
 }
