@@ -55,7 +55,7 @@ impl Drafts {
         ensures adds { (lines : List Line) (old : Kept) → slice_get self.old.drafts.items place ≡ Some old →
             DraftOf old lines → AddsAt place self.old.drafts.items self.new.drafts.items lines fact.now result }
     {
-        self.drafts[place].add(*fact)
+        self.drafts[place].add(fact)
     }
 
     /// Adds the first line of a vehicle.
@@ -65,7 +65,7 @@ impl Drafts {
         ensures drafts { OnOk result (IsBehind self.old.drafts.items self.new.drafts.items fact.now) }
     {
         let mut draft = Draft::new();
-        draft.add(*fact);
+        draft.add(fact);
         self.numbers.push(vehicle)?;
         self.drafts.push(draft)?;
         Ok(true)

@@ -87,35 +87,35 @@ fn read_fact<S: Source, O: Sink>(
     let line = lines.line();
     match read_own(End::Vehicle, line.text()) {
         Err(reason) => Err(refused(line.number(), reason)),
-        Ok(says) => take_in_front(draft, says, line.number()),
+        Ok(says) => take_in_front(draft, &says, line.number()),
     }
 }
 
 /// Takes a line in front of the first event.
 fn take_in_front(
     draft: &mut Draft,
-    says: ScriptLine,
+    says: &ScriptLine,
     number: u32,
 ) -> Result<Option<Front>, LiveStatus>
     ensures answers { Answers IsOfLine result }
     ensures going { IfOk result IsInFront }
     ensures takes { (told : List FactOf) → DraftOf draft.old told →
-        TakesInFront told draft.new says number result }
+        TakesInFront told draft.new says.now number result }
 {
     match says {
         ScriptLine::Fact(fact) => add(draft, fact, number),
         ScriptLine::Event(event) => match draft.facts() {
             None => Err(refused(number, Reason::Missing)),
-            Some(facts) => Ok(Some(Front::First(facts, event))),
+            Some(facts) => Ok(Some(Front::First(facts, *event))),
         },
     }
 }
 
-fn add(draft: &mut Draft, fact: FactLine, number: u32) -> Result<Option<Front>, LiveStatus>
+fn add(draft: &mut Draft, fact: &FactLine, number: u32) -> Result<Option<Front>, LiveStatus>
     ensures answers { Answers IsOfLine result }
     ensures going { IfOk result IsInFront }
     ensures takes { (told : List FactOf) → DraftOf draft.old told →
-        TakesInFront told draft.new (line.Fact fact) number result }
+        TakesInFront told draft.new (line.Fact fact.now) number result }
 {
     if draft.add(fact) {
         Ok(None)

@@ -38,7 +38,7 @@ pub enum Halt {
 fn learn(draft: &mut Draft, fact: &FactLine) -> Result<(), Halt>
     ensures { Learns draft.old draft.new fact.now result }
 {
-    if draft.add(*fact) {
+    if draft.add(fact) {
         Ok(())
     } else {
         Err(Halt::Refused(Reason::Many))

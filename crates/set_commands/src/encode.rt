@@ -1,6 +1,6 @@
 //! The command `encode`: facts of a vehicle in, the octets of the sets that fit them out.
 
-ghost use Rattle.std.specs.Prelude.{◌≡◌, [], ℕ, ◌≤◌, List, OnErr, OnOk, true, length, Some, MatchOption};
+ghost use Rattle.std.specs.Prelude.{◌≡◌, [], ℕ, ◌≤◌, List, OnErr, OnOk, true, length, take, Some, MatchOption};
 ghost use Rattle.call_io.specs.Blocks.{held, pending, sink, way};
 ghost use Rattle.call_io.specs.Bytes.{Grew, GrewPartly};
 ghost use Rattle.call_io.specs.Counts.{Rose};
@@ -15,7 +15,6 @@ ghost use Rattle.set_commands.specs.Encode.{encode_reply, octets_line};
 ghost use Rattle.set_commands.specs.inner.EncodeLaws.{encode_lined};
 ghost use Rattle.set_commands.specs.inner.EncodePlaces.{IsEncoded, TakesPlace};
 
-use arrayvec::ArrayVec;
 use call_io::{Block, Failed, Sink, Source, write_all};
 use command_base::{LineCommand, Refused, Status, carry_out_lines, refuse, refuse_line};
 use line_input::{Line, Reason};
@@ -90,7 +89,7 @@ fn obey<O: Sink>(line: &Line<'_>, draft: &mut Draft, output: &mut O) -> Option<S
     ensures onward { Onward (O.way output.old) (O.way output.new) }
 {
     match read_encode(line) {
-        Ok(EncodeLine::Fact(fact)) => take_fact(line.number(), fact, draft, output),
+        Ok(EncodeLine::Fact(fact)) => take_fact(line.number(), &fact, draft, output),
         Ok(EncodeLine::Write { cause, number }) => {
             write_asked(line.number(), cause, number, draft, output)
         }
@@ -101,12 +100,12 @@ fn obey<O: Sink>(line: &Line<'_>, draft: &mut Draft, output: &mut O) -> Option<S
 /// Adds a fact to the draft, or refuses its line.
 fn take_fact<O: Sink>(
     line: u32,
-    fact: FactLine,
+    fact: &FactLine,
     draft: &mut Draft,
     output: &mut O,
 ) -> Option<Status>
     ensures takes { (facts : List Fact) → DraftOf draft.old facts →
-        TakesPlace facts (encode_placed facts (says.Fact fact)) line
+        TakesPlace facts (encode_placed facts (says.Fact fact.now)) line
         (O.held output.old) (O.held output.new) draft.new result }
     ensures in_place { result ≡ Some Status.Memory → ⊥ }
     ensures unwritten { MatchOption result (O.faults output.new ≡ O.faults output.old)
@@ -164,20 +163,19 @@ fn write_set<O: Sink>(
     ensures onward { Onward (O.way output.old) (O.way output.new) }
 {
     let octets = spell(own, cause, number);
-    let line = line_of_octets(octets.as_slice());
-    write_all(output, line.as_slice())
+    let mut room = [0; LONGEST_LINE];
+    let length = put_line(octets.as_slice(), &mut room);
+    write_all(output, &room[..length])
 }
 
-/// The line of these octets.
-fn line_of_octets(octets: &[u8]) -> ArrayVec<u8, LONGEST_LINE>
+/// Puts the line of these octets in front in `room`: how many bytes it has.
+fn put_line(octets: &[u8], room: &mut [u8; LONGEST_LINE]) -> usize
     requires { length octets.now ≤ 140 }
-    ensures { result.items ≡ octets_line octets.now }
+    ensures fits { result ≤ LONGEST_LINE }
+    ensures line { take result room.new ≡ octets_line octets.now }
 {
-    let mut digits = [0; 280];
-    let text = &mut digits[..2 * octets.len()];
-    hex::encode_to_slice(octets, text).unwrap();
-    let mut line = ArrayVec::new();
-    line.try_extend_from_slice(text).unwrap();
-    line.push(b'\n');
-    line
+    let digits = 2 * octets.len();
+    hex::encode_to_slice(octets, &mut room[..digits]).unwrap();
+    room[digits] = b'\n';
+    digits + 1
 }

@@ -37,13 +37,13 @@ impl Draft {
     }
 
     /// Adds a line. False is for a candidate of additional data behind four others.
-    pub fn add(&mut self, fact: FactLine) -> bool
-        ensures answer { (lines : List Line) → DraftOf self.old lines → result ≡ not (is_one_too_many lines fact) }
-        ensures taken { (lines : List Line) → DraftOf self.old lines → is_one_too_many lines fact ≡ false →
-            DraftOf self.new (lines ++ fact ∷ []) }
+    pub fn add(&mut self, fact: &FactLine) -> bool
+        ensures answer { (lines : List Line) → DraftOf self.old lines → result ≡ not (is_one_too_many lines fact.now) }
+        ensures taken { (lines : List Line) → DraftOf self.old lines → is_one_too_many lines fact.now ≡ false →
+            DraftOf self.new (lines ++ fact.now ∷ []) }
         ensures kept { result ≡ false → self.new ≡ self.old }
     {
-        if self.has_room(&fact) {
+        if self.has_room(fact) {
             self.put(fact);
             true
         } else {
@@ -96,39 +96,39 @@ impl Draft {
     }
 
     /// Adds a line that there is room for.
-    fn put(&mut self, fact: FactLine)
-        requires { has_room_for self.old fact ≡ true }
-        ensures { self.new ≡ draft_with self.old fact }
+    fn put(&mut self, fact: &FactLine)
+        requires { has_room_for self.old fact.now ≡ true }
+        ensures { self.new ≡ draft_with self.old fact.now }
     {
         match fact {
             FactLine::Vin(vin) => {
-                self.own.vin = vin;
+                self.own.vin = *vin;
                 self.has_vin = true;
             }
             FactLine::Kind(kind) => {
-                self.own.kind = kind;
+                self.own.kind = *kind;
                 self.has_kind = true;
             }
-            FactLine::Format(format) => self.own.format = format,
-            FactLine::Fuel(fuel) => self.own.fuel = fuel,
+            FactLine::Format(format) => self.own.format = *format,
+            FactLine::Fuel(fuel) => self.own.fuel = *fuel,
             FactLine::Time(time) => {
-                self.own.time = time;
+                self.own.time = *time;
                 self.has_time = true;
             }
             FactLine::Place {
                 latitude,
                 longitude,
             } => {
-                self.own.latitude = latitude;
-                self.own.longitude = longitude;
+                self.own.latitude = *latitude;
+                self.own.longitude = *longitude;
             }
-            FactLine::Heading(heading) => self.own.heading = heading,
-            FactLine::Trusted(trusted) => self.own.trusted = trusted,
-            FactLine::Before1(way) => self.own.before1 = Some(way),
-            FactLine::Before2(way) => self.own.before2 = Some(way),
-            FactLine::Passengers(count) => self.own.passengers = Some(count),
-            FactLine::Extra(candidate) => self.own.extras.push(candidate),
-            FactLine::Set(octets) => self.ready = Some(octets),
+            FactLine::Heading(heading) => self.own.heading = *heading,
+            FactLine::Trusted(trusted) => self.own.trusted = *trusted,
+            FactLine::Before1(way) => self.own.before1 = Some(*way),
+            FactLine::Before2(way) => self.own.before2 = Some(*way),
+            FactLine::Passengers(count) => self.own.passengers = Some(*count),
+            FactLine::Extra(candidate) => self.own.extras.push(*candidate),
+            FactLine::Set(octets) => self.ready = Some(*octets),
         }
     }
 }

@@ -3,12 +3,14 @@
 ghost use Rattle.std.specs.Prelude.{◌≡◌};
 ghost use Rattle.std.specs.Option.{option_copied};
 ghost use Rattle.trace_text.specs.Encode.{encode_line, fact_says, other_by_word, write_line};
+ghost use Rattle.trace_text.specs.inner.ShortFacts.{long_by_word};
 ghost use Rattle.line_input.specs.Lines.{line_answer};
 ghost use Rattle.line_input.specs.Arguments.{words_behind};
 
 use crate::choices::read_cause;
 use crate::fact_line::FactLine;
-use crate::facts::read_own_fact;
+use crate::facts::{read_extra_fact, read_short_fact};
+use crate::script::refused;
 use line_input::{BadLine, Line, Reason, is_word, read_u8, split_word, two_arguments};
 use msd_fit::Cause;
 
@@ -25,20 +27,30 @@ pub enum EncodeLine {
 pub fn read_encode(line: &Line<'_>) -> Result<EncodeLine, BadLine>
     ensures { result ≡ line_answer line.now (encode_line line.now.text) }
 {
-    match read_text(line.text()) {
-        Ok(says) => Ok(says),
-        Err(reason) => Err(BadLine {
-            line: line.number(),
-            reason,
-        }),
+    let (first, rest) = split_word(line.text());
+    match read_short_fact(first, rest) {
+        Some(Ok(fact)) => Ok(EncodeLine::Fact(fact.whole())),
+        Some(Err(reason)) => Err(refused(line, reason)),
+        None => read_long(line, first, rest),
     }
 }
 
-fn read_text(text: &[u8]) -> Result<EncodeLine, Reason>
-    ensures { result ≡ encode_line text.now }
+/// A line that tells no short fact, by its first word.
+// Never inlined: additional data have room of their own, which other lines would pay for, too.
+#[inline(never)]
+fn read_long(line: &Line<'_>, first: &[u8], rest: Option<&[u8]>) -> Result<EncodeLine, BadLine>
+    ensures { result ≡ line_answer line.now (long_by_word first.now (words_behind (option_copied rest.entry))) }
 {
-    let (first, rest) = split_word(text);
-    match read_own_fact(first, rest) {
+    match read_long_text(first, rest) {
+        Ok(says) => Ok(says),
+        Err(reason) => Err(refused(line, reason)),
+    }
+}
+
+fn read_long_text(first: &[u8], rest: Option<&[u8]>) -> Result<EncodeLine, Reason>
+    ensures { result ≡ long_by_word first.now (words_behind (option_copied rest.entry)) }
+{
+    match read_extra_fact(first, rest) {
         Some(says) => told(says),
         None => read_other(first, rest),
     }

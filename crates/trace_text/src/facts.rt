@@ -3,12 +3,13 @@
 ghost use Rattle.std.specs.Prelude.{◌≡◌, false, ℕ, List, None};
 ghost use Rattle.std.specs.List.{list_all};
 ghost use Rattle.std.specs.Option.{is_some, option_copied};
+ghost use Rattle.trace_text.specs.inner.ShortFacts.{extra_fact, said, says_or};
 ghost use Rattle.trace_text.specs.FactLines.{before1_line, before2_line, extra_line, format_line, fuel_line, heading_line, is_mark as is_mark_digit, kind_line, marks_of, own_fact, passengers_line, place_line, set_line, time_line, trusted_line, vehicle_fact, vin_line, vin_text, way_fact, way_text};
 ghost use Rattle.line_input.specs.Numbers.{positive_below};
 ghost use Rattle.line_input.specs.Arguments.{words_behind};
 
 use crate::choices::{read_format_number, read_yes_or_no};
-use crate::fact_line::FactLine;
+use crate::fact_line::{FactLine, ShortFact};
 use crate::hexadecimal::{read_candidate, read_set_octets};
 use line_input::{
     Reason, is_word, only_argument, read_positive_u8, read_signed, read_u8, read_u32, two_arguments,
@@ -54,15 +55,47 @@ fn names_way_fact(first: &[u8]) -> bool
 pub fn read_own_fact(first: &[u8], rest: Option<&[u8]>) -> Option<Result<FactLine, Reason>>
     ensures { result ≡ own_fact first.now (words_behind (option_copied rest.entry)) }
 {
+    match read_short_fact(first, rest) {
+        Some(says) => Some(whole(says)),
+        None => read_extra_fact(first, rest),
+    }
+}
+
+/// What a short fact's line says, with room for every fact.
+fn whole(says: Result<ShortFact, Reason>) -> Result<FactLine, Reason>
+    ensures { result ≡ said says }
+{
+    let fact = says?;
+    Ok(fact.whole())
+}
+
+/// A fact that the vehicle knows of itself, but for additional data, where the first word is that of one.
+pub fn read_short_fact(first: &[u8], rest: Option<&[u8]>) -> Option<Result<ShortFact, Reason>>
+    ensures { says_or result (extra_fact first.now (words_behind (option_copied rest.entry))) ≡
+        own_fact first.now (words_behind (option_copied rest.entry)) }
+{
     match read_vehicle_fact(first, rest) {
         Some(says) => Some(says),
+        None if is_word(first, "extra") => None,
         None => read_way_fact(first, rest),
     }
 }
 
-/// A fact about the vehicle.
-fn read_vehicle_fact(first: &[u8], rest: Option<&[u8]>) -> Option<Result<FactLine, Reason>>
-    ensures { result ≡ vehicle_fact first.now (words_behind (option_copied rest.entry)) }
+/// Additional data, where the first word is theirs.
+pub fn read_extra_fact(first: &[u8], rest: Option<&[u8]>) -> Option<Result<FactLine, Reason>>
+    ensures { result ≡ extra_fact first.now (words_behind (option_copied rest.entry)) }
+{
+    if is_word(first, "extra") {
+        Some(read_extra(rest))
+    } else {
+        None
+    }
+}
+
+/// A fact about the vehicle, but for additional data.
+fn read_vehicle_fact(first: &[u8], rest: Option<&[u8]>) -> Option<Result<ShortFact, Reason>>
+    ensures { says_or result (extra_fact first.now (words_behind (option_copied rest.entry))) ≡
+        vehicle_fact first.now (words_behind (option_copied rest.entry)) }
 {
     if is_word(first, "vin") {
         Some(read_vin(rest))
@@ -74,16 +107,14 @@ fn read_vehicle_fact(first: &[u8], rest: Option<&[u8]>) -> Option<Result<FactLin
         Some(read_fuel(rest))
     } else if is_word(first, "passengers") {
         Some(read_passengers(rest))
-    } else if is_word(first, "extra") {
-        Some(read_extra(rest))
     } else {
         None
     }
 }
 
 /// A fact about its way.
-fn read_way_fact(first: &[u8], rest: Option<&[u8]>) -> Option<Result<FactLine, Reason>>
-    ensures { result ≡ way_fact first.now (words_behind (option_copied rest.entry)) }
+fn read_way_fact(first: &[u8], rest: Option<&[u8]>) -> Option<Result<ShortFact, Reason>>
+    ensures { says_or result None ≡ way_fact first.now (words_behind (option_copied rest.entry)) }
 {
     if is_word(first, "time") {
         Some(read_time(rest))
@@ -103,106 +134,106 @@ fn read_way_fact(first: &[u8], rest: Option<&[u8]>) -> Option<Result<FactLine, R
 }
 
 /// `vin <17 characters>`.
-fn read_vin(rest: Option<&[u8]>) -> Result<FactLine, Reason>
-    ensures { result ≡ vin_line (words_behind (option_copied rest.entry)) }
+fn read_vin(rest: Option<&[u8]>) -> Result<ShortFact, Reason>
+    ensures { said result ≡ vin_line (words_behind (option_copied rest.entry)) }
 {
     let text = only_argument(rest).ok_or(Reason::Count)?;
     let vin = read_vin_text(text).ok_or(Reason::Word)?;
-    Ok(FactLine::Vin(vin))
+    Ok(ShortFact::Vin(vin))
 }
 
 /// `kind <1..13>`.
-fn read_kind(rest: Option<&[u8]>) -> Result<FactLine, Reason>
-    ensures { result ≡ kind_line (words_behind (option_copied rest.entry)) }
+fn read_kind(rest: Option<&[u8]>) -> Result<ShortFact, Reason>
+    ensures { said result ≡ kind_line (words_behind (option_copied rest.entry)) }
 {
     let text = only_argument(rest).ok_or(Reason::Count)?;
     let kind = read_kind_number(text).ok_or(Reason::Number)?;
-    Ok(FactLine::Kind(kind))
+    Ok(ShortFact::Kind(kind))
 }
 
 /// `fuel <seven digits 0 or 1>`.
-fn read_fuel(rest: Option<&[u8]>) -> Result<FactLine, Reason>
-    ensures { result ≡ fuel_line (words_behind (option_copied rest.entry)) }
+fn read_fuel(rest: Option<&[u8]>) -> Result<ShortFact, Reason>
+    ensures { said result ≡ fuel_line (words_behind (option_copied rest.entry)) }
 {
     let text = only_argument(rest).ok_or(Reason::Count)?;
     let marks = read_marks(text).ok_or(Reason::Word)?;
-    Ok(FactLine::Fuel(marks))
+    Ok(ShortFact::Fuel(marks))
 }
 
 /// `format 1|2`.
-fn read_format(rest: Option<&[u8]>) -> Result<FactLine, Reason>
-    ensures { result ≡ format_line (words_behind (option_copied rest.entry)) }
+fn read_format(rest: Option<&[u8]>) -> Result<ShortFact, Reason>
+    ensures { said result ≡ format_line (words_behind (option_copied rest.entry)) }
 {
     let text = only_argument(rest).ok_or(Reason::Count)?;
     let format = read_format_number(text).ok_or(Reason::Word)?;
-    Ok(FactLine::Format(format))
+    Ok(ShortFact::Format(format))
 }
 
 /// `time <0..4294967295>`.
-fn read_time(rest: Option<&[u8]>) -> Result<FactLine, Reason>
-    ensures { result ≡ time_line (words_behind (option_copied rest.entry)) }
+fn read_time(rest: Option<&[u8]>) -> Result<ShortFact, Reason>
+    ensures { said result ≡ time_line (words_behind (option_copied rest.entry)) }
 {
     let text = only_argument(rest).ok_or(Reason::Count)?;
     let time = read_u32(text).ok_or(Reason::Number)?;
-    Ok(FactLine::Time(time))
+    Ok(ShortFact::Time(time))
 }
 
 /// `place <latitude> <longitude>`.
-fn read_place(rest: Option<&[u8]>) -> Result<FactLine, Reason>
-    ensures { result ≡ place_line (words_behind (option_copied rest.entry)) }
+fn read_place(rest: Option<&[u8]>) -> Result<ShortFact, Reason>
+    ensures { said result ≡ place_line (words_behind (option_copied rest.entry)) }
 {
     let (latitude, longitude) = two_arguments(rest).ok_or(Reason::Count)?;
     let latitude = read_signed(latitude, ANGLE_LIMIT).ok_or(Reason::Number)?;
     let longitude = read_signed(longitude, ANGLE_LIMIT).ok_or(Reason::Number)?;
-    Ok(FactLine::Place {
+    Ok(ShortFact::Place {
         latitude,
         longitude,
     })
 }
 
 /// `heading <0..255>`.
-fn read_heading(rest: Option<&[u8]>) -> Result<FactLine, Reason>
-    ensures { result ≡ heading_line (words_behind (option_copied rest.entry)) }
+fn read_heading(rest: Option<&[u8]>) -> Result<ShortFact, Reason>
+    ensures { said result ≡ heading_line (words_behind (option_copied rest.entry)) }
 {
     let text = only_argument(rest).ok_or(Reason::Count)?;
     let heading = read_u8(text).ok_or(Reason::Number)?;
-    Ok(FactLine::Heading(heading))
+    Ok(ShortFact::Heading(heading))
 }
 
 /// `trusted yes|no`.
-fn read_trusted(rest: Option<&[u8]>) -> Result<FactLine, Reason>
-    ensures { result ≡ trusted_line (words_behind (option_copied rest.entry)) }
+fn read_trusted(rest: Option<&[u8]>) -> Result<ShortFact, Reason>
+    ensures { said result ≡ trusted_line (words_behind (option_copied rest.entry)) }
 {
     let text = only_argument(rest).ok_or(Reason::Count)?;
     let trusted = read_yes_or_no(text).ok_or(Reason::Word)?;
-    Ok(FactLine::Trusted(trusted))
+    Ok(ShortFact::Trusted(trusted))
 }
 
 /// `before1 <latitude> <longitude>`.
-fn read_before1(rest: Option<&[u8]>) -> Result<FactLine, Reason>
-    ensures { result ≡ before1_line (words_behind (option_copied rest.entry)) }
+fn read_before1(rest: Option<&[u8]>) -> Result<ShortFact, Reason>
+    ensures { said result ≡ before1_line (words_behind (option_copied rest.entry)) }
 {
     let (latitude, longitude) = two_arguments(rest).ok_or(Reason::Count)?;
     let way = read_way(latitude, longitude).ok_or(Reason::Number)?;
-    Ok(FactLine::Before1(way))
+    Ok(ShortFact::Before1(way))
 }
 
 /// `before2 <latitude> <longitude>`.
-fn read_before2(rest: Option<&[u8]>) -> Result<FactLine, Reason>
-    ensures { result ≡ before2_line (words_behind (option_copied rest.entry)) }
+fn read_before2(rest: Option<&[u8]>) -> Result<ShortFact, Reason>
+    ensures { said result ≡ before2_line (words_behind (option_copied rest.entry)) }
 {
     let (latitude, longitude) = two_arguments(rest).ok_or(Reason::Count)?;
     let way = read_way(latitude, longitude).ok_or(Reason::Number)?;
-    Ok(FactLine::Before2(way))
+    Ok(ShortFact::Before2(way))
 }
 
 /// `passengers <0..255>`.
-fn read_passengers(rest: Option<&[u8]>) -> Result<FactLine, Reason>
-    ensures { result ≡ passengers_line (words_behind (option_copied rest.entry)) }
+fn read_passengers(rest: Option<&[u8]>) -> Result<ShortFact, Reason>
+    ensures { said result ≡ passengers_line (words_behind (option_copied rest.entry)) }
 {
     let text = only_argument(rest).ok_or(Reason::Count)?;
     let count = read_u8(text).ok_or(Reason::Number)?;
-    Ok(FactLine::Passengers(count))
+    Ok(ShortFact::Passengers(count))
 }
 
 /// `extra <oid> <data>`.

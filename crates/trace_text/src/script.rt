@@ -33,7 +33,7 @@ pub fn read_script(line: &Line<'_>) -> Result<ScriptLine, BadLine>
 }
 
 /// A line that is refused.
-fn refused(line: &Line<'_>, reason: Reason) -> BadLine
+pub(crate) fn refused(line: &Line<'_>, reason: Reason) -> BadLine
     ensures { result ≡ record { line = line.now.number; reason = reason } }
 {
     BadLine {
