@@ -1,5 +1,5 @@
 -- Frames that are due.
-use Rattle.std.proofs.Common.{◌≡◌, Result, Ok, Err, IfOk, IfSome, ℕ, zero, suc, ◌+◌, ◌<◌, ◌≤◌, ◌==◌, ltb, inl, inr, if◌then◌else◌, Bool, true, false, Option, Some, None, List, [], ◌∷◌, ◌++◌, length, get_or, slice_get, take, drop, refl, ap, sym, ◌∙◌, subst, arith, append-nil, append_assoc, add-one}
+use Rattle.std.proofs.Common.{◌≡◌, Result, Ok, Err, IfOk, ℕ, zero, suc, ◌+◌, ◌<◌, ◌≤◌, ◌==◌, ltb, inl, inr, if◌then◌else◌, Bool, true, false, Option, Some, None, List, [], ◌∷◌, ◌++◌, length, get_or, slice_get, take, drop, refl, ap, sym, ◌∙◌, subst, arith, append-nil, append_assoc, add-one}
 use Rattle.std.specs.Option.{option_eq, option_map}
 use Rattle.std.proofs.lemmas.List.{take-append-drop}
 use lib.Dec.{eqb}
@@ -11,7 +11,10 @@ use Rattle.channel_sim.specs.declared.calls.call.Call as kept_call
 use Rattle.channel_sim.specs.declared.channel.Channel as kept_channel
 use Rattle.channel_sim.specs.World.{Call, Due, World, call_of, due_frames, due_in}
 use Rattle.channel_sim.specs.inner.Acts.{due_by}
-use Rattle.channel_sim.specs.Handing.{alone, flow_way, sent_way}
+use Rattle.channel_sim.specs.inner.Handovers.{IsHandover}
+use Rattle.channel_sim.specs.declared.calls.due.Handover.{Handover}
+use Rattle.channel_sim.specs.declared.calls.due.Handover.TheVariants as handover
+use Rattle.channel_sim.specs.Handing.{alone, due_of, flow_way, sent_way}
 use Rattle.channel_sim.specs.Lag.{LeastPassed, CallLags, CallsLag, StandsAt}
 use Rattle.channel_sim.specs.Tidy.{AreAbove, CallInTime, AreFrom, numbers_of, ticks_of}
 use Rattle.channel_sim.specs.inner.Places.{place_of}
@@ -111,11 +114,12 @@ due_enough c delay t k u xs rise e over =
     ∙ sym (frames_append c delay (t + delay) (take k xs) (drop k xs))
     ∙ ap (due_frames c delay (t + delay)) (take-append-drop k xs)
 
--- what holds of one for each number holds of it for all
-pub one_each : {A E : Type 0} (P : A → ℕ → Type 0) (Q : A → Type 0) (r : Result (Option A) E) → ((d : ℕ) → IfOk r (λ o. IfSome o (λ a. P a d))) → ((a : A) → ((d : ℕ) → P a d) → Q a) → IfOk r (λ o. IfSome o Q)
-one_each P Q (Ok (Some a)) h f = f a h
-one_each P Q (Ok None) h f = h 0
-one_each P Q (Err e) h f = h 0
+-- what is handed over of these frames, whatever the delay, is handed over of those that are the same
+pub each_delay : {E : Type 0} (F : ℕ → List Due) (all : List Due) (r : Result Handover E) → ((d : ℕ) → IfOk r (λ h. IsHandover h (F d))) → ((ds : List Due) → ((d : ℕ) → F d ≡ ds) → all ≡ ds) → IfOk r (λ h. IsHandover h all)
+each_delay F all (Ok handover.Nothing) h same = same [] h
+each_delay F all (Ok (handover.One one)) h same = same (due_of one ∷ []) h
+each_delay F all (Ok handover.Many) h same = h 0
+each_delay F all (Err e) h same = h 0
 
 -- where the frame at a place is the first of its tick, and the next one is not of it, it alone is due
 pub only_one : (c delay n t k : ℕ) (xs : List Sent) → AreFrom n (ticks_of xs) → AllByRecursion (λ u. u < t) (take k (ticks_of xs)) → slice_get (ticks_of xs) k ≡ Some t → (slice_get (ticks_of xs) (suc k) ≡ Some t → ⊥) → due_frames c delay (t + delay) xs ≡ due_by c (option_map (λ s. s.frame) (slice_get xs k))

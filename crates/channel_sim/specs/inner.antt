@@ -1,6 +1,7 @@
 pub mod Acts
 pub mod Beside
 pub mod FitAt
+pub mod Handovers
 pub mod Happenings
 pub mod Passes
 pub mod Places

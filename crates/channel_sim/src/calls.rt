@@ -28,7 +28,7 @@ ghost use Rattle.channel_sim.specs.Tidy.{AreAbove, numbers_of};
 use crate::kept::KeptFrame;
 pub(crate) use call::Call;
 pub use due::Due;
-pub(crate) use due::{all_due, call_due, only_due};
+pub(crate) use due::{Handover, all_due, call_due, only_due};
 use link_frames::{End, Frame, Note};
 pub(crate) use passing::catch_up;
 use sendings::Sendings;

@@ -122,6 +122,7 @@ pub(super) fn hear_call(
 
 /// Passes a call's session up to a tick, up to which it does nothing. For how many ticks it does nothing then is left
 /// open: `look_ahead` works it out. `items` is room.
+#[inline(always)]
 fn catch_up<L: Ledger>(call: &mut Call, tick: u64, items: &mut Items, moments: &mut Steps<L>)
     ensures same { call.new ≡ record call.old { session = call.new.session; passed = tick } }
     ensures caught { (floor : LeastPassed) (k : model.Call) → CallLags floor tick call.old k →
@@ -257,6 +258,7 @@ pub(super) fn pass_up<L: Ledger>(
 
 /// Passes a call's session up to this tick, if it does something at it, and one that is over is gone: whether it did.
 /// Its items stand in `items`.
+#[inline(always)]
 pub(crate) fn act_at<L: Ledger>(
     call: &mut Call,
     tick: u64,

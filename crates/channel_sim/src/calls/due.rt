@@ -1,10 +1,11 @@
 //! The frames of calls that a flow hands over at a tick.
 
-ghost use Rattle.std.specs.Prelude.{◌≡◌, ◌<◌, ◌++◌, ◌∷◌, [], ◌-◌, ◌+◌, ℕ, suc, List, Option, true, Some, IfOk, IfSome, OnOk, slice_get, map, if◌then◌else◌};
+ghost use Rattle.std.specs.Prelude.{◌≡◌, ◌<◌, ◌++◌, ◌∷◌, [], ◌-◌, ◌+◌, ℕ, suc, List, Option, true, Some, IfOk, OnOk, slice_get, map, if◌then◌else◌};
 ghost use Rattle.std.specs.List.{AllByRecursion};
 ghost use Rattle.std.specs.Option.{option_map};
 ghost use Rattle.channel_sim.specs.World as model;
 ghost use Rattle.channel_sim.specs.inner.Acts.{due_by};
+ghost use Rattle.channel_sim.specs.inner.Handovers.{IsHandover};
 ghost use Rattle.channel_sim.specs.Handing.{due_of, sent_way, full};
 ghost use Rattle.channel_sim.specs.Lag.{LeastPassed, CallLags, CallsLag};
 ghost use Rattle.channel_sim.specs.Tidy.{AreAbove, AreFrom, ticks_of, CallInTime, numbers_of};
@@ -23,6 +24,17 @@ use std::collections::VecDeque;
 pub struct Due {
     pub(crate) call: u32,
     pub(crate) frame: KeptFrame,
+}
+
+/// What a flow hands over at a tick, before anything is listed.
+#[derive(Drop)]
+pub(crate) enum Handover {
+    /// Nothing: no call that is there has a frame of that tick.
+    Nothing,
+    /// One frame.
+    One(Due),
+    /// Frames that are to be listed.
+    Many,
 }
 
 /// Adds a frame of a call, if there is one.
@@ -184,32 +196,32 @@ fn is_only(sends: &Sends, tick: u64, place: usize) -> bool
 
 /// The frame of a call that was sent at this tick, where it is the only one. `near` becomes the place behind it, where the
 /// next one is.
-#[inline]
+#[inline(always)]
 fn only_frame(
     number: u32,
     sends: &Sends,
     tick: u64,
     near: &mut usize,
-) -> Result<Option<Due>, AllocError>
-    ensures { (delay : ℕ) → AreFrom 0 (ticks_of sends.now) → IfOk result (λ one. IfSome one
-        (λ due. model.due_frames number delay (tick + delay) sends.now ≡ due_of due ∷ [])) }
+) -> Result<Handover, AllocError>
+    ensures { (delay : ℕ) → AreFrom 0 (ticks_of sends.now) → IfOk result (λ handover.
+        IsHandover handover (model.due_frames number delay (tick + delay) sends.now)) }
 {
     let place = first_from(sends, tick, *near);
     let Some(frame) = sends.frame(place) else {
-        return Ok(None);
+        return Ok(Handover::Many);
     };
     if !is_only(sends, tick, place) {
-        return Ok(None);
+        return Ok(Handover::Many);
     }
     *near = place.saturating_add(1);
-    Ok(Some(Due {
+    Ok(Handover::One(Due {
         call: number,
         frame: frame.share()?,
     }))
 }
 
-/// The frame of these calls that a flow up, or down, hands over now, where it is known to be the only one. So it is nearly
-/// always, and then nothing is listed.
+/// What a flow up, or down, hands over now of the frames of these calls, where that is known to be one frame or nothing. So
+/// it is nearly always, and then nothing is listed.
 #[inline(always)]
 pub(crate) fn only_due(
     calls: &Calls,
@@ -217,23 +229,23 @@ pub(crate) fn only_due(
     flow: u32,
     now: u64,
     near: &mut Near,
-) -> Result<Option<Due>, AllocError>
+) -> Result<Handover, AllocError>
     ensures { (floor : LeastPassed) (clock : ℕ → ℕ) (ks : List model.Call) → CallsLag floor clock calls.now ks →
-        AreAbove 0 (numbers_of ks) → AllByRecursion (CallInTime now) ks → IfOk result (λ one. IfSome one
-        (λ due. model.due_in (sent_way up) flow now ks ≡ due_of due ∷ [])) }
+        AreAbove 0 (numbers_of ks) → AllByRecursion (CallInTime now) ks →
+        IfOk result (λ handover. IsHandover handover (model.due_in (sent_way up) flow now ks)) }
 {
     let delay = u64::from(flow);
     if flow == 0 || now < delay {
-        return Ok(None);
+        return Ok(Handover::Nothing);
     }
     let sent = now - delay;
     let Some(number) = calls.only_sent(up, sent, &mut near.sending) else {
-        return Ok(None);
+        return Ok(Handover::Many);
     };
     let calls = calls.all();
     match find(calls, number) {
         Some(i) => only_frame(number, calls[i].sends(up), sent, &mut near.frame),
-        None => Ok(None),
+        None => Ok(Handover::Nothing),
     }
 }
 

@@ -107,12 +107,8 @@ impl Sendings {
         if tick < self.since {
             return Some(tick);
         }
-        let count = self.list.len();
-        if is_first(&self.list, count, tick) {
-            return None;
-        }
         let place = first_place(&self.list, tick, near);
-        if place < count {
+        if place < self.list.len() {
             Some(self.list[place].tick)
         } else {
             None

@@ -146,6 +146,7 @@ pub(crate) fn act_session<L: Ledger>(
 
 /// The session of a call is passed up to this tick, up to which it does nothing, and hears this, and one that is over is
 /// gone: whether it is there. Its items stand in `items`.
+#[inline(always)]
 pub(crate) fn reach_session<L: Ledger>(
     calls: &mut Calls,
     number: u32,

@@ -54,6 +54,7 @@ impl Turns {
     }
 
     /// The place of the turn of this call, which is at tick 0 if the call had none.
+    #[inline(always)]
     pub(super) fn wake(&mut self, call: u32) -> Result<usize, AllocError>
         ensures place { IfOk result (λ i. slice_get (calls_of self.new) i ≡ Some call) }
         ensures others { OthersStay call self.old self.new }

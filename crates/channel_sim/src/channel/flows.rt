@@ -1,7 +1,7 @@
 //! What the flows hand over at a tick.
 
 use super::Channel;
-use crate::calls::{Due, all_due, call_due, find, only_due, reach_session};
+use crate::calls::{Due, Handover, all_due, call_due, find, only_due, reach_session};
 use crate::fault::SimFault;
 use crate::kept::KeptFrame;
 use crate::room::{Given, Near, Room};
@@ -13,10 +13,11 @@ use std::sync::ledger::Ledger;
 use trace_model::Listener;
 
 impl Channel {
-    ghost use Rattle.std.specs.Prelude.{true, false, ◌≡◌, ◌+◌, ◌++◌, ◌<◌, ◌≤◌, ℕ, List, [], ◌∷◌, Some, None, map, OnOk, OnErr, IfOk, IfErr, IfSome, ◌^◌, if◌then◌else◌};
+    ghost use Rattle.std.specs.Prelude.{true, false, ◌≡◌, ◌+◌, ◌++◌, ◌<◌, ◌≤◌, ℕ, List, [], ◌∷◌, Some, None, map, OnOk, OnErr, IfOk, IfErr, ◌^◌, if◌then◌else◌};
     ghost use Rattle.channel_sim.specs.World as model;
     ghost use Rattle.channel_sim.specs.SimFault.{CountsFaults};
     ghost use Rattle.channel_sim.specs.inner.Acts.{flows_by};
+    ghost use Rattle.channel_sim.specs.inner.Handovers.{IsHandover};
     ghost use Rattle.channel_sim.specs.Handing.{due_in_call, due_of, flow_way, full, hands_way, sent_way};
     ghost use Rattle.channel_sim.specs.Lag.{LeastPassed, CameAt, StandsAt};
     ghost use Rattle.channel_sim.specs.Passes.{passes_of};
@@ -52,12 +53,12 @@ impl Channel {
         )
     }
 
-    /// The frame that the flow up, or down, hands over at this tick, where it is known to be the only one.
+    /// What the flow up, or down, hands over at this tick, where that is known to be one frame or nothing.
     #[inline(always)]
-    fn only_due(&self, up: bool, near: &mut Near) -> Result<Option<Due>, AllocError>
+    fn only_due(&self, up: bool, near: &mut Near) -> Result<Handover, AllocError>
         ensures { (ahead : ℕ) (floor : LeastPassed) (w : model.World) → StandsAt ahead floor (λ c. ahead) self.now w →
-            IfOk result (λ one. IfSome one
-            (λ due. model.due_in (sent_way up) (flow_way up w) w.tick w.calls ≡ due_of due ∷ [])) }
+            IfOk result (λ handover. IsHandover handover
+            (model.due_in (sent_way up) (flow_way up w) w.tick w.calls)) }
     {
         only_due(&self.calls, up, self.flow(up), self.tick, near)
     }
@@ -150,6 +151,7 @@ impl Channel {
     }
 
     /// Hands a frame that is due to the point's session of its call, or to the vehicle, if that end is in this call.
+    #[inline(always)]
     pub(crate) fn hand<H: Listener, L: Ledger>(
         &mut self,
         alloc: Global,
@@ -259,10 +261,16 @@ impl Channel {
             moments.new ≤ moments.old + passes_of (flows_by up w) }
     {
         let mut near = room.near.at(up);
-        if let Some(due) = self.only_due(up, &mut near)? {
-            room.near.set(up, near);
-            return self.hand(alloc, up, &due, &mut room.given, to, moments);
+        match self.only_due(up, &mut near)? {
+            Handover::Nothing => {
+                room.near.set(up, near);
+                Ok(())
+            }
+            Handover::One(due) => {
+                room.near.set(up, near);
+                self.hand(alloc, up, &due, &mut room.given, to, moments)
+            }
+            Handover::Many => self.flows_listed(alloc, up, room, to, moments),
         }
-        self.flows_listed(alloc, up, room, to, moments)
     }
 }
