@@ -22,17 +22,32 @@ GROUP = re.compile(r" (#\d+)(?=[ \n])")
 HINTS = {"alwaysinline": ["alwaysinline"], "noinline": ["noinline"], "cold": ["cold"], "plain": []}
 
 
+def words_of(process):
+    with open(f"{process}/cmdline") as file:
+        return file.read().split("\0")[:-1]
+
+
+def builds_the_program(process):
+    """Whether a process was begun, by others perhaps, by one that builds `ecall`, and not its tests or another crate."""
+    for _ in range(4):
+        words = words_of(process)
+        if "--crate-name" in words and words[words.index("--crate-name") + 1] == "ecall":
+            return "--test" not in words
+        with open(f"{process}/stat") as file:
+            process = f"/proc/{file.read().rsplit(')', 1)[1].split()[1]}"
+    return False
+
+
 def compilers():
-    """The folder and the words of each compiler that runs with a module in its folder."""
+    """The folder and the words of each compiler that runs with the program's module in its folder."""
     for process in glob.glob("/proc/[0-9]*"):
         try:
-            with open(f"{process}/cmdline") as file:
-                words = file.read().split("\0")[:-1]
+            words = words_of(process)
             folder = os.readlink(f"{process}/cwd")
+            if words and words[0].endswith("/clang") and "module.bc" in words and os.path.isfile(f"{folder}/module.bc") and builds_the_program(process):
+                yield folder, words
         except OSError:
             continue
-        if words and words[0].endswith("/clang") and "module.bc" in words and os.path.isfile(f"{folder}/module.bc"):
-            yield folder, words
 
 
 def catch(folder):

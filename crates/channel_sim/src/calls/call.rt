@@ -258,7 +258,6 @@ pub(super) fn pass_up<L: Ledger>(
 
 /// Passes a call's session up to this tick, if it does something at it, and one that is over is gone: whether it did.
 /// Its items stand in `items`.
-#[inline(always)]
 pub(crate) fn act_at<L: Ledger>(
     call: &mut Call,
     tick: u64,
