@@ -33,7 +33,7 @@ pub(crate) enum Handover {
     Nothing,
     /// One frame.
     One(Due),
-    /// Frames that are to be listed.
+    /// Frames that are to be listed; they may be none, or one.
     Many,
 }
 

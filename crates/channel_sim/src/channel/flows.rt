@@ -210,7 +210,7 @@ impl Channel {
         Ok(())
     }
 
-    /// The same, by a list of it.
+    /// Hands over what was sent up, or down, so many ticks ago, by a list of it.
     #[inline(never)]
     fn flows_listed<H: Listener, L: Ledger>(
         &mut self,

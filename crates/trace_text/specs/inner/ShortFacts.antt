@@ -1,5 +1,5 @@
--- A fact of few octets, on its way from its line to a fact line. This project's profile. Scaffolding: cited by the contracts of
--- private functions alone.
+-- A fact of few octets, on its way from its line to a fact line. This project's profile. Scaffolding: cited by the
+-- contracts of private functions alone.
 use Rattle.std.specs.Prelude.{ℕ, List, codes, Option, Some, None, Result, Ok, Err, if◌then◌else◌}
 use Rattle.std.specs.Str.{bytes_eq}
 use Rattle.trace_text.specs.Encode.{fact_says, other_by_word}
@@ -31,7 +31,8 @@ said (Ok f) = Ok (fact_of f)
 said (Err why) = Err why
 
 -- the same, or else this
-abbrev pub says_or : Option (Result ShortFact Reason) → Option (Result FactLine Reason) → Option (Result FactLine Reason)
+abbrev pub says_or : Option (Result ShortFact Reason) → Option (Result FactLine Reason) →
+    Option (Result FactLine Reason)
 says_or (Some says) other = Some (said says)
 says_or None other = other
 
@@ -41,4 +42,5 @@ extra_fact first rest = if bytes_eq first (codes "extra") then Some (extra_line 
 
 -- a line of `encode` that tells no short fact
 abbrev pub long_by_word : List ℕ → List (List ℕ) → Result EncodeLine Reason
-long_by_word first rest = elim (extra_fact first rest) [ Some says ↦ fact_says says | None ↦ other_by_word first rest ]
+long_by_word first rest =
+    elim (extra_fact first rest) [ Some says ↦ fact_says says | None ↦ other_by_word first rest ]
