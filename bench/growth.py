@@ -1,7 +1,7 @@
 #!/usr/bin/env python3
-"""growth.py PROGRAM: how many instructions `PROGRAM run`, `relay`, `register`, `replay` and `frames` take, and how many times as many
-for twice as much. They are counted by valgrind, so they are the same each time. A command whose instructions double while its time
-more than doubles waits for memory: what it keeps has left the processor's caches."""
+"""growth.py PROGRAM: how many instructions the commands of `PROGRAM` take, and how many times as many for twice as much. They are counted
+by valgrind, so they are the same each time. A command whose instructions double while its time more than doubles waits for memory: what
+it keeps has left the processor's caches."""
 import sys
 import tempfile
 
@@ -16,12 +16,10 @@ def taken(command, path):
 
 def inputs(program, folder):
     """Each command with the kind of its input, how much of it, and the files of that and of twice as much."""
-    for kind, count in run.SCRIPTS.items():
-        yield ["run"], kind, count, [run.write_script(folder, kind, n) for n in (count, 2 * count)]
     for kind, counts in run.DESKS.items():
         for count in counts:
             yield ["relay"], kind, count, [run.write_script(folder, kind, n) for n in (count, 2 * count)]
-    for words, maker, kind, count in run.OTHERS:
+    for words, maker, kind, count in run.COMMANDS:
         if count:
             yield words, (kind or ["-"])[0], count, [run.inputs(program, folder, maker, kind, n) for n in (count, 2 * count)]
 

@@ -1,10 +1,11 @@
 #!/usr/bin/env python3
 """run.py PROGRAM [BEFORE]: how many sets of data `PROGRAM decode` reads and describes a second, in 4 MB of address space; how much
-processor time that takes beside a plain program and beside decoders that asn1c generates from format2.asn1 and format1.asn1; what
-decoding alone takes of both; what encoding alone takes of both; with how many calls the text is written; and what `PROGRAM encode`, `PROGRAM run` and the
-other commands take beside the plain program; and what `PROGRAM floor` takes beside `PROGRAM run` over each vehicle's part. BEFORE is another build of the program, whose `run` takes turns
-with those. Parts that need a tool that isn't there are skipped in a line."""
+processor time that takes beside decoders that asn1c generates from format2.asn1 and format1.asn1; what each command takes beside the
+plain program, beside that with the libraries' digits and numbers, and beside BEFORE, another build of the program; what decoding alone
+and encoding alone take; with how many calls the text is written; and what `PROGRAM floor` takes beside `PROGRAM run` over each vehicle's
+part. Parts that need a tool that isn't there are skipped in a line."""
 import glob
+import itertools
 import os
 import re
 import resource
@@ -19,6 +20,8 @@ CRATES = os.path.join(HERE, "..", "crates")
 COUNTS = (1_000, 120_000)
 MOST = COUNTS[-1]
 ROUNDS = 15
+# over all commands
+TURNS = 61
 SAMPLES = 20
 ADDRESS_SPACE = 4 * 2**20
 MOST_OCTETS = 140
@@ -37,14 +40,18 @@ WRITES = 50_000
 SCRIPTS = {"mixed": 2_000, "calls": 20_000, "flows": 1_000, "one": 200_000, "old": 100_000, "asks": 5_000, "legs": 5_000, "apart": 1_000, "crowd": 1_000, "first": 1_000, "fall": 2_000, "callbacks": 150_000}
 # the kinds of those with a relay desk, each with how many it is measured with, and then with twice as many
 DESKS = {"desk": (50_000, 100_000), "shown": (100_000,)}
-# the other commands, each with what makes its input (none: the trace of a script, or nothing), a kind of it, and how much of it is
-# measured, and then twice as much, which has to stay below the greatest input
-OTHERS = [
+# the commands that are measured beside other programs, each with what makes its input (none: the trace of a script, or nothing), a kind
+# of it, and how much of it is measured, and then twice as much, which has to stay below the greatest input
+COMMANDS = [
+    *((["run"], "scripts.py", [kind], count) for kind, count in SCRIPTS.items()),
     (["register"], "scripts.py", ["mixed"], 2_000),
     (["replay"], None, ["mixed"], 1_650),
     (["replay"], "traces.py", ["again"], 20_000),
     (["replay"], "traces.py", ["up"], 100_000),
     (["frames"], "stream.py", [], 20_000),
+    (["decode"], "sets.py", ["known"], MOST // 2),
+    (["decode"], "sets.py", [], MOST // 2),
+    (["encode"], "facts.py", [], WRITES),
     (["make", "0"], None, [], None),
     (["trial", "0"], None, [], None),
 ]
@@ -54,11 +61,6 @@ LIBRARY_DIGITS = [
     ("hex.rs", r"    let mut seen = 0;\n.*?(?=    Ok\(&into\[\.\.n\]\))", "    if !crate::digits::decode_to_slice(word, &mut into[..n]) {\n        return Err(Reason::Hex);\n    }\n"),
     ("hex.rs", r"word\.iter\(\)\.try_fold\(0u64.*?\n        }\),", "std::str::from_utf8(word).ok()?.parse().ok(),"),
     ("io.rs", r"        for \(digits, octet\) in .*?\n        }\n", "        crate::digits::encode_to_slice(octets, &mut self.text[start..]);\n"),
-]
-# the commands that read or write many of these digits, as in OTHERS
-DIGITS = [
-    *OTHERS[:3],
-    (["frames"], "stream.py", [], 20_000),
 ]
 # vehicles on the floor that is measured, and the calls of each, which are doubled then
 FLOOR = (64, 200)
@@ -90,15 +92,22 @@ def spent(command, path, preexec_fn=None):
     return used.ru_utime + used.ru_stime
 
 
-def least(commands, path, preexec_fn=None):
-    """The least processor time of each command in some rounds, which go over all commands in turn. Each round has copies of the programs
-    of its own: one copy may take half as long again as another, in each round the same, likely by where the system laid its pages."""
-    rounds = []
-    for _ in range(ROUNDS):
+def least_of(runs, rounds, preexec_fn=None):
+    """The least processor time of each of these commands over its file in some rounds, which go over all of them in turn. Each round has
+    copies of the programs of its own: one copy may take half as long again as another, in each round the same, likely by where the
+    system laid its pages."""
+    times = []
+    for _ in range(rounds):
         with tempfile.TemporaryDirectory() as folder:
-            copies = [[shutil.copy(program, os.path.join(folder, str(place))), *words] for place, (program, *words) in enumerate(commands)]
-            rounds.append([spent(command, path, preexec_fn) for command in copies])
-    return [min(times) for times in zip(*rounds)]
+            programs = {program for (program, *_), _ in runs}
+            copies = {program: shutil.copy(program, os.path.join(folder, str(place))) for place, program in enumerate(programs)}
+            times.append([spent([copies[program], *words], path, preexec_fn) for (program, *words), path in runs])
+    return [min(taken) for taken in zip(*times)]
+
+
+def least(commands, path, preexec_fn=None):
+    """The same, all over one file."""
+    return least_of([(command, path) for command in commands], ROUNDS, preexec_fn)
 
 
 def write_sets(folder, count, *words):
@@ -213,23 +222,6 @@ def beside(program, plain, generated, path, what):
     print("  (processor time; last, the time of `ecall decode` over this one)")
 
 
-def encodes(program, plain, folder):
-    """The processor time of `encode` over facts that change, beside the plain program's."""
-    path = os.path.join(folder, "facts")
-    with open(path, "wb") as facts:
-        subprocess.run([sys.executable, os.path.join(HERE, "facts.py"), str(WRITES)], stdout=facts, check=True)
-    commands = {"ecall encode": [program, "encode"]}
-    if plain:
-        commands["plain program, the same text"] = [plain, "encode"]
-    text = [subprocess.run(command, stdin=open(path, "rb"), capture_output=True).stdout for command in commands.values()]
-    if any(other != text[0] for other in text):
-        raise OSError("the sets of `encode` differ")
-    times = least(list(commands.values()), path)
-    print(f"\n{WRITES} `write` lines between facts that change, {os.path.getsize(path)} bytes: the sets are {len(text[0])} bytes")
-    for what, seconds in zip(commands, times):
-        print(f"  {what:<34} {seconds:7.3f} s  {times[0] / seconds:5.2f}")
-
-
 def written(folder, maker, *words):
     """The file with what a script of this folder writes for these words."""
     path = os.path.join(folder, "-".join([maker, *words]))
@@ -250,28 +242,10 @@ def same_text(commands, path):
     return len(text[0])
 
 
-def plays(programs, folder):
-    """The processor time of `run` over scripts of all kinds, of each of these programs, and of twice as much."""
-    commands = [[program, "run"] for program in programs.values()]
-    print("\nScripts: processor time of `run`; what that of `ecall` is of each other's; then how many times as long twice as much takes, of each")
-    others = [name for name in programs if name != "ecall"]
-    heads = [*(f"{name:>8}" for name in programs), *(f"{'/ ' + name:>9}" for name in others), *(f"{'2 ' + name:>9}" for name in programs)]
-    print(f"{'kind':>10} {'count':>8} {'trace':>10} {' '.join(heads)}")
-    for kind, count in SCRIPTS.items():
-        path, double = write_script(folder, kind, count), write_script(folder, kind, 2 * count)
-        size = same_text(commands, path)
-        times, twice = least(commands, path), least(commands, double)
-        cells = [f"{seconds:8.4f}" for seconds in times] + [f"{times[0] / seconds:9.2f}" for seconds in times[1:]]
-        print(f"{kind:>10} {count:>8} {size:>10} {' '.join(cells + [f'{more / once:9.2f}' for once, more in zip(times, twice)])}")
-
-
-def growth(times, twice):
-    """The time of `ecall` over twice as much, how many times as long that takes, and how many times as long the plain program does."""
-    return f"{twice[0]:8.3f} " + " ".join(f"{more / once:6.2f}" for once, more in zip(times, twice))
-
-
 def inputs(program, folder, maker, kind, count):
     """The file that a command reads: what a script of this folder writes, or the trace of a script, or nothing."""
+    if maker == "sets.py":
+        return write_sets(folder, count, *kind)
     if maker:
         return written(folder, maker, *kind, str(count))
     path = os.path.join(folder, "-".join(["trace", *kind, str(count)]))
@@ -281,36 +255,25 @@ def inputs(program, folder, maker, kind, count):
     return path
 
 
-def others(program, plain, folder):
-    """The processor time of the other commands, beside the plain program's, and that of twice as much."""
-    print("\nOther commands: processor time of `ecall` and of the plain program; then of twice as much, with what it is of both times before")
-    print(f"{'command':>10} {'input':>8} {'count':>8} {'ecall':>8} {'plain':>8} {'ratio':>6} {'doubled':>8} {'ratio':>6} {'plain':>6}")
-    for words, maker, kind, count in OTHERS:
-        commands = [[program, *words]] + ([[plain, *words]] if plain else [])
-        path = inputs(program, folder, maker, kind, count)
-        same_text(commands, path)
-        times = least(commands, path)
-        what = f"{' '.join(words):>10} {(kind or ['-'])[0]:>8} {count or '-':>8} {times[0]:8.3f}"
-        beside_plain = f"{times[1]:8.3f} {times[0] / times[1]:6.2f}" if plain else f"{'-':>8} {'-':>6}"
-        doubled = ""
-        if count:
-            doubled = growth(times, least(commands, inputs(program, folder, maker, kind, 2 * count)))
-        print(f"{what} {beside_plain} {doubled}")
-    [played] = least([[program, "run"]], write_script(folder, "mixed", 2_000))
-    print(f"  (`make 0` writes the script of kind mixed, which `trial 0` plays; `run` takes {played:.3f} s for it)")
-
-
-def beside_library_digits(program, plain, library, known, folder):
-    """The processor time of commands over many digits, beside the plain program's, and that of the plain program with the libraries'."""
-    print("\nDigits: processor time of `ecall`, of the plain program, and of that with the digits of `hex` and the numbers of std")
-    print(f"{'command':>10} {'input':>8} {'ecall':>8} {'plain':>8} {'ratio':>6} {'library':>8} {'ratio':>6}")
-    for words, maker, kind, count in [(["decode"], None, ["known"], None), *DIGITS]:
-        path = inputs(program, folder, maker, kind, count) if count else known
-        commands = [[which, *words] for which in (program, plain, library)]
-        same_text(commands, path)
-        ours, own, theirs = least(commands, path)
-        what = f"{' '.join(words):>10} {(kind or ['-'])[0]:>8}"
-        print(f"{what} {ours:8.3f} {own:8.3f} {ours / own:6.2f} {theirs:8.3f} {ours / theirs:6.2f}")
+def in_turn(programs, folder):
+    """The processor time of each command, of each of these programs, and of twice as much. Each round goes over all commands, so that a
+    minute in which the host is busy slows a few rounds, and not a row."""
+    others = [name for name in programs if name != "ecall"]
+    heads = [*(f"{name:>8}" for name in programs), *(f"{'/ ' + name:>9}" for name in others), *(f"{'2 ' + name:>9}" for name in programs)]
+    rows, runs = [], []
+    for words, maker, kind, count in COMMANDS:
+        paths = [inputs(programs["ecall"], folder, maker, kind, n) for n in ([count, 2 * count] if count else [None])]
+        commands = [[program, *words] for program in programs.values()]
+        rows.append((f"{' '.join(words):>8} {(kind or ['-'])[0]:>9} {count or '-':>7} {same_text(commands, paths[0]):>9}", len(paths)))
+        runs += [(command, path) for path in paths for command in commands]
+    print("\nCommands: processor time; what that of `ecall` is of each other's; then how many times as long twice as much takes, of each")
+    print(f"{'command':>8} {'input':>9} {'count':>7} {'text':>9} {' '.join(heads)}")
+    times = iter(least_of(runs, TURNS))
+    for row, inputs_of_it in rows:
+        once, *twice = [list(itertools.islice(times, len(programs))) for _ in range(inputs_of_it)]
+        cells = [f"{seconds:8.4f}" for seconds in once] + [f"{once[0] / seconds:9.2f}" for seconds in once[1:]]
+        cells += [f"{more / less:9.2f}" for doubled in twice for less, more in zip(once, doubled)]
+        print(row, *cells)
 
 
 def frames_alone(modem, folder):
@@ -483,12 +446,8 @@ def main(program, before=None):
         # (the plain program knows format 2 alone)
         beside(program, None, older, write_sets(folder, MOST, "known", "format1"), "format 1")
         library = attempt("plain program with the library's digits", with_library_digits, os.path.join(folder, "library"))
-        encodes(program, plain, folder)
         programs = {"ecall": program, "before": before, "plain": plain, "library": library}
-        plays({name: which for name, which in programs.items() if which}, folder)
-        others(program, plain, folder)
-        if plain and library:
-            beside_library_digits(program, plain, library, known, folder)
+        in_turn({name: which for name, which in programs.items() if which}, folder)
         relays(program, folder)
         modem = attempt("the modem as a plain loop", plain_modem, os.path.join(folder, "plain_modem"))
         if modem:
