@@ -49,6 +49,7 @@ COMMANDS = [
     (["replay"], "traces.py", ["again"], 20_000),
     (["replay"], "traces.py", ["up"], 100_000),
     (["frames"], "stream.py", [], 20_000),
+    (["frames"], "stream.py", ["short"], 300_000),
     (["decode"], "sets.py", ["known"], MOST // 2),
     (["decode"], "sets.py", [], MOST // 2),
     (["encode"], "facts.py", [], WRITES),

@@ -1,6 +1,6 @@
 #!/usr/bin/env python3
-"""stream.py COUNT: writes a stream of frames in hexadecimal, COUNT times one of each kind, in pieces that seldom end
-with a frame; always the same for the same word."""
+"""stream.py [short] COUNT: writes a stream of frames in hexadecimal, COUNT times one of each kind, in pieces that seldom end
+with a frame; or, with the word `short`, COUNT frames of one octet, ten a line. It is always the same for the same words."""
 import sys
 
 SET = "02000681d54970d65c3597ca0420c414640af05f080452e9960413e2550168".ljust(280, "0")
@@ -19,7 +19,15 @@ def main(count):
         print(kept)
 
 
+def short(count):
+    for _ in range(count // 10):
+        print("01" * 10)
+
+
 if __name__ == "__main__":
-    if len(sys.argv) != 2:
+    if len(sys.argv) == 3 and sys.argv[1] == "short":
+        short(int(sys.argv[2]))
+    elif len(sys.argv) == 2:
+        main(int(sys.argv[1]))
+    else:
         sys.exit(__doc__)
-    main(int(sys.argv[1]))
