@@ -1,15 +1,14 @@
 -- Where the first part of a text ends, and the parts behind it.
 use Rattle.std.proofs.Common.{◌≡◌, ℕ, zero, suc, ◌+◌, ◌-◌, ◌<◌, ◌≤◌, not, Bool, true, false, cond, ltb, List, [], ◌∷◌, length, take, drop, get_or, Option, Some, None, refl, sym, ap, ◌∙◌, inl, inr, arith}
 use Rattle.std.specs.List.{position, position_or_len, prefix_len, onto_first}
-use Rattle.std.specs.Prelude.{nat_lt, slice_get, count_by}
+use Rattle.std.specs.Prelude.{nat_lt, slice_get}
 use Rattle.std.proofs.lemmas.Bool.{ltb-true, ltb-false, lt-ltb, false_from_ne_true}
 use Rattle.std.proofs.lemmas.Bool.Decides.{eqb_tells}
 use Rattle.std.proofs.lemmas.Option.{cond_some}
 use Rattle.std.proofs.lemmas.Slice.{between_to_end}
 use Rattle.std.proofs.lemmas.List.Sums.{prefix_len-le-length, position_or_len_is}
 use Rattle.std.proofs.lemmas.List.Splits.{slice_split_first, slice_split-cons_no}
-use Rattle.memchr.specs.Find.{IsFirstByte, is_byte, places}
-use Rattle.memchr.proofs.lemmas.CallerLemmas.{length-places}
+use Rattle.memchr.specs.Find.{IsFirstByte, is_byte}
 use Rattle.line_help.specs.Parts.{parts, IsOnePart, HasBehind}
 
 not_below_itself : (n : ℕ) → nat_lt n n ≡ false
@@ -77,7 +76,3 @@ pub at_first : (all rest more : List (List ℕ)) (first : List ℕ) (left place 
     → slice_get rest left ≡ slice_get all place → Some first ≡ slice_get all place
 at_first all rest more first left place is none standing =
     ap (λ l. slice_get l 0) (sym is) ∙ (ap (slice_get rest) (sym none) ∙ standing)
-
--- there are as many places of separators as there are separators
-pub count_places : (sep : ℕ) (text : List ℕ) → length (places (is_byte sep) text) ≡ count_by (is_byte sep) text
-count_places sep text = length-places (is_byte sep) text

@@ -6,7 +6,10 @@ ghost use Rattle.std.specs.Option.{option_copied};
 ghost use Rattle.memchr.specs.Find.{is_byte};
 ghost use Rattle.line_help.specs.Parts.{parts, parts_behind, IsOnePart, HasBehind};
 
-use memchr::{memchr, memchr_iter};
+use memchr::memchr;
+
+/// So many bytes are counted at a time, at most 255.
+const PIECE: usize = 128;
 
 /// The part of this number, from 0.
 pub(crate) fn part_at(separator: u8, text: &[u8], place: usize) -> Option<&[u8]>
@@ -54,15 +57,27 @@ pub(crate) fn part_count(separator: u8, text: &[u8]) -> usize
 }
 
 /// How many of the bytes are this one.
-#[tactic(auto, using(crate::proofs::PartsLemmas::count_places))]
 pub(crate) fn separator_count(separator: u8, text: &[u8]) -> usize
     ensures count { result ≡ count_by (is_byte separator) text.now }
     ensures few { result ≤ length text.now }
 {
-    // One is found after another: `count` looks at each byte, which takes longer where few of them are this one.
     let mut count = 0;
-    for _ in memchr_iter(separator, text) {
-        count += 1;
+    for piece in text.chunks(PIECE) {
+        count += usize::from(count_in_piece(separator, piece));
+    }
+    count
+}
+
+/// How many bytes of a piece are this one. As the count is a byte, too, sixteen are compared and counted at once.
+fn count_in_piece(separator: u8, piece: &[u8]) -> u8
+    requires { length piece.now ≤ PIECE }
+    ensures { result ≡ count_by (is_byte separator) piece.now }
+{
+    let mut count = 0;
+    for byte in piece {
+        if *byte == separator {
+            count += 1;
+        }
     }
     count
 }

@@ -87,6 +87,7 @@ impl Reader {
 
     /// Drops a frame that was whole, and takes octets until the next one is or the piece ends: answers how many. What
     /// is left of a piece is fed again. A fault stays.
+    #[inline(always)]
     pub fn feed(&mut self, piece: &[u8]) -> Result<usize, FrameFault>
         requires { self.old.taken + length piece.now ≤ 2 ^ 63 }
         ensures fed { self.old.fault ≡ None → Feeds self.old piece.now result self.new }
@@ -139,6 +140,7 @@ fn lend(head: Head, octets: &[u8; OCTETS]) -> FrameRef<'_>
 }
 
 /// Takes octets up to the end of a frame, and says how many.
+#[inline(always)]
 fn take_piece(stage: Stage, octets: &mut [u8; OCTETS], piece: &[u8]) -> (Stage, usize)
     requires going { is_stopped stage ≡ false }
     requires request { 0 < request_of stage }
@@ -168,6 +170,7 @@ fn without_frame(stage: Stage) -> Stage
 }
 
 /// Takes the octets in front of a set one by one.
+#[inline(always)]
 fn take_head(stage: Stage, piece: &[u8]) -> (Stage, usize)
     requires open { is_open stage ≡ true }
     requires request { 0 < request_of stage }
