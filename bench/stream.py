@@ -20,8 +20,8 @@ def main(count):
 
 
 def short(count):
-    for _ in range(count // 10):
-        print("01" * 10)
+    for written in range(0, count, 10):
+        print("01" * min(10, count - written))
 
 
 if __name__ == "__main__":
